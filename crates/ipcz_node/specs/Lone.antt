@@ -9,8 +9,10 @@ use Rattle.ipcz_base.specs.declared.link_end.LinkEnd.{LinkEnd}
 use Rattle.ipcz_base.specs.Limits.{no_number}
 use Rattle.ipcz_router.specs.Router.{Router}
 use Rattle.ipcz_router.specs.Lone.{last_link, next_link, TakesLast}
-use Rattle.ipcz_node.specs.Node.{Node, found, outbox_count, link_router, router_in, with_router}
-use Rattle.ipcz_node.specs.Acts.{are_empty}
+use Rattle.ipcz_router.specs.declared.act.RouterAct.TheVariants as router_acts
+use Rattle.ipcz_node.specs.declared.act.Act.TheVariants as acts
+use Rattle.ipcz_node.specs.Node.{Node, flagged_router, found, outbox_count, link_router, router_in, with_router}
+use Rattle.ipcz_node.specs.Acts.{are_empty, close_turn, router_turn}
 
 -- the router of the serial is flagged, and each other that is flagged has a serial that goes with it; the router tells the link that it sends over
 pub record IsSender (told : Router → Option LinkEnd) (GoesWith : ℕ → ℕ → Type 0) (routers : FinMap nat_cmp Router) (serial : ℕ)
@@ -44,6 +46,12 @@ SendsOnly = Sends IsOnlySender
 -- what the node does next, if no mailbox to it is full, is to send an item
 abbrev pub SendsNext : Node → ℕ → LinkEnd → Type 0
 SendsNext = Sends IsFirstSender
+
+-- the router of the serial rests next, if no mailbox to its node is full
+pub record RestsNext (x : Node) (serial : ℕ) : Type 0 where
+  pub outboxes : are_empty x.outboxes ≡ true
+  pub hand : x.hand ≡ None
+  pub first : close_turn x.pending (router_turn (flagged_router x)) ≡ acts.Router serial router_acts.Rest
 
 -- the router that has a link at a side takes an item of a number as the last thing that it has to do, and nothing else changes
 pub record TakesItem (x : Node) (link : LinkId) (side : Side) (n : ℕ) (item : Item) (y : Node) : Type 0 where

@@ -84,8 +84,6 @@ pub record IsCarried (w v : World) (acts : ℕ) : Type 0 where
   pub lone : IsLone w node serial link
   pub came : ((acts ≡ 6) × HasCome w v node serial link) ⊎ ((node_at v link.other).hand ≡ Some node)
 
--- if so many acts may be taken and that is enough, a lone parcel is carried; and if there are several, the first of them comes to its mailbox
--- and is looked at, at least
-pub record Carries (most : ℕ) (w v : World) (acts : ℕ) : Type 0 where
-  pub lone : 6 ≤ most → (n serial : ℕ) → (link : LinkEnd) → IsLone w n serial link → IsCarried w v acts
-  pub several : 6 ≤ most → (n serial : ℕ) → (link : LinkEnd) → IsLoneSender w n serial link → 3 ≤ acts
+-- how many acts a lap within a node takes: none, a rest, or those of an item that is left in hand or handed
+abbrev pub IsLap : ℕ → Type 0
+IsLap acts = (acts ≡ 0) ⊎ (acts ≡ 1) ⊎ (acts ≡ 3) ⊎ (acts ≡ 4)

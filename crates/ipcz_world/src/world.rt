@@ -1,7 +1,8 @@
-ghost use Rattle.std.specs.Prelude.{◌≡◌, ◌<◌, ◌≤◌, IfOk, IfErr, IfSome, OnErr, OnOk, map};
+ghost use Rattle.std.specs.Prelude.{◌≡◌, ◌<◌, ◌≤◌, ℕ, IfOk, IfErr, IfSome, OnErr, OnOk, map};
+ghost use Rattle.ipcz_base.specs.declared.link_end.LinkEnd.{LinkEnd};
 ghost use Rattle.ipcz_word.specs.Layout.{word_of_bits};
 ghost use Rattle.ipcz_world.specs.Books.{Books, advance, no_books};
-ghost use Rattle.ipcz_world.specs.Carrying.{Carries};
+ghost use Rattle.ipcz_world.specs.Carrying.{IsCarried, IsLone, IsLoneSender};
 ghost use Rattle.ipcz_world.specs.Coding.{IsTable};
 ghost use Rattle.ipcz_world.specs.Holding.{holder_of, routers_at, shown_word};
 ghost use Rattle.ipcz_world.specs.Lawful.{IsWithinLimits, Lawful};
@@ -228,10 +229,15 @@ impl World {
         ensures settles { IfOk result (λ answer. IsLawfulSettle limit self.old self.new answer) }
         ensures refused { IfErr result (λ why. IsLawfulRefusal limit self.old self.new why) }
     {
-        let (carried, start) = self.carry(limit);
-        if carried == 6 {
+        let (alone, behind) = self.carry(limit);
+        if alone == 6 {
             return Ok(Settled::Settled { after: 6 });
         }
+        let (carried, start) = if alone > 0 {
+            (alone, behind)
+        } else {
+            self.carry_several(limit)
+        };
         let mut from = start;
         for acts in carried..limit {
             let Some((node, act)) = self.state.next_busy(from) else {
@@ -257,10 +263,24 @@ impl World {
         ensures place { IsPlace self.new result.1 }
         ensures within { result.0 ≤ most }
         ensures idle { result.0 ≡ 6 → AreIdle self.new 0 self.new.count }
-        ensures carried { Carries most self.old self.new result.0 }
+        ensures carried { 6 ≤ most → (n serial : ℕ) → (link : LinkEnd) → IsLone self.old n serial link → IsCarried self.old self.new result.0 }
+        ensures none { result.0 ≡ 0 → self.new ≡ self.old }
         ensures lawful { IsLawful self.new }
     {
         self.state.carry(most)
+    }
+
+    // Carries parcels one by one, if the first act of the only node that isn't quiet is to send one and six acts may be taken; else nothing is
+    // done. It gives how many acts that was, and the node that is visited next.
+    #[inline(always)]
+    fn carry_several(&mut self, most: u64) -> (u64, u8)
+        ensures walk { Walk self.old self.new result.0 result.1 }
+        ensures place { IsPlace self.new result.1 }
+        ensures within { result.0 ≤ most }
+        ensures begun { 6 ≤ most → (n serial : ℕ) → (link : LinkEnd) → IsLoneSender self.old n serial link → 3 ≤ result.0 }
+        ensures lawful { IsLawful self.new }
+    {
+        self.state.carry_several(most)
     }
 
     // Takes the turn of a node whose first possible act is given.

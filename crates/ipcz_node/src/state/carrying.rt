@@ -9,11 +9,13 @@ ghost use Rattle.ipcz_router.specs.Router.{Router as RouterRecord};
 ghost use Rattle.ipcz_router.specs.Acts.{pop_out, rest};
 ghost use Rattle.ipcz_router.specs.Lone.{takes_last};
 ghost use Rattle.ipcz_node.specs.Rooms.{HasQueueRoom};
-ghost use Rattle.ipcz_node.specs.Lone.{SendsNext, SendsOnly, TakesItem};
+ghost use Rattle.ipcz_node.specs.Lone.{RestsNext, SendsNext, SendsOnly, TakesItem};
 ghost use Rattle.ipcz_node.specs.Node.{found, link_router, router_in, with_router};
 
 use super::NodeState;
+use crate::act::Act;
 use ipcz_base::{Item, LinkEnd, LinkId, Side};
+use ipcz_router::RouterAct;
 
 impl NodeState {
     /// The serial of a router and the link over which it sends its only item, which carries no ends, if that and the router's rest are all that
@@ -42,6 +44,21 @@ impl NodeState {
         }
         self.outboxes.has_each();
         self.routers.next_sender()
+    }
+
+    /// The lowest serial of a flagged router that rests next, if that is the first that the node has to do while no mailbox to it is full.
+    #[inline(always)]
+    pub fn next_rest(&self) -> Option<u64>
+        ensures some { IfSome result (RestsNext self.now.node) }
+        ensures none { IfNone result ((serial : ℕ) → RestsNext self.now.node serial → ⊥) }
+    {
+        if self.hand.is_some() || !self.outboxes.are_empty() {
+            return None;
+        }
+        match self.next_own() {
+            Act::Router(serial, RouterAct::Rest) => Some(serial),
+            _ => None,
+        }
     }
 
     /// Takes the current item out of the out queue of the router of the serial, and gives its number with it: what the act `SendOut` of the

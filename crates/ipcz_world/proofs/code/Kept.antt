@@ -1,5 +1,11 @@
 -- A step of a lawful world: what it leads to is lawful, and its reply is one that the books allow.
+use Rattle.std.specs.Prelude.{ℕ, Bool, true, false, List, [], ◌∷◌}
+use Rattle.std.proofs.Common.{subst, sym}
 use Rattle.ipcz_world.specs.declared.step.Step.{Step}
+use Rattle.ipcz_world.specs.declared.step.Step.TheVariants.{Turn}
+use Rattle.ipcz_world.specs.declared.step.Reply.TheVariants.{Turned}
+use Rattle.ipcz_world.specs.Settling.{AreVisits, next_node}
+use Rattle.ipcz_world.specs.Visiting.{Walk}
 use Rattle.ipcz_world.proofs.Vocabulary.{Reply, World, Books}
 use Rattle.ipcz_world.specs.Steps.{StepFirst}
 use Rattle.ipcz_world.specs.Books.{advance}
@@ -25,3 +31,13 @@ module _ (w v : World) (step : Step) (reply : Reply) (is : StepFirst w step repl
     routes = routes_after w law.routes step reply;
     lawful = keeps law.books law.routes law.lawful;
   }
+
+-- visits keep the law
+visits-lawful : (n : ℕ) (visits : List Bool) (w v : World) → AreVisits n visits w v → IsLawful w → IsLawful v
+visits-lawful n [] w v same law = subst IsLawful (sym same) law
+visits-lawful n (true ∷ visits) w v (has, (u, (event, step), more)) law =
+    visits-lawful (next_node w n) visits u v more (still-lawful w u (Turn n) (Turned event) step law)
+visits-lawful n (false ∷ visits) w v (idle, more) law = visits-lawful (next_node w n) visits w v more law
+
+pub walk-lawful : (w v : World) (acts n : ℕ) → Walk w v acts n → IsLawful w → IsLawful v
+walk-lawful w v acts n walk law = visits-lawful 0 walk.visits w v walk.turns law

@@ -1,5 +1,5 @@
--- An item passes within a node: it leaves its router, is posted, looked at and handed, while no other node has an act.
-use Rattle.std.specs.Prelude.{◌≡◌, ◌≤◌, ◌<◌, ℕ, ◌+◌, Bool, true, false, cond, nat_eq, nat_lt, Option, Some, None, refl}
+-- An item passes within a node: it leaves its router, is posted, looked at and handed, while no other node has an act. Between items routers rest.
+use Rattle.std.specs.Prelude.{◌≡◌, ◌≤◌, ◌<◌, ℕ, ◌+◌, Bool, true, false, cond, nat_eq, nat_lt, Option, Some, None, List, [], ◌∷◌, is_some, refl}
 use Rattle.std.proofs.Common.{arith, ap, sym, subst, ◌∙◌, inl, inr}
 use Rattle.std.proofs.lemmas.Bool.Decides.{nat_tests}
 use Rattle.std.specs.FinMap.{get}
@@ -7,10 +7,15 @@ use Rattle.ipcz_base.specs.Limits.{no_number}
 use Rattle.ipcz_router.specs.declared.act.RouterAct.TheVariants as router_acts
 use Rattle.ipcz_router.specs.declared.act.Answer.TheVariants.{Plain}
 use Rattle.ipcz_node.specs.declared.act.Act.TheVariants as acts
-use Rattle.ipcz_node.specs.Node.{flagged_router}
-use Rattle.ipcz_node.specs.Acts.{act_lacks_serials, are_empty, close_turn, first_of, has_mail_for, post_of, router_turn}
+use Rattle.ipcz_node.specs.Node.{Found, flagged_router, on_router, router_in, with_router}
+use Rattle.ipcz_node.specs.Sends.{send}
+use Rattle.ipcz_base.specs.declared.end.End.{End}
+use Rattle.ipcz_router.specs.Router.{Router}
+use Rattle.ipcz_router.specs.Acts.{rest}
+use Rattle.ipcz_router.specs.ActEffects.{apply, leaves_by, output_of}
+use Rattle.ipcz_node.specs.Acts.{act_lacks_serials, are_empty, close_turn, commit_router, first_of, has_mail_for, keep_or_drop, post_of, router_turn}
 use Rattle.ipcz_node.specs.Hands.{deliver, fits, fits_item, message_lacks_serials}
-use Rattle.ipcz_node.specs.Lone.{SendsNext}
+use Rattle.ipcz_node.specs.Lone.{RestsNext, SendsNext}
 use Rattle.ipcz_node.proofs.LoneNodes.{first_freely, first_sent, item_unheld}
 use Rattle.ipcz_world.proofs.Vocabulary.{Node, World, Message, Empty, bare_node, commit, opposite, outbox}
 use Rattle.ipcz_world.proofs.Vocabulary.{after_act, hand_message, mail_at, node_at, put_place, set_mail, set_node, way, LinkEnd}
@@ -28,6 +33,7 @@ use Rattle.ipcz_world.proofs.code.LoneWorlds.{Quiet, hand_act, look_act, own_act
 use Rattle.ipcz_world.proofs.code.Passing.{box-others, box-there, mail-there, own_send, passing-taker, posted, sender, sent_first, sent_message, sent_node, waiting_node}
 use Rattle.ipcz_world.proofs.code.Slots.{put-same}
 use Rattle.ipcz_world.proofs.code.Visiting.{OnWay, on_way-walked, walked}
+use Rattle.ipcz_world.proofs.facts.Finding.{found_tells}
 use Rattle.ipcz_world.proofs.frames.Frames.{mail-set_mail, node-set_mail, node-set_node}
 
 -- the world with this node, and this mailbox from it to itself
@@ -55,6 +61,53 @@ alone-next u from n l place busy idle = go (nat_lt n from) refl
         before = λ k low high. idle k (omega (arith, high, l)) (λ same. omega (arith, same, high));
       },
     )
+
+-- the router that rests next, and the node after that
+rests-there : (x : Node) (serial : ℕ) → RestsNext x serial → (r : Router) × (get x.routers serial ≡ Some r)
+unfolding close_turn router_turn
+rests-there x serial rests = go x.pending (flagged_router x) refl rests.first
+  where
+    go : (es : List End) (o : Option Found) → flagged_router x ≡ o →
+        close_turn es (router_turn o) ≡ acts.Router serial router_acts.Rest → (r : Router) × (get x.routers serial ≡ Some r)
+    go [] None e h = absurd cc
+    go [] (Some f) e h = let same : f.serial ≡ serial = cc in (f.router, ap (get x.routers) (sym same) ∙ (found_tells x (λ r. r.flagged) f e).0)
+    go (one ∷ es) o e h = absurd cc
+
+pub rests-some : (x : Node) (serial : ℕ) → RestsNext x serial → is_some (router_in x serial) ≡ true
+rests-some x serial rests = ap is_some (rests-there x serial rests).1
+
+rested-is : (x : Node) (serial : ℕ) (r : Router) → get x.routers serial ≡ Some r →
+    commit x (acts.Router serial router_acts.Rest) Plain ≡ with_router x serial (rest r)
+unfolding commit commit_router keep_or_drop leaves_by on_router send output_of apply
+rested-is x serial r here = ap (λ o. on_router x o (commit_router x serial router_acts.Rest Plain)) here
+
+module _ (w : World) (n serial : ℕ) (is : IsPassing w n n) (rests : RestsNext (node_at w n) serial) (x : Node)
+    (behind : x ≡ commit (node_at w n) (acts.Router serial router_acts.Rest) Plain) where
+  abbrev rester : (r : Router) × (get (node_at w n).routers serial ≡ Some r)
+  rester = rests-there (node_at w n) serial rests
+
+  after : x ≡ with_router (node_at w n) serial (rest rester.0)
+  after = behind ∙ rested-is (node_at w n) serial rester.0 rester.1
+
+  -- items may pass then as before
+  pub rest-passing : IsPassing (set_node w n x) n n
+  rest-passing =
+      passing-taker w n n x is (ap (λ (k : Node). k.count) after ∙ is.counts n is.here) (ap (λ (k : Node). k.hand) after ∙ is.hand)
+
+  -- and the rest is one act
+  pub rest-walk : (w0 : World) (done from : ℕ) → act_lacks_serials (node_at w n) (acts.Router serial router_acts.Rest) ≡ false → IsPlace w from →
+      Walk w0 w done from → Walk w0 (set_node w n x) (done + 1) (next_node w n)
+  unfolding turn_lacks_serials is_idle
+  rest-walk w0 done from allowed place walk =
+      let few : w.count ≤ 8 = is.lengths.few in
+      let first : next_at w n ≡ acts.Router serial router_acts.Rest =
+      own_act w n few (is.counts n is.here) (λ i li. is.mail (way w i n)) rests.hand rests.outboxes ∙ rests.first in
+      let idle : (k : ℕ) → k < w.count → (k ≡ n → ⊥) → is_idle (next_at w k) ≡ true =
+      λ k l ne. quiet_idle w k few (is.counts k l) (λ i li. is.mail (way w i k)) (quiet_is (node_at w k) (is.others k l ne ne)) in
+      walked w0 (set_node w n x) (done + 1) (next_node w n)
+      (go-on w0 w (set_node w n x) done from n (acts.Router serial router_acts.Rest) (on_way-walked w0 w done from walk place)
+      (alone-next w from n is.here place (ap is_idle first) idle) is.here first allowed
+      (router-acts w n serial rester.0 router_acts.Rest rester.1 refl ∙ ap (set_node w n) (sym behind)))
 
 module _ (w : World) (n : ℕ) (is : IsPassing w n n) where
   abbrev at : Node → Mail → World

@@ -1,12 +1,13 @@
-//! A lone parcel: if it is all that the world has to do, it is carried all its way in one go. Several parcels of one router go over one by one.
+//! A lone parcel: if it is all that the world has to do, it is carried all its way in one go. Several parcels go over one by one: those of one
+//! router to another node, and those of several routers within a node.
 
 ghost use Rattle.std.specs.Prelude.{◌≡◌, ◌≤◌, ◌<◌, ◌+◌, ◌⊎◌, ℕ, Option, true, false, [], None, IfSome, IfNone};
 ghost use Rattle.ipcz_base.specs.declared.link_end.LinkEnd.{LinkEnd as LinkEndRecord};
 ghost use Rattle.ipcz_base.specs.Sides.{opposite};
 ghost use Rattle.ipcz_node.specs.Acts.{is_quiet};
 ghost use Rattle.ipcz_node.specs.Hands.{deliver, message_lacks_serials};
-ghost use Rattle.ipcz_node.specs.Lone.{SendsNext};
-ghost use Rattle.ipcz_world.specs.Carrying.{AreQuiet, Carries, IsCarried, IsLone, IsLoneNode, IsLoneSender, IsPassing, lone_message, with_hand};
+ghost use Rattle.ipcz_node.specs.Lone.{RestsNext, SendsNext};
+ghost use Rattle.ipcz_world.specs.Carrying.{AreQuiet, IsCarried, IsLap, IsLone, IsLoneNode, IsLoneSender, IsPassing, lone_message, with_hand};
 ghost use Rattle.ipcz_world.specs.Settling.{next_node};
 ghost use Rattle.ipcz_world.specs.Soundness.{HasLengths};
 ghost use Rattle.ipcz_world.specs.World.{World, node_at, mail_at, set_node, way};
@@ -20,8 +21,8 @@ use ipcz_base::{Item, LinkEnd, Message, Moves};
 impl State {
     /// Carries a lone parcel all its way in one go: a send out, a post, a look, a hand, and a rest of each router. It gives how many acts that
     /// was, at most `most`, and the node that is visited next. After six acts no node has an act. If the receiver finds no memory for the
-    /// parcel, it stays in hand there: that is after four acts, or three within one node. Of several parcels each goes over by four acts, and
-    /// what is left to do then is left. If another node has something to do, or `most` is below 6, nothing is done.
+    /// parcel, it stays in hand there: that is after four acts, or three within one node. If there is more to do, or `most` is below 6, nothing
+    /// is done.
     #[inline(never)]
     pub(crate) fn carry(&mut self, most: u64) -> (u64, u8)
         requires { IsRegular self.old }
@@ -29,7 +30,8 @@ impl State {
         ensures place { IsPlace self.new result.1 }
         ensures within { result.0 ≤ most }
         ensures idle { result.0 ≡ 6 → AreIdle self.new 0 self.new.count }
-        ensures carried { Carries most self.old self.new result.0 }
+        ensures carried { 6 ≤ most → (n serial : ℕ) → (link : LinkEndRecord) → IsLone self.old n serial link → IsCarried self.old self.new result.0 }
+        ensures none { result.0 ≡ 0 → self.new ≡ self.old }
     {
         if most < 6 {
             return (0, 0);
@@ -42,7 +44,7 @@ impl State {
                     self.carry_over(n, serial, link)
                 }
             }
-            None => self.carry_several(most),
+            None => (0, 0),
         }
     }
 
@@ -135,24 +137,26 @@ impl State {
         self.mail.put_back(place, message);
     }
 
-    // Carries items of the only node that isn't quiet, one after the other, if its first act is to send one: the first of them at least leaves
-    // its router and comes to its mailbox, or further. What is left to do then is done act by act.
+    /// Carries items of the only node that isn't quiet, one after the other, if its first act is to send one: the first of them at least leaves
+    /// its router and comes to its mailbox, or further. It gives how many acts that was, at most `limit`, and the node that is visited next. What
+    /// is left to do then is left. If `limit` is below 6, nothing is done.
     #[inline(never)]
-    fn carry_several(&mut self, most: u64) -> (u64, u8)
-        requires regular { IsRegular self.old }
-        requires enough { 6 ≤ most }
+    pub(crate) fn carry_several(&mut self, limit: u64) -> (u64, u8)
+        requires { IsRegular self.old }
         ensures walk { Walk self.old self.new result.0 result.1 }
         ensures place { IsPlace self.new result.1 }
-        ensures within { result.0 ≤ most }
-        ensures other { result.0 ≡ 6 → ⊥ }
-        ensures begun { (n serial : ℕ) → (link : LinkEndRecord) → IsLoneSender self.old n serial link → 3 ≤ result.0 }
+        ensures within { result.0 ≤ limit }
+        ensures begun { 6 ≤ limit → (n serial : ℕ) → (link : LinkEndRecord) → IsLoneSender self.old n serial link → 3 ≤ result.0 }
     {
+        if limit < 6 {
+            return (0, 0);
+        }
         match self.lone_sender() {
             Some((n, serial, link)) => {
                 if n == link.other {
-                    self.pass_within(n, most)
+                    self.pass_within(n, limit)
                 } else {
-                    self.pass_over(n, serial, link, most)
+                    self.pass_over(n, serial, link, limit)
                 }
             }
             None => (0, 0),
@@ -170,7 +174,6 @@ impl State {
         ensures walk { Walk self.old self.new result.0 result.1 }
         ensures place { IsPlace self.new result.1 }
         ensures within { result.0 ≤ most }
-        ensures other { result.0 ≡ 6 → ⊥ }
         ensures begun { 3 ≤ result.0 }
     {
         let to = link.other;
@@ -217,7 +220,8 @@ impl State {
         true
     }
 
-    // Passes items to a node's own routers, one after the other: until the next act isn't a send of one, or one is left in hand.
+    // Passes items to a node's own routers, one after the other, and lets its routers rest between them: until the next act is neither a send of
+    // an item nor a rest, or an item is left in hand.
     #[inline(always)]
     fn pass_within(&mut self, n: u8, most: u64) -> (u64, u8)
         requires passing { IsPassing self.old n n }
@@ -226,16 +230,52 @@ impl State {
         ensures walk { Walk self.old self.new result.0 result.1 }
         ensures place { IsPlace self.new result.1 }
         ensures within { result.0 ≤ most }
-        ensures other { result.0 ≡ 6 → ⊥ }
         ensures begun { 3 ≤ result.0 }
     {
-        let mut last = self.pass_at(n);
-        let mut acts = last;
-        while last == 4 && most - acts >= 4 {
-            last = self.pass_at(n);
-            acts += last;
+        let mut acts = self.pass_at(n);
+        let mut goes_on = acts == 4;
+        while goes_on && most - acts >= 4 {
+            let more = self.pass_or_rest(n);
+            goes_on = more == 4 || more == 1;
+            acts += more;
         }
         (acts, self.next_node(n))
+    }
+
+    // Passes an item within a node, or if its first act is a rest, lets that router rest. It gives how many acts that was: as `pass_at`, or 1.
+    #[inline(always)]
+    fn pass_or_rest(&mut self, n: u8) -> u64
+        requires { IsPassing self.old n n }
+        ensures acts { IsLap result }
+        ensures passing { (result ≡ 4) ⊎ (result ≡ 1) → IsPassing self.new n n }
+        ensures none { result ≡ 0 → self.new ≡ self.old }
+        ensures walk { 1 ≤ result → (w : World) → (acts from : ℕ) → Walk w self.old acts from → IsPlace self.old from →
+            Walk w self.new (acts + result) (next_node self.new n) }
+        ensures count { self.new.count ≡ self.old.count }
+    {
+        match self.pass_at(n) {
+            0 => self.rest_at(n),
+            acts => acts,
+        }
+    }
+
+    // Lets the router of a node rest whose rest is the node's first act. It gives how many acts that was: 1, or 0 if that isn't a rest.
+    #[inline(always)]
+    fn rest_at(&mut self, n: u8) -> u64
+        requires { IsPassing self.old n n }
+        ensures acts { (result ≡ 0) ⊎ (result ≡ 1) }
+        ensures passing { IsPassing self.new n n }
+        ensures none { result ≡ 0 → self.new ≡ self.old }
+        ensures walk { result ≡ 1 → (w : World) → (acts from : ℕ) → Walk w self.old acts from → IsPlace self.old from →
+            Walk w self.new (acts + 1) (next_node self.new n) }
+        ensures count { self.new.count ≡ self.old.count }
+        ensures rests { (serial : ℕ) → RestsNext (node_at self.old n) serial → result ≡ 1 }
+    {
+        let Some(serial) = self.nodes.node(n).next_rest() else {
+            return 0;
+        };
+        self.nodes.node_mut(n).rest(serial);
+        1
     }
 
     // Passes an item within a node: it leaves its router, is posted, looked at and handed. It gives how many acts that was: 4, or 3 if the item

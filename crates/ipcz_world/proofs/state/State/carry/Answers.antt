@@ -1,7 +1,4 @@
 use Rattle.ipcz_world.proofs.state.State.carry.Goals as goal
 
 pub returns-in-None-clause-carried : goal.returns-in-None-clause-carried
-returns-in-None-clause-carried c = record {
-  lone = λ _ n serial link lone. absurd (c.in-None.ensures.none n serial link lone);
-  several = λ _. c.carry_several.ensures.begun;
-}
+returns-in-None-clause-carried c _ n serial link lone = absurd (c.in-None.ensures.none n serial link lone)

@@ -228,10 +228,6 @@ pub returns-clause-within : goal.returns-clause-within
 returns-clause-within c =
     c.loop-acts.invariant.within
 
-pub returns-clause-other : goal.returns-clause-other
-returns-clause-other c six =
-    omega (arith, six, c.loop-acts.invariant.laps.1)
-
 pub returns-clause-begun : goal.returns-clause-begun
 returns-clause-begun c =
     omega (arith, c.loop-acts.invariant.laps.1)

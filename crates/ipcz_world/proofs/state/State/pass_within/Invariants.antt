@@ -1,18 +1,18 @@
-use Rattle.std.proofs.Common.{◌≡◌, ◌≤◌, ◌+◌, ◌*◌, ◌-◌, ◌⊎◌, ℕ}
+use Rattle.std.proofs.Common.{◌≡◌, ◌≤◌, ◌+◌, ◌-◌, true, if◌then◌else◌}
 use Rattle.ipcz_world.specs.Carrying.{IsPassing}
 use Rattle.ipcz_world.specs.Settling.{next_node}
 use Rattle.ipcz_world.specs.Visiting.{Walk}
 use Rattle.ipcz_world.proofs.state.State.pass_within.Given as goal
 
--- so many items passed whole, and perhaps one to the hand, and the visits so far lead on
-abbrev pub invariant-loop-last : goal.invariant-loop-last
-invariant-loop-last l = record {
-  laps : ((laps : ℕ) × (((l.acts ≡ 4 * laps) × (1 ≤ laps)) ⊎ ((l.acts ≡ 4 * laps + 3) × (l.last ≡ 3))));
+-- the first item passed, or came to hand, and the visits so far lead on
+abbrev pub invariant-loop-goes_on : goal.invariant-loop-goes_on
+invariant-loop-goes_on l = record {
+  begun : 3 ≤ l.acts;
   within : l.acts ≤ l.most;
-  passing : (l.last ≡ 4 → IsPassing l.self l.n l.n);
+  passing : (l.goes_on ≡ true → IsPassing l.self l.n l.n);
   here : l.n + 1 ≤ l.self.count;
   walk : Walk l.fn.self l.self l.acts (next_node l.self l.n);
 }
 
-abbrev pub decreases-loop-last : goal.decreases-loop-last
-decreases-loop-last l = (l.most - l.acts) + l.last
+abbrev pub decreases-loop-goes_on : goal.decreases-loop-goes_on
+decreases-loop-goes_on l = (l.most - l.acts) + (if l.goes_on then 1 else 0)

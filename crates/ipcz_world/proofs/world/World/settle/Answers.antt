@@ -1,11 +1,11 @@
-use Rattle.std.proofs.Common.{◌≡◌, ◌∙◌, ℕ, IfOk, sym, ap, subst, arith}
+use Rattle.std.proofs.Common.{◌≡◌, ◌∙◌, ◌≤◌, ℕ, IfOk, sym, ap, subst, arith}
 use Rattle.ipcz_world.specs.Lawfulness.{IsLawful}
 use Rattle.ipcz_world.specs.Settling.{IsSettle, IsRefusedSettle, next_node}
 use Rattle.ipcz_world.specs.Visiting.{AreIdle, IsNextBusy}
 use Rattle.ipcz_world.proofs.code.Regular.{lawful-regular}
 use Rattle.ipcz_world.proofs.code.Running.{visits-lead}
 use Rattle.ipcz_world.proofs.code.Visiting.{OnWay, on_way-turn, on_way-walked, settled, unsettled, refused}
-use Rattle.ipcz_world.proofs.world.World.settle.Goals.{in-None, in-Some-last_busy}
+use Rattle.ipcz_world.proofs.world.World.settle.Goals.{then-alone-gt0, else-alone-gt0, in-None, in-Some-last_busy}
 use Rattle.ipcz_world.proofs.world.World.settle.Goals as goal
 use Rattle.ipcz_base.specs.declared.refusal.Refusal.{Refusal}
 use Rattle.ipcz_world.specs.World.{World}
@@ -35,16 +35,26 @@ lawful-refused limit w v why s = record {
       omega (arith, visits_are_bounded each_step_keeps_lawful first_acts_are_possible rates 0 s.visits w v b g c law rated s.turns);
 }
 
-pub returns-then-carried-eq6-clause-settles : goal.returns-then-carried-eq6-clause-settles
-returns-then-carried-eq6-clause-settles c =
-    let carried = c.carry-carried in
+pub returns-then-alone-eq6-clause-settles : goal.returns-then-alone-eq6-clause-settles
+returns-then-alone-eq6-clause-settles c =
+    let carried = c.carry-alone in
     lawful _ _ _ _ (settled c.args.limit 6 carried.result.1 c.args.self.now carried.new.self
-    (subst (λ k. OnWay c.args.self.now k carried.new.self carried.result.1) c.if-carried-eq6.true
+    (subst (λ k. OnWay c.args.self.now k carried.new.self carried.result.1) c.if-alone-eq6.true
     (on_way-walked _ _ _ _ carried.ensures.walk carried.ensures.place))
-    (omega (arith, carried.ensures.within, c.if-carried-eq6.true)) carried.ensures.lawful (carried.ensures.idle c.if-carried-eq6.true))
+    (omega (arith, carried.ensures.within, c.if-alone-eq6.true)) carried.ensures.lawful (carried.ensures.idle c.if-alone-eq6.true))
 
 pub loop-acts-init : goal.loop-acts-init
-loop-acts-init c = on_way-walked _ _ _ _ c.carry-carried.ensures.walk c.carry-carried.ensures.place
+loop-acts-init c =
+    elim c.if-alone-gt0.branch [
+      | then-alone-gt0 w ↦ subst (λ v. OnWay c.args.self.now c.if-alone-gt0.carried.0 v c.if-alone-gt0.carried.1) (sym w.self-is)
+          (subst (λ (p : ℕ × ℕ). OnWay c.args.self.now p.0 c.carry-alone.new.self p.1) (sym w.carried-is)
+          (on_way-walked _ _ _ _ c.carry-alone.ensures.walk c.carry-alone.ensures.place))
+      | else-alone-gt0 w ↦ let none = c.carry-alone.ensures.none (omega (arith, w.if-alone-gt0.false)) in
+          subst (λ v. OnWay c.args.self.now c.if-alone-gt0.carried.0 v c.if-alone-gt0.carried.1) (sym w.self-is)
+          (subst (λ (p : ℕ × ℕ). OnWay c.args.self.now p.0 w.carry_several.new.self p.1) (sym w.carried-is)
+          (subst (λ u. OnWay u w.carry_several.result.0 w.carry_several.new.self w.carry_several.result.1) none
+          (on_way-walked _ _ _ _ w.carry_several.ensures.walk w.carry_several.ensures.place)))
+    ]
 
 pub next_busy-requires-clause-regular : goal.next_busy-requires-clause-regular
 next_busy-requires-clause-regular c = lawful-regular _ c.self.invariant
@@ -76,7 +86,11 @@ loop-acts-preserved c =
 
 pub returns-clause-settles : goal.returns-clause-settles
 returns-clause-settles c =
-    let all : c.loop-acts.acts ≡ c.args.limit = omega (arith, c.loop-acts.auto.acts-end, c.loop-acts-test.false) in
+    let within : c.if-alone-gt0.carried.0 ≤ c.args.limit = elim c.if-alone-gt0.branch [
+      | then-alone-gt0 w ↦ subst (λ (p : ℕ × ℕ). p.0 ≤ c.args.limit) (sym w.carried-is) c.carry-alone.ensures.within
+      | else-alone-gt0 w ↦ subst (λ (p : ℕ × ℕ). p.0 ≤ c.args.limit) (sym w.carried-is) w.carry_several.ensures.within
+    ] in
+    let all : c.loop-acts.acts ≡ c.args.limit = omega (arith, within, c.loop-acts.auto.acts-end, c.loop-acts-test.false) in
     elim c.match-last_busy.branch [
       | in-None w ↦ subst (λ r. IfOk r (λ answer. IsLawfulSettle c.args.limit c.args.self.now c.loop-acts.self answer)) (sym w.result-is)
           (lawful _ _ _ _ (settled c.args.limit c.args.limit c.loop-acts.from c.args.self.now c.loop-acts.self
