@@ -12,7 +12,7 @@ use std::env;
 use std::process::ExitCode;
 
 const USAGE: &str = "usage: ipcz_bench MEASURE [ROUNDS]
-nanoseconds a parcel: one_node two_nodes long_parcels last_pair each_pair waiting_1 waiting_10 waiting_100 waiting_1000
+nanoseconds a parcel: one_node two_nodes long_parcels last_pair each_pair each_moved_pair waiting_1 waiting_10 waiting_100 waiting_1000
 nanoseconds an act: act
 nanoseconds a move, with ten parcels after it: moves
 nanoseconds a pair that is opened, used and closed: lives

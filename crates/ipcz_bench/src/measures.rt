@@ -24,6 +24,8 @@ enum InOneWorld {
     LastOf(u32),
     /// Parcels on each of 1,000 pairs of one node, in turn.
     EachPair,
+    /// The same on pairs between two nodes: of each a portal has moved.
+    EachMovedPair,
     /// Parcels of so many bytes between two nodes, while so many others wait to be got.
     Between(usize, u64),
     /// The acts that carry parcels between two nodes, without the puts and gets.
@@ -36,7 +38,9 @@ enum InOneWorld {
     BytesOfClosedPairs,
 }
 
-use InOneWorld::{ActsAlone, Between, BytesOfClosedPairs, BytesOfPairs, EachPair, LastOf, Lives};
+use InOneWorld::{
+    ActsAlone, Between, BytesOfClosedPairs, BytesOfPairs, EachMovedPair, EachPair, LastOf, Lives,
+};
 
 /// Takes a measure of so many rounds, and gives nanoseconds or bytes: the rounded-down share of one parcel, act, move or pair.
 pub fn measure(rt: &HostRuntime, name: &str, rounds: u64) -> Result<u64, Fault> {
@@ -44,6 +48,7 @@ pub fn measure(rt: &HostRuntime, name: &str, rounds: u64) -> Result<u64, Fault> 
         "one_node" => on_one_node(rt, LastOf(1), rounds),
         "last_pair" => on_one_node(rt, LastOf(4 * PAIRS), rounds),
         "each_pair" => on_one_node(rt, EachPair, rounds),
+        "each_moved_pair" => on_two_nodes(rt, EachMovedPair, rounds),
         "two_nodes" => on_two_nodes(rt, Between(SHORT, 0), rounds),
         "long_parcels" => on_two_nodes(rt, Between(256, 0), rounds),
         "waiting_1" => on_two_nodes(rt, Between(SHORT, 1), rounds),
@@ -72,9 +77,9 @@ fn on_one_node(rt: &HostRuntime, measure: InOneWorld, rounds: u64) -> Result<u64
     take(rt, &mut world, measure, rounds)
 }
 
-// Takes a measure in a world of two nodes and one pair.
+// Takes a measure in a world of two nodes.
 fn on_two_nodes(rt: &HostRuntime, measure: InOneWorld, rounds: u64) -> Result<u64, Fault> {
-    let mut world = World::new(rt.alloc(), 2, 1)?;
+    let mut world = World::new(rt.alloc(), 2, 4096)?;
     take(rt, &mut world, measure, rounds)
 }
 
@@ -88,6 +93,7 @@ fn take(
     match measure {
         LastOf(pairs) => last_of(rt, world, pairs, rounds),
         EachPair => each_pair(rt, world, rounds),
+        EachMovedPair => each_moved_pair(rt, world, rounds),
         Between(length, waiting) => between(rt, world, length, waiting, rounds),
         ActsAlone => acts_alone(rt, world, rounds),
         Lives => live_all(rt, world, rounds),
@@ -151,6 +157,23 @@ fn visit_all(
 // Parcels on each of 1,000 pairs of one node, in turn.
 fn each_pair(rt: &HostRuntime, world: &mut World, rounds: u64) -> Result<u64, Fault> {
     let pairs = many(rt, world)?;
+    visit_all(rt, world, pairs.as_slice(), rounds / PAIRS as u64)
+}
+
+// 1,000 new pairs of node 0, of each of which one portal moves to node 1.
+fn many_moved(rt: &HostRuntime, world: &mut World) -> Result<Vec<(Portal, Portal)>, Fault> {
+    let mut pairs = Vec::new(rt.alloc());
+    for _ in 0..PAIRS {
+        let (still, moved) = open(world)?;
+        let there = move_portal(rt, world, first_pair(), still, moved)?;
+        pairs.push((still, there))?;
+    }
+    Ok(pairs)
+}
+
+// Parcels on each of 1,000 pairs between two nodes, in turn.
+fn each_moved_pair(rt: &HostRuntime, world: &mut World, rounds: u64) -> Result<u64, Fault> {
+    let pairs = many_moved(rt, world)?;
     visit_all(rt, world, pairs.as_slice(), rounds / PAIRS as u64)
 }
 

@@ -34,3 +34,16 @@ fn number_of(number: u64, side: Side) -> u64 {
         Side::B => first.wrapping_add(1),
     }
 }
+
+/// The place of a number among so many that rise evenly from the first to the last, if there are many. It says where to look, and nothing
+/// rests on it.
+pub fn even_guess(first: u64, last: u64, count: usize, number: u64) -> Option<usize> {
+    if count < 16 {
+        return None;
+    }
+    let span = last.wrapping_sub(first);
+    let steps = count as u64 - 1;
+    let scaled = number.wrapping_sub(first).wrapping_mul(steps);
+    let place = scaled.wrapping_add(span / 2).checked_div(span)?;
+    Some(place as usize)
+}

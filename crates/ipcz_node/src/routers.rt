@@ -9,6 +9,7 @@ ghost use Rattle.ipcz_node.specs.Rooms.{RoutersValue, routers_with};
 ghost use Rattle.ipcz_node.specs.Serials.{key_at, entries_by, map_by, AreRising};
 
 use crate::held_ends::HeldEnds;
+use crate::numbered::even_guess;
 use ipcz_base::End;
 use ipcz_router::Router;
 use std::alloc::{AllocError, Global};
@@ -172,10 +173,22 @@ fn place_of<T>(entries: &[(u64, T)], serial: u64) -> Option<usize>
     searched_place(entries, serial)
 }
 
-// The same by halving.
+// The same, where neither all that left was in front nor none behind it: by halving, if its even place isn't its own.
 #[cold]
 #[inline(never)]
 fn searched_place<T>(entries: &[(u64, T)], serial: u64) -> Option<usize>
+    requires { (next : ℕ) × AreRising 0 next entries.now }
+    ensures found { MatchOption result (find nat_cmp serial entries.now ≡ None) (λ i. key_at entries.now i ≡ Some serial) }
+    ensures within { IfSome result (λ i. i < length entries.now) }
+{
+    if let Some(place) = even_place(entries, serial) {
+        return Some(place);
+    }
+    halved_place(entries, serial)
+}
+
+// The same by halving.
+fn halved_place<T>(entries: &[(u64, T)], serial: u64) -> Option<usize>
     requires { (next : ℕ) × AreRising 0 next entries.now }
     ensures found { MatchOption result (find nat_cmp serial entries.now ≡ None) (λ i. key_at entries.now i ≡ Some serial) }
     ensures within { IfSome result (λ i. i < length entries.now) }
@@ -210,6 +223,18 @@ fn place_from_last<T>(entries: &[(u64, T)], serial: u64) -> Option<usize>
     let place = entries.len().wrapping_sub(behind).wrapping_sub(1);
     let found = entries.get(place)?.0;
     if found == serial { Some(place) } else { None }
+}
+
+// Where the entry of the serial stands, if the serials rise evenly from the first to the last.
+fn even_place<T>(entries: &[(u64, T)], serial: u64) -> Option<usize>
+    ensures found { IfSome result (λ i. key_at entries.now i ≡ Some serial) }
+    ensures within { IfSome result (λ i. i < length entries.now) }
+{
+    let first = entries.first()?.0;
+    let last = entries.last()?.0;
+    let place = even_guess(first, last, entries.len(), serial)?;
+    let there = entries.get(place)?.0;
+    if there == serial { Some(place) } else { None }
 }
 
 // How many entries have a lower serial. They stand in front.

@@ -6,7 +6,7 @@ ghost use Rattle.std.specs.List.{AllWithin, HoldsAt};
 ghost use Rattle.std.specs.declared.cmp.Ordering.TheVariants.{Less};
 ghost use Rattle.ipcz_node.specs.SortedSets.{has, IsPlaceOf, IsGapFor};
 
-use crate::numbered::Numbered;
+use crate::numbered::{Numbered, even_guess};
 use std::alloc::{AllocError, Global};
 use std::marker::Model;
 
@@ -170,7 +170,7 @@ impl<T: Ord + Copy + Numbered + Drop> SortedSet<T> {
         }
     }
 
-    // The same by halving.
+    // The same, if the numbers don't rise by one from it to the last member: by halving, if its even place isn't its own.
     #[cold]
     #[inline(never)]
     fn searched_place(&self, value: &T) -> Result<usize, usize>
@@ -178,7 +178,47 @@ impl<T: Ord + Copy + Numbered + Drop> SortedSet<T> {
         ensures found { IfOk result (IsPlaceOf T.cmp self.now.members value.now) }
         ensures absent { IfErr result (IsGapFor T.cmp self.now.members value.now) }
     {
+        if let Some(place) = self.even_place(value) {
+            return Ok(place);
+        }
+        self.halved_place(value)
+    }
+
+    // The same by halving.
+    fn halved_place(&self, value: &T) -> Result<usize, usize>
+        ensures sorted { IsStrictlySortedBy T.cmp self.now.members }
+        ensures found { IfOk result (IsPlaceOf T.cmp self.now.members value.now) }
+        ensures absent { IfErr result (IsGapFor T.cmp self.now.members value.now) }
+    {
         self.items.binary_search(value)
+    }
+
+    // Where the value is, if the numbers rise evenly from the first member to the last.
+    fn even_place(&self, value: &T) -> Option<usize>
+        ensures sorted { IsStrictlySortedBy T.cmp self.now.members }
+        ensures found { IfSome result (IsPlaceOf T.cmp self.now.members value.now) }
+    {
+        let items = self.items.as_slice();
+        let place = self.even_guess(value)?;
+        if items[place].cmp(value).is_eq() {
+            Some(place)
+        } else {
+            None
+        }
+    }
+
+    /// A place, by how far the value's number is from the first member's to the last's.
+    pub fn even_guess(&self, value: &T) -> Option<usize>
+        ensures { IfSome result (λ i. i < length self.now.members) }
+    {
+        let first = self.items.first()?.number();
+        let last = self.items.last()?.number();
+        let place = even_guess(first, last, self.items.len(), value.number())?;
+        if place < self.items.len() {
+            Some(place)
+        } else {
+            None
+        }
     }
 
     // Where the value is, if the numbers rise by one from it to the last member.
