@@ -23,7 +23,7 @@ impl State {
     /// was, at most `most`, and the node that is visited next. After six acts no node has an act. If the receiver finds no memory for the
     /// parcel, it stays in hand there: that is after four acts, or three within one node. If there is more to do, or `most` is below 6, nothing
     /// is done.
-    #[inline(never)]
+    #[inline(always)]
     pub(crate) fn carry(&mut self, most: u64) -> (u64, u8)
         requires { IsRegular self.old }
         ensures walk { Walk self.old self.new result.0 result.1 }
