@@ -279,8 +279,8 @@ def compare_pairs(program: str) -> None:
 CRATES = os.path.join(os.path.dirname(os.path.abspath(__file__)), "../crates")
 BENCH = os.path.join(CRATES, "ipcz_bench/out/ipcz_bench")
 BENCH_THREADS = os.path.join(CRATES, "ipcz_bench_threads/out/ipcz_bench_threads")
-MEASURES = ["one_node", "two_nodes", "long_parcels", "last_pair", "each_pair", "waiting_1", "waiting_10", "waiting_100",
-            "waiting_1000", "act", "moves", "lives", "fresh_pairs", "used_pairs", "closed_pairs"]
+MEASURES = ["one_node", "two_nodes", "long_parcels", "last_pair", "each_pair", "each_moved_pair", "waiting_1", "waiting_10",
+            "waiting_100", "waiting_1000", "act", "moves", "lives", "fresh_pairs", "used_pairs", "closed_pairs"]
 # The last of them, which are of memory.
 BYTES = MEASURES[-3:]
 
