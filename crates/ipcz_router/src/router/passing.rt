@@ -14,6 +14,7 @@ use std::alloc::Global;
 impl Router {
     /// Does the act `SendOut`, as `apply` does, and gives the message that carries the item without moves. It takes no memory; `alloc`
     /// is for the message's empty list of them.
+    #[inline(always)]
     #[tactic(auto, unfolding(crate::specs::ActTable::is_possible, crate::specs::ActEffects::apply, crate::specs::ActEffects::item_output, crate::specs::ActEffects::output_of, crate::specs::Carrying::carried_by))]
     pub fn send_out(&mut self, alloc: Global) -> Message
         requires { is_possible self.old.router RouterAct.SendOut ≡ true }
