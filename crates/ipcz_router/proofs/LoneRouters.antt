@@ -102,10 +102,6 @@ sends_next r link s =
     ap (λ b. if b then SendOut else first_possible r (SendIn ∷ Discard ∷ FinishOut ∷ FinishIn ∷ Leave ∷ Mark ∷ Wake ∷ Claim ∷ Lock ∷ Begin ∷
     Retire ∷ [])) send
 
--- one that sends its last item sends first
-pub sends_first : (r : Router) (link : LinkEnd) → SendsLast r link → next_act r ≡ SendOut
-sends_first r link s = sends_next r link (record { item = s.item; current = s.current; alone = s.alone; way = s.way })
-
 -- behind the only item there is none
 only_one : (q : Queue Item) (item : Item) → len q.items ≡ 1 → current_item q ≡ Some item → current_item (pop_front q) ≡ None
 only_one q item one here =
