@@ -1,25 +1,18 @@
 -- The status that the program ends with, its texts, and what it has read and written by then.
-use Rattle.std.specs.Prelude.{◌≡◌, ◌↔◌, ◌++◌, ◌+◌, [], ℕ, Bool, true, false, IsTrue, IsErrOf, List, Option, Result, Ok, Err, codes}
-use Rattle.std.specs.Io.KnownBytes.{Appends, Keeps}
+use Rattle.std.specs.Prelude.{◌≡◌, ◌↔◌, ◌++◌, [], ℕ, Bool, true, false, IsTrue, IsErrOf, List, Option, Result, Ok, Err, codes}
+use Rattle.std.specs.Io.KnownBytes.{Appends}
 use Rattle.ipcz_script.specs.declared.run_fault.RunFault.{RunFault}
 use Rattle.ipcz_script.specs.declared.run_fault.RunFault.TheVariants as faults
 use Rattle.ipcz_script.specs.Lines.{line}
-use Rattle.ipcz_script.specs.Reading.{max_bytes}
-use Rattle.ipcz_script.specs.Transcript.{IsInput}
-use Rattle.ipcz_device.specs.WholeIo.{AppendsFront, ConsumesAtMost}
+use Rattle.ipcz_script.specs.Transcript.{ReadsAndWritesBy}
+use Rattle.ipcz_device.specs.WholeIo.{AppendsFront}
 use Rattle.ipcz_report.specs.declared.verdict.Verdict.{Verdict}
 use Rattle.ipcz_report.specs.declared.verdict.Verdict.TheVariants as verdicts
 use Rattle.ipcz_report.specs.Reports.{IsReport}
 
 -- what was read and written, by the answer: the whole report, or after a failed write some front of it, and else nothing
 abbrev pub ReadsAndWrites : Option (List ℕ) → Option (List ℕ) → Option (List ℕ) → Option (List ℕ) → Result Verdict RunFault → Type 0
-ReadsAndWrites before after old new (Ok verdict) =
-    (input : List ℕ) × (text : List ℕ) × IsInput before after input × IsReport input verdict text × Appends old new text
-ReadsAndWrites before after old new (Err faults.Write) =
-    (input : List ℕ) × (verdict : Verdict) × (text : List ℕ) × IsInput before after input × IsReport input verdict text
-    × AppendsFront old new text
-ReadsAndWrites before after old new (Err faults.Read) = ConsumesAtMost before after (max_bytes + 1) × Keeps old new
-ReadsAndWrites before after old new (Err faults.OutOfMemory) = ConsumesAtMost before after (max_bytes + 1) × Keeps old new
+ReadsAndWrites = ReadsAndWritesBy IsReport
 
 -- the status after a check: 0 valid, 1 a read or a write failed, 2 refused, 3 want of memory
 unfoldable pub status : Result Verdict RunFault → ℕ

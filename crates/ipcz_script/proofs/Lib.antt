@@ -35,4 +35,5 @@ pub mod StrayLines
 pub mod Taken
 pub mod TextKeys
 pub mod UnsettledLines
+pub mod WholeRuns
 pub mod Writing

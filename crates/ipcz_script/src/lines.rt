@@ -165,10 +165,9 @@ fn push_one(out: &mut Vec<u8>, titles: &Titles, command: &Command, said: &Said) 
     write!(out, "\n")
 }
 
-/// Adds the lines of a command and its answer (docs/PROTOCOL.md, "The transcript").
-///
-/// After an `Err`, which is want of memory, some front of the lines may stand behind what was there.
-pub fn push_lines(
+// Adds the lines of a command and its answer. After an `Err`, which is want of memory, some front of the lines may stand behind what was
+// there.
+pub(crate) fn push_lines(
     out: &mut Vec<u8>,
     titles: &Titles,
     command: &Command,
@@ -182,11 +181,9 @@ pub fn push_lines(
     }
 }
 
-/// Adds the one line that says why some bytes are no script (docs/PROTOCOL.md, "The transcript").
-///
-/// `ScriptFault::OutOfMemory` adds nothing: it is no refusal. After an `Err` some front of the line may stand behind what
-/// was there.
-pub fn push_refused(out: &mut Vec<u8>, why: ScriptFault) -> io::Result<()>
+// Adds the one line that says why some bytes are no script. `ScriptFault::OutOfMemory` adds nothing: it is no refusal. After an `Err` some
+// front of the line may stand behind what was there.
+pub(crate) fn push_refused(out: &mut Vec<u8>, why: ScriptFault) -> io::Result<()>
     ensures line { OnOk result (out.new.items ≡ out.old.items ++ refused_line why) }
 {
     match why {

@@ -12,32 +12,31 @@ use crate::said::Said;
 use crate::script::Script;
 use crate::script_fault::ScriptFault;
 use crate::session::Session;
+use crate::titles::Titles;
 use ipcz_device::{Device, read_up_to, write_whole};
 use std::alloc::{AllocError, Global};
 use std::io::{Read, Write};
 
 const MOST_READ: usize = 1_048_577;
 
+/// Adds the lines of a command and its answer to a transcript, and says whether the answer is that of a settle that came to its
+/// limit (docs/PROTOCOL.md, "The transcript").
+///
+/// After an `Err` some front of the lines may stand behind what was there.
 #[tactic(auto, unfolding(crate::specs::Transcript::is_unsettled))]
-fn is_unsettled(said: &Said) -> bool
-    ensures { result ≡ is_unsettled said.now }
-{
-    matches!(said, Said::Unsettled)
-}
-
-// Adds the lines of a command and its answer.
-fn push_answer(
-    session: &Session,
+pub fn push_answer(
+    text: &mut Vec<u8>,
+    titles: &Titles,
     command: &Command,
     said: &Said,
-    text: &mut Vec<u8>,
-) -> Result<(), AllocError>
-    ensures { OnOk result (text.new.items ≡ text.old.items ++ lines_of session.now.titles command.now said.now) }
+) -> Result<bool, AllocError>
+    ensures lines { OnOk result (text.new.items ≡ text.old.items ++ lines_of titles.now command.now said.now) }
+    ensures unsettled { IfOk result (λ unsettled. unsettled ≡ is_unsettled said.now) }
 {
-    let Ok(()) = push_lines(text, session.titles(), command, said) else {
+    let Ok(()) = push_lines(text, titles, command, said) else {
         return Err(AllocError);
     };
-    Ok(())
+    Ok(matches!(said, Said::Unsettled))
 }
 
 // Runs the commands in order and gives their lines; and whether some settle came to its limit.
@@ -52,8 +51,7 @@ fn run_commands(
     let mut unsettled = false;
     for command in commands {
         let said = session.run(command)?;
-        push_answer(session, command, &said, &mut text)?;
-        let stopped = is_unsettled(&said);
+        let stopped = push_answer(&mut text, session.titles(), command, &said)?;
         unsettled |= stopped;
     }
     Ok((unsettled, text))
@@ -90,8 +88,11 @@ fn output(alloc: Global, input: &[u8]) -> Result<(Outcome, Vec<u8>), AllocError>
     }
 }
 
-fn refused_output(alloc: Global, why: ScriptFault) -> Result<(Outcome, Vec<u8>), AllocError>
-    ensures { IfOk result (λ written. (written.0 ≡ Outcome.Refused why) × (written.1.items ≡ refused_line why)) }
+/// The one line for bytes that are no script, and how their run ends (docs/PROTOCOL.md, "The transcript").
+///
+/// For `ScriptFault::OutOfMemory`, which is no refusal, there is no line.
+pub fn refused_output(alloc: Global, why: ScriptFault) -> Result<(Outcome, Vec<u8>), AllocError>
+    ensures output { IfOk result (λ written. (written.0 ≡ Outcome.Refused why) × (written.1.items ≡ refused_line why)) }
 {
     let mut text = Vec::new(alloc);
     let Ok(()) = push_refused(&mut text, why) else {

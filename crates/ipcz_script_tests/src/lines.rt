@@ -1,7 +1,7 @@
 //! Lines that no script of one thread writes.
 
 use ipcz_base::{Refusal, Sequence};
-use ipcz_script::{Command, Labels, Said, push_lines};
+use ipcz_script::{Command, Labels, Said, push_answer};
 use ipcz_world::Reply;
 use std::alloc::{AllocError, Global};
 use std::test::Fail;
@@ -17,7 +17,7 @@ fn refused(alloc: Global, why: Refusal) -> Result<Said, AllocError> {
 fn prints(labels: &Labels, alloc: Global, node: u8, said: &Said, line: &[u8]) -> bool {
     let mut out = Vec::new(alloc);
     let command = Command::Turn { node, count: 1 };
-    push_lines(&mut out, labels.titles(), &command, said).is_ok() && out.as_slice() == line
+    push_answer(&mut out, labels.titles(), &command, said).is_ok() && out.as_slice() == line
 }
 
 // The same, if it is refused for this.

@@ -1,4 +1,3 @@
 mod Asking
 mod Settling
 mod Turning
-mod Writing

@@ -1,8 +1,6 @@
-ghost use Rattle.std.specs.Prelude.{◌≡◌, ◌≤◌, ◌↔◌, ◌++◌, false, length, IsTrue, IsErrOf, IfOk, OnOk, vec_len};
+ghost use Rattle.std.specs.Prelude.{◌≡◌, ◌≤◌, ◌↔◌, false, length, IsTrue, IsErrOf, IfOk, vec_len};
 ghost use Rattle.ipcz_cell.specs.Making.{AreFirst};
 ghost use Rattle.ipcz_world.specs.Lawful.{IsWithinLimits};
-ghost use Rattle.ipcz_script.specs.Lines.{lines_of, refused_line};
-ghost use Rattle.ipcz_script.specs.Transcript.{is_unsettled};
 ghost use Rattle.ipcz_threads.specs.Rounds.{OpenGates};
 ghost use Rattle.ipcz_threads.specs.Transcripts.{IsFirst, IsOutput, IsRunOutput, IsTranscript, ReadsAndWrites, Writes};
 
@@ -11,8 +9,8 @@ use crate::session::Session;
 use ipcz_device::{Device, read_up_to, write_whole};
 use ipcz_fabric::{Blank, Fabric, FabricName, Gate, NodeCell, start};
 use ipcz_script::{
-    Command, Labels, Outcome, RunFault, Said, Script, ScriptFault, push_lines, push_refused,
-    read_script,
+    Command, Labels, Outcome, RunFault, Script, ScriptFault, push_answer, read_script,
+    refused_output,
 };
 use std::alloc::{AllocError, Global};
 use std::collections::VecDeque;
@@ -21,28 +19,6 @@ use std::marker::Brand;
 use std::thread::Threads;
 
 const MOST_READ: usize = 1_048_577;
-
-#[tactic(auto, unfolding(ipcz_script::specs::Transcript::is_unsettled))]
-fn is_unsettled(said: &Said) -> bool
-    ensures { result ≡ is_unsettled said.now }
-{
-    matches!(said, Said::Unsettled)
-}
-
-// Adds the lines of a command and its answer.
-fn push_answer<'a, F: FabricName, G>(
-    session: &Session<'a, F, G>,
-    command: &Command,
-    said: &Said,
-    text: &mut Vec<u8>,
-) -> Result<(), AllocError>
-    ensures { OnOk result (text.new.items ≡ text.old.items ++ lines_of session.now.labels.titles command.now said.now) }
-{
-    let Ok(()) = push_lines(text, session.titles(), command, said) else {
-        return Err(AllocError);
-    };
-    Ok(())
-}
 
 // Runs the commands in order and gives their lines; and whether some settle came to its limit.
 fn run_commands<'a, R: Threads + Sync, F: FabricName + Send + Sync, G: Gate + Send>(
@@ -57,8 +33,7 @@ fn run_commands<'a, R: Threads + Sync, F: FabricName + Send + Sync, G: Gate + Se
     let mut unsettled = false;
     for command in commands {
         let said = session.run(rt, command)?;
-        push_answer(session, command, &said, &mut text)?;
-        let stopped = is_unsettled(&said);
+        let stopped = push_answer(&mut text, session.titles(), command, &said)?;
         unsettled |= stopped;
     }
     Ok((unsettled, text))
@@ -143,16 +118,6 @@ fn output<R: Threads + Sync, G: Gate + Send>(
         Err(ScriptFault::OutOfMemory) => Err(AllocError),
         Err(why) => refused_output(alloc, why),
     }
-}
-
-fn refused_output(alloc: Global, why: ScriptFault) -> Result<(Outcome, Vec<u8>), AllocError>
-    ensures { IfOk result (λ written. (written.0 ≡ Outcome.Refused why) × (written.1.items ≡ refused_line why)) }
-{
-    let mut text = Vec::new(alloc);
-    let Ok(()) = push_refused(&mut text, why) else {
-        return Err(AllocError);
-    };
-    Ok((Outcome::Refused(why), text))
 }
 
 /// Reads a script to its end, runs it with a thread for each node in its settles, and writes its transcript, whole and in one go after the
