@@ -29,10 +29,10 @@ import time
 Edit = tuple[str, str, str]
 
 HERE = os.path.dirname(os.path.dirname(os.path.abspath(__file__)))
-# the law's crate and those that it stands on
-CRATES = ("ipcz_base", "ipcz_edge", "ipcz_word", "ipcz_seq", "ipcz_router", "ipcz_node", "ipcz_world")
+LAW = "ipcz_world"
 SPEC, CODE = "ipcz_router/specs/Bypass.antt", "ipcz_router/src/router/bypass.rt"
 EFFECTS, TURNING = "ipcz_router/specs/ActEffects.antt", "ipcz_router/src/router/turns.rt"
+CARRYING, PASSING = "ipcz_router/src/router/carrying.rt", "ipcz_router/src/router/passing.rt"
 MOVES, MOVING = "ipcz_router/specs/Calls.antt", "ipcz_router/src/router/calls.rt"
 QUEUES = "ipcz_router/specs/Acts.antt"
 TABLE = "ipcz_router/specs/ActTable.antt"
@@ -379,6 +379,9 @@ TURNS = {
     "a_rest_leaves_its_router_flagged": [
         (QUEUES, "rest r = record r { flagged = false }", "rest r = r"),
         (TURNING, "                self.flagged = false;\n", ""),
+        (PASSING, "        self.flagged = false;\n", "        let _flagged = self.flagged;\n"),
+        (CARRYING, "        let item = self.send_next();\n        self.flagged = false;\n        item\n", "        self.send_next()\n"),
+        (CARRYING, "        self.flagged = false;\n        true\n", "        true\n"),
     ],
     "a_claim_without_a_word_is_made_again": [
         (EFFECTS, "run_dry r = record r { dry = true }", "run_dry r = r"),
@@ -414,12 +417,26 @@ def check(folder: str, *more: str) -> tuple[bool, str]:
     return done.returncode == 0, done.stdout.decode(errors="replace")
 
 
+def lines_of_the_law() -> dict[str, str]:
+    """Returns the lines of `crates.txt` of the law's crate and of those that it stands on."""
+    with open(f"{HERE}/crates.txt") as file:
+        lines = {line.split(":")[0]: line for line in file}
+    found = list[str]()
+    left = [LAW]
+    while left:
+        crate = left.pop()
+        found.append(crate)
+        left += [name for name in lines[crate].split(":")[1].split() if name in lines and name not in (*found, *left)]
+    return {crate: lines[crate] for crate in lines if crate in found}
+
+
 def copy(room: str) -> str:
     """Copies the crates to a folder, and what is kept of their proofs if it has none, and returns where they are."""
     os.makedirs(f"{room}/crates", exist_ok=True)
-    with open(f"{HERE}/crates.txt") as file, open(f"{room}/crates.txt", "w") as cut:
-        cut.writelines(line for line in file if line.split(":")[0] in CRATES)
-    for crate in CRATES:
+    lines = lines_of_the_law()
+    with open(f"{room}/crates.txt", "w") as file:
+        file.writelines(lines.values())
+    for crate in lines:
         kept = f"{room}/crates/{crate}/out"
         ignored = ("out",) if os.path.isdir(kept) else ()
         shutil.copytree(
