@@ -4,9 +4,6 @@
 //! All but its arguments and devices stands in `ipcz_picture`.
 #![tactic(auto)]
 
-#[cfg(test)]
-mod tests;
-
 use ipcz_device::Device;
 use ipcz_picture::program::{asked_for, run_program};
 use std::io;

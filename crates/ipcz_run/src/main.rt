@@ -1,10 +1,10 @@
 //! `ipcz_run` reads a script from standard input, runs it, and writes its transcript to standard output.
+//!
+//! All but its arguments and devices stands in `ipcz_threads`.
 #![tactic(auto)]
 
-pub mod program;
-
 use ipcz_device::Device;
-use program::{asked_for, run_program};
+use ipcz_threads::program::{asked_for, run_program};
 use std::io;
 use std::process::ExitCode;
 

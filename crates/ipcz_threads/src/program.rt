@@ -1,9 +1,9 @@
 ghost use Rattle.std.specs.Prelude.{◌≡◌, false, Ok, OnErr};
-ghost use Rattle.ipcz_run.specs.Statuses.{status, usage, WritesUsage, RunsOnThreads, RunsScript};
+ghost use Rattle.ipcz_threads.specs.Statuses.{status, usage, WritesUsage, RunsOnThreads, RunsScript};
 
+use crate::run::run_threads;
 use ipcz_device::{Device, write_whole};
 use ipcz_script::{Outcome, RunFault, run_script};
-use ipcz_threads::run_threads;
 use std::alloc::{AllocError, Global};
 use std::env;
 use std::env::Env;
@@ -131,6 +131,3 @@ pub fn run_program<T: Threads + Sync, R: Read, W: Write>(
         Err(AllocError) => 3,
     }
 }
-
-#[cfg(test)]
-mod tests;

@@ -1,39 +1,10 @@
-//! What the program says of scripts, and with which status it ends.
-//!
-//! Nothing is promised of the functions here, and what is wanted stands in lists: a test's own proof would else work out each of them.
+//! What `ipcz_check` says of scripts, and with which status it ends.
 
+use crate::arguments::Arguments;
 use ipcz_device::Device;
 use ipcz_device::slow::{SlowReader, SlowWriter};
 use ipcz_report::program::{Asked, asked_for, run_program};
 use std::alloc::{AllocError, Global};
-use std::env::{Env, FillError};
-
-// The arguments that a program is given, its name first.
-#[derive(Drop)]
-struct Arguments<'a> {
-    given: &'a [&'a [u8]],
-}
-
-impl<'a> Env for Arguments<'a> {
-    fn arg(&self, i: usize, buf: &mut [u8]) -> Result<usize, FillError> {
-        let Some(argument) = self.given.get(i) else {
-            return Err(FillError::NotPresent);
-        };
-        if argument.len() > buf.len() {
-            return Err(FillError::TooLong);
-        }
-        buf[..argument.len()].copy_from_slice(argument);
-        Ok(argument.len())
-    }
-
-    fn var(&self, _name: &str, _buf: &mut [u8]) -> Result<usize, FillError> {
-        Err(FillError::NotPresent)
-    }
-
-    fn var_at(&self, _i: usize, _buf: &mut [u8]) -> Result<usize, FillError> {
-        Err(FillError::NotPresent)
-    }
-}
 
 const NAME: &[u8] = b"ipcz_check";
 

@@ -1,43 +1,14 @@
-//! What the program draws, and with which status it ends.
-//!
-//! Nothing is promised of the functions here, and what is wanted stands in lists: a test's own proof would else work out each of them.
+//! What `ipcz_draw` draws, and with which status it ends.
 
+use crate::arguments::Arguments;
 use ipcz_device::Device;
 use ipcz_device::slow::{SlowReader, SlowWriter};
 use ipcz_picture::part::Part;
 use ipcz_picture::program::{Asked, asked_for, run_program};
 use std::alloc::{AllocError, Global};
-use std::env::{Env, FillError};
 
 const TRANSCRIPT: &[u8] =
     b"open x y ok\nput 0>1 0\nn0: idle\nn1: idle\nsettled\nget x 0 [] \"<&\"\n";
-
-// The arguments that a program is given, its name first.
-#[derive(Drop)]
-struct Arguments<'a> {
-    given: &'a [&'a [u8]],
-}
-
-impl<'a> Env for Arguments<'a> {
-    fn arg(&self, i: usize, buf: &mut [u8]) -> Result<usize, FillError> {
-        let Some(argument) = self.given.get(i) else {
-            return Err(FillError::NotPresent);
-        };
-        if argument.len() > buf.len() {
-            return Err(FillError::TooLong);
-        }
-        buf[..argument.len()].copy_from_slice(argument);
-        Ok(argument.len())
-    }
-
-    fn var(&self, _name: &str, _buf: &mut [u8]) -> Result<usize, FillError> {
-        Err(FillError::NotPresent)
-    }
-
-    fn var_at(&self, _i: usize, _buf: &mut [u8]) -> Result<usize, FillError> {
-        Err(FillError::NotPresent)
-    }
-}
 
 const NAME: &[u8] = b"ipcz_draw";
 
