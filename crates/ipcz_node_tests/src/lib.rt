@@ -1,6 +1,0 @@
-//! Tests of nodes through their public calls. They stand in a crate of their own, so that
-//! `ipcz_node` is proved once.
-#![tactic(auto)]
-
-#[cfg(test)]
-mod trial;
