@@ -26,6 +26,9 @@ PLANTED = {
     "harmless_in_what_calls_it": ("NOT REFUSED", EDGE, "        self.primary.end()", "        let slot = &self.primary; slot.end()"),
     "harmless_two_calls_above_it": ("NOT REFUSED", EDGE, "self.primary().is_none() &&", "!self.primary().is_some() &&"),
     "wrong_in_what_calls_it": ("refused", EDGE, "is_link(self.primary(), link, side) ||", "self.decays() ||"),
+    # (these two change copies of the function that the one above changes)
+    "wrong_beside_a_wrong_one": ("refused", EDGE, "|| is_link(self.decaying(), link, side)", "|| is_link(self.decaying(), link, side.opposite())"),
+    "harmless_beside_wrong_ones": ("NOT REFUSED", EDGE, "|| is_link(self.decaying(), link, side)", "|| { is_link(self.decaying(), link, side) }"),
     "does_not_compile": ("BAD EDIT", EDGE, "        self.length_from = Some(length);", "        self.length_from = Some(true);"),
     "stands_nowhere": ("BAD EDIT", EDGE, "self.tertiary.end()", "self.primary.end()"),
     "stands_twice": ("BAD EDIT", EDGE, "LinkSlot::of(None)", "LinkSlot::of(Some(link))"),
@@ -50,11 +53,13 @@ def plant(folder: pathlib.Path) -> None:
 def told_of_answers(crate: pathlib.Path, *whats: str) -> str:
     """Returns what the tool tells of the edit `wrong_callee` if a check says this of the answers of its function."""
     edit = try_edits.Edit(crate, crate / "edits" / "wrong_callee.edit")
+    room = try_edits.Room(crate, crate.with_name("room"), [edit])
     (function,) = edit.functions
     path = "/".join(function.name.split("::")[1:])
     errors = [f"./proofs/{path}/Answers.antt:{at}:1: error: `goal`: {what}" for at, what in enumerate(whats, 1)]
     lines = [*errors, f"fn {function.name}: not proved: see its answers", "logic=not-proved"]
-    return try_edits.Said(crate, 1, "\n".join(lines), False).verdict(edit)[0]
+    room.remove()
+    return try_edits.Said(room, 1, "\n".join(lines), False).verdict(edit)[0]
 
 
 def tried(room: pathlib.Path, **more: str) -> tuple[str, int, dict[str, str]]:

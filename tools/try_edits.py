@@ -12,11 +12,11 @@ gone, so that the text of a proof doesn't fit and no goal was asked; ONLY A LIMI
 of.
 
 **Edits of bodies.** The proof of a function uses the contracts of those that it calls, and not their bodies, so whether a goal of its own is
-proved has nothing to do with any other body. So edits that change nothing but bodies are made together, no two in one function. A constant
-counts as a part of the bodies that name it. Only the
-functions that they change are checked. Of each other function only the contract is used, as if its proof were a hole, since `rt ci` proves it as
-it is. A function that only calls what isn't proved has no such goal, and rattle's line of the function tells the two apart. What isn't refused
-so is tried once more, by itself.
+proved has nothing to do with any other body. So edits that change nothing but bodies are made together. Of several in one function each but the
+first changes a copy of it, which stands behind it under another name, with the same contract and proof files. A constant counts as a part of the
+bodies that name it. Only the functions that they change are checked. Of each other function only the contract is used, as if its proof were a
+hole, since `rt ci` proves it as it is. A function that only calls what isn't proved has no such goal, and rattle's line of the function tells the
+two apart. What isn't refused so is tried once more, by itself, in the function.
 
 **Other edits** (a definition, a clause, a type) are tried one by one: the crate, over what a check of it as it stands has proved, must
 not be proved. The functions that an edit names in a line `refused by: PATH, PATH`, or else the crate's laws, are asked first, and only the
@@ -140,12 +140,14 @@ def modules_of(crate: pathlib.Path, name: str) -> list[list[str]]:
 
 @dataclasses.dataclass(frozen=True)
 class Function:
-    """A function with a body: where it stands, rattle's name of it, if that is clear from the text, and the lines of its body's braces."""
+    """A function with a body: where it stands, rattle's name of it, if that is clear from the text, the line of its head, and those of its body's
+    braces."""
 
     file: str
     owner: tuple[str, str] | None
     short: str
     name: str | None = dataclasses.field(compare=False)
+    head: int = dataclasses.field(compare=False)
     begin: int = dataclasses.field(compare=False)
     end: int = dataclasses.field(compare=False)
 
@@ -179,7 +181,7 @@ def functions_in(crate: pathlib.Path, file: str, text: str) -> list[Function]:
             name = "::".join((crate.name, *modules[0], *inner, it[2]))
             # (what rattle makes of a trait with other parameters than one name isn't clear from the text)
             name = name if len(modules) == 1 and re.fullmatch(r"[\w:]+", name) else None
-            found.append(Function(file, owner, it[2], name, *braces))
+            found.append(Function(file, owner, it[2], name, at, *braces))
     return found
 
 
@@ -295,24 +297,108 @@ class Edit:
                 return True
         return False
 
-    def make(self, room: pathlib.Path) -> None:
-        """Makes the edit in a copy of the crate. What others of other functions change there are other lines."""
-        for file, found in self.lines.items():
-            lines = (room / file).read_text().split("\n")
-            for at, line in found.items():
-                lines[at] = line
-            (room / file).write_text("\n".join(lines))
+    def is_within(self) -> bool:
+        """Returns whether all its lines stand within the functions that it changes, and none declares a constant."""
+        return all(any(it.file == file and it.begin < at < it.end for it in self.functions) for file, found in self.lines.items() for at in found)
 
 
-def parted(edits: Iterable[Edit]) -> list[list[Edit]]:
-    """Parts edits of bodies so that no function is changed by two of a batch."""
+def has_copies(crate: pathlib.Path, function: Function) -> bool:
+    """Returns whether copies of a function may stand beside it: not of a trait's, of one that calls itself, or of one with a proof of its own."""
+    folder = crate.joinpath("proofs", *function.name.split("::")[1:])
+    return not (function.owner and function.owner[1] or (folder.parent / f"+{function.short}").exists() or (folder / "Proof.antt").exists())
+
+
+def parted(crate: pathlib.Path, edits: Iterable[Edit]) -> list[list[Edit]]:
+    """Parts edits of bodies so that of those in one batch that change the same function each but the first can change a copy of it."""
+
+    def stands_beside(edit: Edit, batch: list[Edit]) -> bool:
+        same = [it for it in batch if it.functions & edit.functions]
+        # (a constant that one changes is changed for the copies, too)
+        return not same or all(it.is_within() for it in (edit, *same)) and all(has_copies(crate, it) for it in edit.functions)
+
     batches: list[list[Edit]] = []
     for edit in edits:
-        batch = next((it for it in batches if not any(edit.functions & other.functions for other in it)), None)
+        batch = next((it for it in batches if stands_beside(edit, it)), None)
         if batch is None:
             batches.append(batch := [])
         batch.append(edit)
     return batches
+
+
+# ---- Rooms ----
+
+COPY = re.compile(r"_edit\d+\b")
+
+
+class Room:
+    """A copy of a crate in which edits are made: which functions of the copy each of them changes, and where the lines of its files come from."""
+
+    def __init__(self, crate: pathlib.Path, folder: pathlib.Path, edits: list[Edit]) -> None:
+        self.crate, self.folder = crate, folder
+        self.changed: dict[Edit, frozenset[Function]] = {}
+        self.lines: dict[str, list[tuple[int, str]]] = {}
+        folder.mkdir(parents=True)
+        for part in PARTS:
+            if (crate / part).is_dir():
+                shutil.copytree(crate / part, folder / part)
+        seen: set[Function] = set()
+        aside = []
+        for edit in edits:
+            if edit.functions & seen:
+                aside.append(edit)
+            else:
+                seen |= edit.functions
+                self.changed[edit] = edit.functions
+                self.change(edit)
+        copies = [(function, edit, f"{function.short}_edit{at}") for at, edit in enumerate(aside) for function in edit.functions]
+        # (from the last on, so that what stands above stays where it was)
+        for function, edit, name in sorted(copies, key=lambda it: -it[0].end):
+            self.add_copy(function, edit, name)
+        for file, lines in self.lines.items():
+            (folder / file).write_text("\n".join(line for _, line in lines))
+        for edit in aside:
+            names = {(it.file, it.owner, name) for it, of, name in copies if of is edit}
+            self.changed[edit] = frozenset(it for file in edit.lines for it in self.functions_in(file) if (it.file, it.owner, it.short) in names)
+
+    def lines_of(self, file: str) -> list[tuple[int, str]]:
+        return self.lines.setdefault(file, list(enumerate((self.crate / file).read_text().split("\n"))))
+
+    def change(self, edit: Edit) -> None:
+        for file, found in edit.lines.items():
+            lines = self.lines_of(file)
+            for at, line in found.items():
+                lines[at] = at, line
+
+    def add_copy(self, function: Function, edit: Edit, name: str) -> None:
+        """Adds a copy of a function behind it, as an edit changes it, with its attributes and its files of proofs."""
+        text = (self.crate / function.file).read_text().split("\n")
+        first = function.head
+        while first and text[first - 1].strip() and not text[first - 1].endswith(("{", "}", ";")):
+            first -= 1
+        found = edit.lines.get(function.file, {})
+        copy = [(at, found.get(at, text[at])) for at in range(first, function.end + 1)]
+        at, head = copy[function.head - first]
+        copy[function.head - first] = at, head.replace(f"fn {function.short}", f"fn {name}", 1)
+        self.lines_of(function.file)[function.end + 1 : function.end + 1] = copy
+        path = function.name.split("::")[1:]
+        folder = self.folder.joinpath("proofs", *path)
+        if folder.is_dir():
+            to = shutil.copytree(folder, folder.with_name(name))
+            was = re.compile(rf"\.{re.escape('.'.join(path))}(?=\.)")
+            for it in to.glob("**/*.antt"):
+                it.write_text(was.sub("." + ".".join((*path[:-1], name)), it.read_text()))
+
+    def functions_in(self, file: str) -> list[Function]:
+        lines = self.lines.get(file)
+        text = (self.crate / file).read_text() if lines is None else "\n".join(line for _, line in lines)
+        return functions_in(self.crate, file, text)
+
+    def original(self, file: str, line: int) -> int:
+        """Returns which line of the crate's file a line of the copy is, both counted from 1."""
+        return self.lines[file][line - 1][0] + 1 if file in self.lines else line
+
+    def remove(self) -> None:
+        shutil.rmtree(self.folder, ignore_errors=True)
 
 
 # ---- Checks ----
@@ -336,8 +422,8 @@ RESERVED = re.compile(r"^\./proofs/(\S+)/Proof\.antt: error\[reserved-name\]", r
 class Said:
     """What a check of a crate with some edits said."""
 
-    def __init__(self, crate: pathlib.Path, status: int, text: str, is_late: bool) -> None:
-        self.crate, self.status, self.text, self.is_late = crate, status, text, is_late
+    def __init__(self, room: Room, status: int, text: str, is_late: bool) -> None:
+        self.room, self.status, self.text, self.is_late = room, status, text, is_late
         self.last = text.strip().rpartition("\n")[2]
         self.is_proved = status == 0 and self.last.startswith("logic=proved")
         # (with any other last line rattle has judged nothing)
@@ -347,7 +433,7 @@ class Said:
 
     def open_goal(self, edit: Edit) -> str | None:
         """Returns the first unproved goal of a function's own, of those that the edit changes, or none."""
-        for function in edit.functions:
+        for function in self.room.changed[edit]:
             # (its closures have lines of their own)
             for name in [it for it in self.functions if it == function.name or "::fn::" in it and it.replace("::fn::", "::").startswith(f"{function.name}::")]:
                 if own := OPEN.match(self.functions[name]):
@@ -359,9 +445,9 @@ class Said:
     def noted(self, function: Function) -> str | None:
         """Returns the first unproved goal that is placed in the function."""
         for file, line, what in NOTE.findall(self.text):
-            near = [it for it in functions_in(self.crate, file, (self.crate / file).read_text()) if int(line) <= it.end + 1]
+            near = [it for it in self.room.functions_in(file) if int(line) <= it.end + 1]
             if near and near[0] == function:
-                return f"{file}:{line}: {what}"
+                return f"{file}:{self.room.original(file, int(line))}: {what}"
         return None
 
     def answered(self, name: str) -> list[str]:
@@ -385,7 +471,7 @@ class Said:
         return UNKNOWN, f"its check ended with status {self.status}: {self.last}"
 
     def of_bodies(self, edit: Edit) -> tuple[str, str]:
-        told = {it.name: self.functions.get(it.name, "nothing is told of it") for it in edit.functions}
+        told = {it.name: self.functions.get(it.name, "nothing is told of it") for it in self.room.changed[edit]}
         if goal := self.open_goal(edit):
             return REFUSED, goal
         if all(WELL.match(it) for it in told.values()):
@@ -551,6 +637,7 @@ class Trial:
         return False
 
     def tell(self, edit: Edit, what: str, why: str) -> None:
+        why = COPY.sub("", why)
         with self.lock:
             self.verdicts[edit] = what, why
             print(f"{edit.name}: {what}: {why[:MOST_LETTERS]}", flush=True)
@@ -566,34 +653,31 @@ class Trial:
         return self.room / f"{name}{next(self.numbers)}"
 
     def check(self, edits: list[Edit], over: pathlib.Path, asked: frozenset[Function] = frozenset()) -> Said:
-        """Checks a copy of the crate with these edits, over what the folder holds: whole, or only the functions asked for, with each other taken by its contract."""
-        room = self.next_room("copy")
-        room.mkdir(parents=True)
-        for part in PARTS:
-            if (self.crate / part).is_dir():
-                shutil.copytree(self.crate / part, room / part)
-        for edit in edits:
-            edit.make(room)
+        """Checks a copy of the crate with these edits, over what the folder holds: whole, or only the functions that are asked for, or whose bodies are
+        changed, with each other taken by its contract."""
+        room = Room(self.crate, self.next_room("copy"), edits)
         flags = ["--incremental", str(over)]
+        if changed := frozenset().union(*room.changed.values()):
+            asked = changed
         if asked:
-            self.leave_open(room, asked)
+            self.leave_open(room.folder, asked)
             flags += ["--allow-holes", *(word for it in sorted(it.name for it in asked) for word in ("--only", it.partition("::")[2]))]
         for is_last in (False, True):
             with self.turns:
-                status, text, is_late, seconds = ran(words(self.crate.name, *flags), room)
+                status, text, is_late, seconds = ran(words(self.crate.name, *flags), room.folder)
             with self.lock:
                 self.seconds += seconds
             # (killed, most likely for memory: once more)
             if status != -signal.SIGKILL or is_late or is_last:
                 break
         if "EDIT_LOGS" in os.environ:
-            pathlib.Path(os.environ["EDIT_LOGS"], f"{self.crate.name}.{room.name}").write_text("".join(f"{it.name}\n" for it in edits) + f"\n{text}")
-        shutil.rmtree(room, ignore_errors=True)
+            pathlib.Path(os.environ["EDIT_LOGS"], f"{self.crate.name}.{room.folder.name}").write_text("".join(f"{it.name}\n" for it in edits) + f"\n{text}")
+        room.remove()
         closed = {"::".join((self.crate.name, *it.split("/"))) for it in RESERVED.findall(text)} - self.closed
         if asked and closed:
             self.closed |= closed
             return self.check(edits, over, asked)
-        return Said(self.crate, status, text, is_late)
+        return Said(room, status, text, is_late)
 
     def leave_open(self, room: pathlib.Path, asked: frozenset[Function]) -> None:
         """Writes a hole as the proof of each function but those asked for. A trait's and one that calls itself keep their own proofs."""
@@ -614,7 +698,7 @@ class Trial:
     def together(self, edits: list[Edit], over: pathlib.Path) -> None:
         """Tries edits of bodies in one check, what isn't refused so once more by itself, and those of a check that judges nothing (one doesn't
         compile, say) in halves."""
-        said = self.check(edits, over, frozenset().union(*(it.functions for it in edits)))
+        said = self.check(edits, over)
         if len(edits) == 1:
             self.tell(edits[0], *said.verdict(edits[0]))
         elif not said.is_judged:
@@ -674,7 +758,7 @@ class Trial:
             linked(kept, self.room / "kept")
         else:
             (self.room / "kept").mkdir()
-        for batch in parted([it for it in edits if it.functions]):
+        for batch in parted(self.crate, [it for it in edits if it.functions]):
             self.together(batch, self.room / "kept")
         others = [it for it in edits if not it.functions]
         if others:

@@ -1,7 +1,7 @@
 //! Hubs shared by threads.
 ghost use Rattle.std.specs.Prelude.{◌≡◌};
 
-use crate::tables::{both, hub_of, routers_of, sends, world_of};
+use crate::hub_tables::{both, hub_of, routers_of, sends, world_of};
 use ipcz_base::{End, Side};
 use ipcz_fabric::{Blank, FabricName, Gate, Got, Hub, Portal, start, work};
 use ipcz_world::{Reply, Step, World};

@@ -1,13 +1,32 @@
-//! Tests of hubs, portals and workers through their public calls. They stand in a crate of their own, so that `ipcz_fabric` is proved once.
+//! Tests of cells, and of hubs, portals and workers, through their public calls. They stand in a crate of their own, so that `ipcz_cell` and
+//! `ipcz_fabric` are proved once, and in one, so that the drops of what a cell holds are.
 #![tactic(auto)]
 
 #[cfg(test)]
+mod cell_tables;
+#[cfg(test)]
+mod cell_waits;
+#[cfg(test)]
+mod cells;
+#[cfg(test)]
+mod closes;
+#[cfg(test)]
 mod counts;
+#[cfg(test)]
+mod ends;
+#[cfg(test)]
+mod hub_tables;
+#[cfg(test)]
+mod hub_waits;
 #[cfg(test)]
 mod hubs;
 #[cfg(test)]
+mod locks;
+#[cfg(test)]
+mod opens;
+#[cfg(test)]
+mod owned;
+#[cfg(test)]
 mod portals;
 #[cfg(test)]
-mod tables;
-#[cfg(test)]
-mod waits;
+mod race;

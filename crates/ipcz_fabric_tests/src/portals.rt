@@ -1,7 +1,7 @@
 //! What portals, hubs and workers answer on one thread, each in a hub of two nodes.
 ghost use Rattle.std.specs.Prelude.{◌≡◌};
 
-use crate::tables::{hub_of, sends};
+use crate::hub_tables::{hub_of, sends};
 use ipcz_base::{End, Refusal};
 use ipcz_fabric::{Blank, FabricName, Gate, Hub, Portal, start, work};
 use std::alloc::Global;

@@ -1,4 +1,0 @@
-use Rattle.ipcz_cell_tests.proofs.ends.lives.Given as goal
-
-abbrev pub ghosts-lives_on : goal.ghosts-lives_on
-ghosts-lives_on a = record { table = a.blank }

@@ -1,4 +1,0 @@
-use Rattle.ipcz_cell_tests.proofs.opens.a_claim_by_itself_is_used_by_the_next_open.Given as goal
-
-abbrev pub ghosts-claim_is_kept : goal.ghosts-claim_is_kept
-ghosts-claim_is_kept g a = record { table = a.blank }

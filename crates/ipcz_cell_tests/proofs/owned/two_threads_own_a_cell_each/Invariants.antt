@@ -1,4 +1,0 @@
-use Rattle.ipcz_cell_tests.proofs.owned.two_threads_own_a_cell_each.Given as goal
-
-abbrev pub ghosts-talk : goal.ghosts-talk
-ghosts-talk g a = record { table = a.blank }
