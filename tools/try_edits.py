@@ -388,6 +388,16 @@ class Room:
             for it in to.glob("**/*.antt"):
                 it.write_text(was.sub("." + ".".join((*path[:-1], name)), it.read_text()))
 
+    def empty(self, functions: set[Function]) -> None:
+        """Puts a loop without end in place of the bodies of functions. One that makes a constant, or whose body tells the type of its result, keeps it."""
+        for file in {it.file for it in functions}:
+            lines = (self.folder / file).read_text().split("\n")
+            for it in self.functions_in(file):
+                head = "\n".join(lines[it.head : it.begin + 1])
+                if it in functions and it.end > it.begin + 1 and not re.search(r"const fn|-> impl\b", head):
+                    lines[it.begin + 1 : it.end] = ["loop {}", *[""] * (it.end - it.begin - 2)]
+            (self.folder / file).write_text("\n".join(lines))
+
     def functions_in(self, file: str) -> list[Function]:
         lines = self.lines.get(file)
         text = (self.crate / file).read_text() if lines is None else "\n".join(line for _, line in lines)
@@ -660,7 +670,7 @@ class Trial:
         if changed := frozenset().union(*room.changed.values()):
             asked = changed
         if asked:
-            self.leave_open(room.folder, asked)
+            self.leave_open(room, asked)
             flags += ["--allow-holes", *(word for it in sorted(it.name for it in asked) for word in ("--only", it.partition("::")[2]))]
         for is_last in (False, True):
             with self.turns:
@@ -679,13 +689,15 @@ class Trial:
             return self.check(edits, over, asked)
         return Said(room, status, text, is_late)
 
-    def leave_open(self, room: pathlib.Path, asked: frozenset[Function]) -> None:
-        """Writes a hole as the proof of each function but those asked for. A trait's and one that calls itself keep their own proofs."""
+    def leave_open(self, room: Room, asked: frozenset[Function]) -> None:
+        """Writes a hole as the proof of each function but those asked for, and empties its body, so that what it calls isn't read either. A trait's
+        and one that calls itself keep their own bodies and proofs."""
+        left = set()
         for it in self.all:
             if it in asked or not it.name or it.name in self.closed or it.owner and it.owner[1] or "tests" in it.file or it.short == "main":
                 continue
             path = it.name.split("::")[1:]
-            folder = room.joinpath("proofs", *path)
+            folder = room.folder.joinpath("proofs", *path)
             inside = "\n".join((self.crate / it.file).read_text().split("\n")[it.begin + 1 : it.end])
             if re.search(rf"\b{it.short}\(", inside) or (folder.parent / f"+{it.short}").exists():
                 continue
@@ -694,6 +706,8 @@ class Trial:
             stated = ".".join(("Rattle", self.crate.name, "proofs", *path, "Statement"))
             text = f"use {stated} as stated\n\npub {it.short}_spec : {{M : Type 1}} → stated.statement M\n{it.short}_spec = ?\n"
             (folder / "Proof.antt").write_text(text)
+            left.add(it)
+        room.empty(left)
 
     def together(self, edits: list[Edit], over: pathlib.Path) -> None:
         """Tries edits of bodies in one check, what isn't refused so once more by itself, and those of a check that judges nothing (one doesn't

@@ -12,9 +12,9 @@ law, for who writes a turn. Names joined by `+` are turned at once, which saves 
 side by side.
 
 If a proof says a definition a second time, the turn may change that text too. A turn counts as refused only if a lemma fails that says that
-the law holds: one whose statement ends in a group of the invariant or in a fact that is kept beside it, or one of the folders of
-the laws themselves, or one of the few that IsAwake rests on. Else what fails only says a definition a second time, and is named as a copy
-of its text.
+the law holds: one whose statement ends in a group of the invariant or in a fact that is kept beside it, or one of the folder of
+the laws themselves, or one of the few by which the law reads the tables of acts. Else what fails only says a definition a second time, and is
+named as a copy of its text.
 """
 import argparse
 import os
@@ -56,12 +56,14 @@ ACT_RANKS = "ipcz_world/proofs/lawful/NodeActs.antt"
 HAND_RANKS, WORTHS = "ipcz_world/proofs/lawful/NodeHands.antt", "ipcz_world/proofs/lawful/RouterWorths.antt"
 CHOOSING = "ipcz_node/proofs/Choosing.antt"
 PEERS = [f"ipcz_world/proofs/acts/BypassPeer{part}.antt" for part in ("", "Around", "Links", "Messages", "Numbers", "Records", "Stages")]
+LONE = "ipcz_router/proofs/LoneRouters.antt"
 NEXT, NEXT_AT = "ipcz_router/proofs/NextActs.antt", "ipcz_router/proofs/router/Router/next_at_terminal/Answers.antt"
 IF_WAKE = "        if self.is_possible(RouterAct::Wake) {\n            return RouterAct::Wake;\n        }\n"
 NEXT_IS = "next_act r ≡ (if is_possible r Mark then Mark else if is_possible r Wake then Wake else Rest)"
 WAKES = "sym c.is_possible-2.ensures ∙ c.if-is_possible-2.{} in\n    sym (rw "
 SENT = "sent = messages.AcceptBypass o (opposite r.end.side) fresh r.out_queue.current"
 SENDING = "use Rattle.ipcz_router.specs.declared.sending.Sending.{Sending}"
+COMES_IN = "self.new.router ≡ {}record self.old.router {{\n          mark_seen = self.old.router.mark_seen || (is_terminal self.old.router && is_mark);\n        }}{} }}\n"
 REACH = (SPEC, SENDING, f"use Rattle.ipcz_seq.specs.Queue.{{reach}}\n{SENDING}")
 
 # each turn: the file below crates/, a text that stands in it once, and the text in its place
@@ -144,6 +146,7 @@ TURNS = {
             "record r { in_queue = push_at r.in_queue n item; mark_seen = r.mark_seen || (is_terminal r && is_mark item); tried = false }",
         ),
         (MOVING, "&& is_mark);\n        self.rouse();\n", "&& is_mark);\n        self.tried = false;\n"),
+        (MOVING, COMES_IN.format("rouse (", ")"), COMES_IN.replace("is_mark);", "is_mark);\n          tried = false;").format("", "")),
         (
             WORTHS,
             "c r true n item = omega (arith, more-rouse c r)",
@@ -207,6 +210,8 @@ TURNS = {
         (TURNING, f"{IF_WAKE}        RouterAct::Rest\n", IF_WAKE.replace("return RouterAct::Wake", "return RouterAct::Rest") + "        RouterAct::Rest\n"),
         (NEXT, f"is_possible r SendOut ≡ false → {NEXT_IS}", "is_possible r SendOut ≡ false → next_act r ≡ (if is_possible r Mark then Mark else Rest)"),
         (NEXT, f"true →\n        {NEXT_IS}", "true →\n        next_act r ≡ (if is_possible r Mark then Mark else Rest)"),
+        (LONE, "Leave ∷ Mark ∷ Wake ∷ Claim", "Leave ∷ Mark ∷ Claim"),
+        (LONE, "send ∙ rw (mark, wake) refl", "send ∙ rw mark refl"),
         (NEXT_AT, f"≡ true = {WAKES.format('true')}(marks, wakes)", f"≡ true = {WAKES.format('true')}marks"),
         (NEXT_AT, f"≡ false = {WAKES.format('false')}(marks, wakes)", f"≡ false = {WAKES.format('false')}marks"),
     ],
@@ -358,7 +363,17 @@ TURNS = {
     "a_proxy_leaves_before_it_has_sent_gone": [
         (TABLE, "(has_no_link r || r.gone_sent)", "(has_no_link r || has_gone_next r)"),
         (TABLE, "Acts.{way_out, way_in}", "Acts.{way_out, way_in, has_gone_next}"),
-        (TURNING, "(self.has_no_link() || self.gone_sent)", "(self.has_no_link() || matches!(self.in_queue.next(), Some(Item::Gone)))"),
+        (
+            TURNING,
+            "specs::ActTable::is_possible))]\n    fn can_leave(",
+            "specs::ActTable::is_possible, crate::specs::Acts::item_passes))]\n    fn can_leave(",
+        ),
+        (
+            TURNING,
+            "        self.inward.is_some() && (self.has_no_link() || self.gone_sent)\n",
+            "        let has_gone = match self.in_queue.next() {\n            Some(item) => item.is_gone(),\n            None => false,\n        };\n"
+            "        self.inward.is_some() && (self.has_no_link() || has_gone)\n",
+        ),
     ],
     "a_sink_that_is_sent_gone_stays": [
         (EFFECTS, "leaves_by r Discard = has_gone_next r", "leaves_by r Discard = false"),
@@ -400,15 +415,21 @@ HARMLESS = {"a_wake_stays_in_the_word"}
 # what a lemma of the law comes to: the groups of the invariant, what an act of a bypass owes to Positions and what Told weighs, and the
 # facts that are kept beside the invariant
 GROUPS = """
-Inv OpenInv Counts Ordered Shape Links Positions Stands Words Spares BypassRecords Stages Told Moves Terminals EndPlaces
-BooksKept Items Order ProxyNumbers FreshNumbers Conserved HeldOnce HasNoStrays AreFlagged IsAwake AreAwake IsAgreed
-AreAgreed FlagsAgree LengthsOwe ProxyOwes control_weight AreSourced Begins HasWaker HaveWakers HaveWakersOn IsRanked
-IsOwing IsBounded
+Inv OpenInv Counts Ordered IsOrdered Shape HasShape Links HasLinks Positions HasPositions Stands Words HasWord Spares BypassRecords
+IsBypassRecorded LiveLinks Stages HasStage Told Moves Terminals HasTerminal EndPlaces HasEndsHere BooksKept RetiredEnds Gones Items Order
+ProxyNumbers FreshNumbers HasFreshNumbers Conserved HeldOnce HasNoStrays AreFlagged IsAwake AreAwake IsAgreed AreAgreed FlagsAgree
+LengthsOwe ProxyOwes control_weight AreSourced Begins HasWaker HaveWakers HaveWakersOn IsRanked IsOwing IsBounded
 """.split()
 # and the folder in which each lemma is one
 FOLDERS = ("lawful/",)
-# what IsAwake rests on: an act but rest leaves its router flagged, an item that comes flags it, and if rest comes next no act is possible
-AWAKE = {"apply-flagged", "accept-flagged", "rest-idle"}
+# The lemmas by which the law reads the tables of acts. An act but rest leaves its router flagged, an item that comes flags it, and if rest comes
+# next no act is possible; a sink that retires holds the lock, has discarded its peer's mark and has nothing to send; and a proxy that leaves has
+# no link, or has sent Gone.
+READINGS = {
+    "runs/Flagging.antt": ("apply-flagged", "accept-flagged", "listed-idle", "rest-idle"),
+    "acts/Retiring.antt": ("holds", "noted", "drained"),
+    "acts/Leaving.antt": ("leave-tells",),
+}
 
 
 def check(folder: str, *more: str) -> tuple[bool, str]:
@@ -478,7 +499,7 @@ def failures(crates: str, text: str) -> list[tuple[bool, str]]:
     found = []
     for name, line, lemma in re.findall(r"\./proofs/(\S+\.antt):(\d+):\d+: error: `([^`]+)`", text):
         ends_in = conclusion(f"{crates}/ipcz_world/proofs/{name}", int(line), lemma)
-        is_law = name.startswith(FOLDERS) or lemma in AWAKE or ends_in in GROUPS
+        is_law = name.startswith(FOLDERS) or lemma in READINGS.get(name, ()) or ends_in in GROUPS
         found.append((is_law, f"`{lemma}` of {name[:-5]}"))
     return list(dict.fromkeys(found))
 
