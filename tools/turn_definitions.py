@@ -12,7 +12,7 @@ law, for who writes a turn. Names joined by `+` are turned at once, which saves 
 side by side.
 
 If a proof says a definition a second time, the turn may change that text too. A turn counts as refused only if a lemma fails that says that
-the law holds: one whose statement ends in a group of the invariant or in a fact that is kept beside it, or one of the folder of
+the law holds: one whose statement ends in a group of the invariant or in a fact that is kept beside it, or one in the folder of
 the laws themselves, or one of the few by which the law reads the tables of acts. Else what fails only says a definition a second time, and is
 named as a copy of its text.
 """
@@ -63,7 +63,6 @@ NEXT_IS = "next_act r ≡ (if is_possible r Mark then Mark else if is_possible r
 WAKES = "sym c.is_possible-2.ensures ∙ c.if-is_possible-2.{} in\n    sym (rw "
 SENT = "sent = messages.AcceptBypass o (opposite r.end.side) fresh r.out_queue.current"
 SENDING = "use Rattle.ipcz_router.specs.declared.sending.Sending.{Sending}"
-COMES_IN = "self.new.router ≡ {}record self.old.router {{\n          mark_seen = self.old.router.mark_seen || (is_terminal self.old.router && is_mark);\n        }}{} }}\n"
 REACH = (SPEC, SENDING, f"use Rattle.ipcz_seq.specs.Queue.{{reach}}\n{SENDING}")
 
 # each turn: the file below crates/, a text that stands in it once, and the text in its place
@@ -146,7 +145,8 @@ TURNS = {
             "record r { in_queue = push_at r.in_queue n item; mark_seen = r.mark_seen || (is_terminal r && is_mark item); tried = false }",
         ),
         (MOVING, "&& is_mark);\n        self.rouse();\n", "&& is_mark);\n        self.tried = false;\n"),
-        (MOVING, COMES_IN.format("rouse (", ")"), COMES_IN.replace("is_mark);", "is_mark);\n          tried = false;").format("", "")),
+        (MOVING, "≡ rouse (record self.old.router {\n", "≡ record self.old.router {\n          tried = false;\n"),
+        (MOVING, "is_mark);\n        }) }\n", "is_mark);\n        } }\n"),
         (
             WORTHS,
             "c r true n item = omega (arith, more-rouse c r)",
