@@ -14,13 +14,13 @@ of.
 **Edits of bodies.** The proof of a function uses the contracts of those that it calls, and not their bodies, so whether a goal of its own is
 proved has nothing to do with any other body. So edits that change nothing but bodies are made together. Of several in one function each but the
 first changes a copy of it, which stands behind it under another name, with the same contract and proof files. A constant counts as a part of the
-bodies that name it. Only the functions that they change are checked. Of each other function only the contract is used, as if its proof were a
-hole, since `rt ci` proves it as it is. A function that only calls what isn't proved has no such goal, and rattle's line of the function tells the
-two apart. What isn't refused so is tried once more, by itself, in the function.
+bodies that name it. Only the functions that they change are checked. Of each other function only the contract is used: its proof is a hole,
+since `rt ci` proves it as it is, and its body is left out, so that what it calls isn't read. A function that only calls what isn't proved has no
+such goal, and rattle's line of the function tells the two apart. What isn't refused so is tried once more, by itself, in the function.
 
 **Other edits** (a definition, a clause, a type) are tried one by one: the crate, over what a check of it as it stands has proved, must
-not be proved. The functions that an edit names in a line `refused by: PATH, PATH`, or else the crate's laws, are asked first, and only the
-contract of all else is used; if they are proved, the whole crate is checked.
+not be proved. The functions that an edit names in a line `refused by: PATH, PATH`, or else the crate's laws, which are its functions without a
+statement, are asked first, and only the contract of all else is used; if they are proved, the whole crate is checked.
 
 All of it happens on copies. The libraries below are made by `rt lib`, and a check begins with what `rt check` kept in the folders `out`. With
 `--beside` both are from nothing: a crate is tried once that run has built the libraries below it. Then what is as it must be is kept for later
@@ -623,7 +623,7 @@ class Trial:
     def __init__(self, name: str, folders: Iterable[str], room: str | pathlib.Path, turns: threading.Semaphore, beside: Beside | None) -> None:
         self.crate, self.room, self.turns, self.beside = TOP / "crates" / name, pathlib.Path(room, name), turns, beside
         self.all = functions_of(self.crate)
-        self.laws = frozenset(it for it in self.all if it.name and "laws" in module_of(it.file))
+        self.laws = frozenset(it for it in self.all if it.name and not it.owner and it.begin == it.end)
         # (harmless ones first, so that they stand in the largest batch)
         self.edits = [Edit(self.crate, it) for folder in sorted(folders, key=lambda it: it != HARMLESS) for it in sorted((self.crate / folder).glob("*"))]
         self.verdicts: dict[Edit, tuple[str, str]] = {}
