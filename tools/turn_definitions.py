@@ -54,7 +54,8 @@ WAKING = "ipcz_world/proofs/acts/Waking.antt"
 STOPPING, HANDLING = "ipcz_world/proofs/acts/StopProxying.antt", "ipcz_world/proofs/acts/Handling.antt"
 ACT_RANKS = "ipcz_world/proofs/lawful/NodeActs.antt"
 HAND_RANKS, WORTHS = "ipcz_world/proofs/lawful/NodeHands.antt", "ipcz_world/proofs/lawful/RouterWorths.antt"
-CHOOSING = "ipcz_node/proofs/Choosing.antt"
+CHOOSING, HAPPENINGS = "ipcz_node/proofs/Choosing.antt", "ipcz_node/proofs/Happenings.antt"
+ROUTER_ACTS = "ipcz_world/proofs/code/RouterActs.antt"
 PEERS = [f"ipcz_world/proofs/acts/BypassPeer{part}.antt" for part in ("", "Around", "Links", "Messages", "Numbers", "Records", "Stages")]
 LONE = "ipcz_router/proofs/LoneRouters.antt"
 NEXT, NEXT_AT = "ipcz_router/proofs/NextActs.antt", "ipcz_router/proofs/router/Router/next_at_terminal/Answers.antt"
@@ -359,6 +360,8 @@ TURNS = {
     "a_sink_retires_without_the_lock": [
         (TABLE, "can_retire r = is_done r && (r.holds && (is_on_central r && not (decays r)))", "can_retire r = is_done r && (is_on_central r && not (decays r))"),
         (TURNING, "self.is_done() && self.holds && self.is_on_central()", "self.is_done() && self.is_on_central()"),
+        (HAPPENINGS, "(second_of_both r.holds _ (second_of_both (is_done r) _ can))", "(second_of_both (is_done r) _ can)"),
+        (ROUTER_ACTS, "(λ retires. and_first _ _ (and_second _ _ (and_second _ _ retires)))", "(λ retires. and_first _ _ (and_second _ _ retires))"),
     ],
     "a_proxy_leaves_before_it_has_sent_gone": [
         (TABLE, "(has_no_link r || r.gone_sent)", "(has_no_link r || has_gone_next r)"),
