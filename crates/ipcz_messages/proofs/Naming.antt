@@ -21,9 +21,9 @@ no_other nodes name none node other h = none other h.other_is (ap (λ xs. get_or
 pub at_any : {X : Type 0} (P : X → Type 0) (xs : List X) (i : ℕ) (d : X) → i < length xs → P (get_or xs i d) → HoldsAt P xs i
 at_any P xs i d within h = λ e. subst P (get_or_default xs i d e within) h
 
-told_new : (read : List ReadLine) (name : List ℕ) (home : Option ℕ) (first : ℕ) (p : NamedPortal) → IsNamed read name home first →
-    IsNew name home first p → IsTold read p
-told_new read name home first p named new = record {
+told_new : (read : List ReadLine) (name : List ℕ) (home : Option ℕ) (first : ℕ) (others : List NamedPortal) (p : NamedPortal) →
+    IsNamed read name home first → IsNew name home first others p → IsTold read p
+told_new read name home first others p named new = record {
   named = rw (new.name_is, new.node_is, new.first_is) named;
   closed = rw new.open_is tt;
 }
@@ -33,7 +33,7 @@ pub told_noted : (read : List ReadLine) (name : List ℕ) (home : Option ℕ) (f
     IsNamed read name home first → IsNoted name home first old new → All (IsTold read) old → All (IsTold read) new
 told_noted read name home first old new named (inl h) told = subst (All (IsTold read)) (sym h.0) told
 told_noted read name home first old new named (inr h) told =
-    subst (All (IsTold read)) (sym h.2.1) (All-push (IsTold read) old h.2.0 told (told_new read name home first h.2.0 named h.2.2))
+    subst (All (IsTold read)) (sym h.2.1) (All-push (IsTold read) old h.2.0 told (told_new read name home first old h.2.0 named h.2.2))
 
 -- a portal that a line opens is noted
 pub opened_noted : (read : List ReadLine) (line : ℕ) (name : List ℕ) (old new : List NamedPortal) → line < length read →

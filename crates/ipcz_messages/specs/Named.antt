@@ -1,7 +1,7 @@
 -- Which portals a run without turns names.
-use Rattle.std.specs.Prelude.{ℕ, ◌+◌, ◌≡◌, ◌<◌, ◌≢◌, ◌≤◌, ◌++◌, Bool, true, false, ◌⊎◌, List, [], ◌∷◌, length, Option, Some, None}
-use Rattle.std.specs.List.{All, AllWithin, HoldsAt}
-use Rattle.std.specs.Option.{IfSome}
+use Rattle.std.specs.Prelude.{ℕ, ◌+◌, ◌≡◌, ◌<◌, ◌≢◌, ◌≤◌, ◌==◌, ◌++◌, Bool, true, false, ◌⊎◌, List, [], ◌∷◌, length, take, Option, Some, None}
+use Rattle.std.specs.List.{All, AllWithin, HoldsAt, count_by}
+use Rattle.std.specs.Option.{IfSome, option_eq}
 use Rattle.ipcz_lines.specs.declared.line.Line.{Line}
 use Rattle.ipcz_lines.specs.declared.line.Line.TheVariants as lines
 use Rattle.ipcz_lines.specs.declared.line.ReadLine.{ReadLine}
@@ -86,10 +86,23 @@ pub record IsTold (read : List ReadLine) (p : NamedPortal) : Type 0 where
   pub named : IsNamed read p.name.now p.node p.first
   pub closed : IfSome p.closed (λ i. IsClosedAt read p.name.now i)
 
--- a portal that is new
-pub record IsNew (name : List ℕ) (node : Option ℕ) (first : ℕ) (p : NamedPortal) : Type 0 where
+-- a portal stands at this node, or, with none, is an opened one
+abbrev pub is_at : Option ℕ → NamedPortal → Bool
+is_at node p = option_eq (λ m n. m == n) p.node node
+
+-- how many portals stand at a node, or how many are opened ones
+abbrev pub portals_at : Option ℕ → List NamedPortal → ℕ
+portals_at node named = count_by (is_at node) named
+
+-- the portals of a node, and the opened ones, have the places 0, 1, 2 and so on, in the order in which they are named
+abbrev pub ArePlaced : List NamedPortal → Type 0
+ArePlaced named = (i : ℕ) → i < length named → HoldsAt (λ p. p.place ≡ portals_at p.node (take i named)) named i
+
+-- a portal that is new, behind others
+pub record IsNew (name : List ℕ) (node : Option ℕ) (first : ℕ) (others : List NamedPortal) (p : NamedPortal) : Type 0 where
   pub name_is : p.name.now ≡ name
   pub node_is : p.node ≡ node
+  pub place_is : p.place ≡ portals_at node others
   pub first_is : p.first ≡ first
   pub open_is : p.closed ≡ None
 
@@ -97,4 +110,4 @@ pub record IsNew (name : List ℕ) (node : Option ℕ) (first : ℕ) (p : NamedP
 abbrev pub IsNoted : List ℕ → Option ℕ → ℕ → List NamedPortal → List NamedPortal → Type 0
 IsNoted name node first old new =
     ((new ≡ old) × ((32 ≤ length old) ⊎ ((i : ℕ) × IsFirstOfName name old i)))
-    ⊎ ((length old < 32) × All (λ p. p.name.now ≢ name) old × ((p : NamedPortal) × (new ≡ old ++ p ∷ []) × IsNew name node first p))
+    ⊎ ((length old < 32) × All (λ p. p.name.now ≢ name) old × ((p : NamedPortal) × (new ≡ old ++ p ∷ []) × IsNew name node first old p))

@@ -5,7 +5,7 @@
 
 ghost use Rattle.std.specs.Prelude.{◌≡◌, ◌≤◌, ◌<◌, ℕ, List, [], length, true, IfSome, IfNone, IfOk, OnOk};
 ghost use Rattle.std.specs.List.{All, Any};
-ghost use Rattle.ipcz_messages.specs.Named.{IsCloseOf, IsFirstName, IsNoted, IsOpenOf, IsPlaceOfName, IsTold, is_turn};
+ghost use Rattle.ipcz_messages.specs.Named.{ArePlaced, IsCloseOf, IsFirstName, IsNoted, IsOpenOf, IsPlaceOfName, IsTold, is_turn, portals_at};
 
 use crate::calls::{nodes_of_name, portal_of};
 use ipcz_lines::{Answer, Line, ReadLine};
@@ -53,7 +53,7 @@ pub fn portal_named(named: &[NamedPortal], name: &[u8]) -> Option<usize>
 
 // How many portals there are of a node, or how many opened ones.
 fn count_of(named: &[NamedPortal], node: Option<u8>) -> usize
-    ensures few { result ≤ length named.now }
+    ensures { result ≡ portals_at node named.now }
 {
     named.iter().filter(|it| it.node == node).count()
 }
@@ -122,6 +122,7 @@ fn note_opened<'a>(
     requires { line < length lines.now }
     ensures few { OnOk result (length named.old.items ≤ 32 → length named.new.items ≤ 32) }
     ensures told { OnOk result (All (IsTold lines.now) named.old.items → All (IsTold lines.now) named.new.items) }
+    ensures placed { OnOk result (ArePlaced named.old.items → ArePlaced named.new.items) }
 {
     if let Some((first, second)) = opened_by(&lines[line].line) {
         note(named, first, None, line)?;
@@ -139,6 +140,7 @@ fn note_called<'a>(
     requires { line < length lines.now }
     ensures few { OnOk result (length named.old.items ≤ 32 → length named.new.items ≤ 32) }
     ensures told { OnOk result (All (IsTold lines.now) named.old.items → All (IsTold lines.now) named.new.items) }
+    ensures placed { OnOk result (ArePlaced named.old.items → ArePlaced named.new.items) }
 {
     if let Some(name) = portal_of(&lines[line].line)
         && let Some(node) = first_node(name)
@@ -153,6 +155,7 @@ fn note_closed(named: &mut Vec<NamedPortal>, lines: &[ReadLine], line: usize)
     requires { line < length lines.now }
     ensures few { length named.new.items ≡ length named.old.items }
     ensures told { All (IsTold lines.now) named.old.items → All (IsTold lines.now) named.new.items }
+    ensures placed { ArePlaced named.old.items → ArePlaced named.new.items }
 {
     if let Some(name) = closed_by(&lines[line].line)
         && let Some(index) = portal_named(named.as_slice(), name)
@@ -169,6 +172,7 @@ pub fn named_portals<'a>(
     ensures few { IfOk result (λ named. length named.items ≤ 32) }
     ensures turned { IfOk result (λ named. Any (λ x. is_turn x.line ≡ true) lines.now → named.items ≡ []) }
     ensures told { IfOk result (λ named. All (IsTold lines.now) named.items) }
+    ensures placed { IfOk result (λ named. ArePlaced named.items) }
 {
     let mut named = Vec::new(alloc);
     if lines.iter().any(is_turn) {
