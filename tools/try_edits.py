@@ -15,8 +15,9 @@ of.
 proved has nothing to do with any other body. So edits that change nothing but bodies are made together. Of several in one function each but the
 first changes a copy of it, which stands behind it under another name, with the same contract and proof files. A constant counts as a part of the
 bodies that name it. Only the functions that they change are checked. Of each other function only the contract is used: its proof is a hole,
-since `rt ci` proves it as it is, and its body is left out, so that what it calls isn't read. A function that only calls what isn't proved has no
-such goal, and rattle's line of the function tells the two apart. What isn't refused so is tried once more, by itself, in the function.
+since `rt ci` proves it as it is, and its body is left out, so that what it calls isn't read; only a trait's function, and one that calls itself,
+keep both. A function that only calls what isn't proved has no such goal, and rattle's line of the function tells the two apart. What isn't
+refused so is tried once more, by itself, in the function.
 
 **Other edits** (a definition, a clause, a type) are tried one by one: the crate, over what a check of it as it stands has proved, must
 not be proved. The functions that an edit names in a line `refused by: PATH, PATH`, or else the crate's laws, which are its functions without a
