@@ -1,5 +1,5 @@
 -- Portals keep their places when one is noted, and when one is closed.
-use Rattle.std.proofs.Common.{◌≡◌, ℕ, zero, suc, ◌+◌, ◌<◌, ◌==◌, ◌++◌, Bool, cond, List, [], ◌∷◌, length, get_or, take, Option, Some, refl, ap, sym, ◌∙◌, arith}
+use Rattle.std.proofs.Common.{◌≡◌, ℕ, zero, suc, ◌<◌, ◌==◌, ◌++◌, Bool, cond, List, [], ◌∷◌, length, get_or, take, Option, Some, refl, ap, sym, ◌∙◌, arith}
 use Rattle.std.proofs.Common.{inl, inr}
 use Rattle.std.specs.List.{count_by}
 use Rattle.std.specs.Option.{option_eq}
@@ -8,7 +8,7 @@ use Rattle.std.proofs.lemmas.Bool.{cases_order}
 use Rattle.std.proofs.lemmas.List.{get_or_default, get_or-set_other, get_or-set_same, get_or_append_left, get_or_push, length-append, length-set, take_all, take-append-le}
 use Rattle.std.proofs.lemmas.List.Sums.{sum_by-cons}
 use Rattle.ipcz_messages.specs.declared.named.NamedPortal.{NamedPortal}
-use Rattle.ipcz_messages.specs.Named.{is_at, portals_at, ArePlaced, IsNew, IsNoted}
+use Rattle.ipcz_messages.specs.Named.{is_at, portals_at, ArePlaced, IsNoted}
 
 -- one more portal
 placed_push : (old : List NamedPortal) (p : NamedPortal) → p.place ≡ portals_at p.node old → ArePlaced old → ArePlaced (old ++ p ∷ [])

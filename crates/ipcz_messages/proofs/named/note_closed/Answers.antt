@@ -1,4 +1,4 @@
-use Rattle.std.proofs.Common.{rules, ◌<◌, length, subst}
+use Rattle.std.proofs.Common.{rules, subst}
 use Rattle.std.specs.List.{HoldsAt}
 use Rattle.ipcz_messages.specs.Named.{IsCloseOf, IsFirstOfName}
 use Rattle.ipcz_messages.proofs.Naming.{at_any, closed_told}
