@@ -1,4 +1,5 @@
 pub mod Counting
+pub mod Covering
 pub mod Joining
 pub mod Leftovers
 pub mod Naming

@@ -25,7 +25,7 @@ placed_noted name node first old new (inr h) placed =
     rw h.2.1 (placed_push old h.2.0 (rw h.2.2.node_is h.2.2.place_is) placed)
 
 -- what another portal in the place of one leaves as it is
-same_at : {Y : Type 0} (f : NamedPortal → Y) (old : List NamedPortal) (k : ℕ) (q : NamedPortal) (i : ℕ) (d : NamedPortal) → k < length old →
+pub same_at : {Y : Type 0} (f : NamedPortal → Y) (old : List NamedPortal) (k : ℕ) (q : NamedPortal) (i : ℕ) (d : NamedPortal) → k < length old →
     f q ≡ f (get_or old k d) → f (get_or (set old k q) i d) ≡ f (get_or old i d)
 same_at f old k q i d within e = elim (cases_order i k) [
   | inl h ↦ rw h (ap f (get_or-set_same old k q d within) ∙ e)

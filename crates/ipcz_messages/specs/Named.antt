@@ -1,6 +1,6 @@
 -- Which portals a run without turns names.
 use Rattle.std.specs.Prelude.{ℕ, ◌+◌, ◌≡◌, ◌<◌, ◌≢◌, ◌≤◌, ◌==◌, ◌++◌, Bool, true, false, ◌⊎◌, List, [], ◌∷◌, length, take, Option, Some, None}
-use Rattle.std.specs.List.{All, AllWithin, HoldsAt, count_by}
+use Rattle.std.specs.List.{All, AllPairs, AllWithin, HoldsAt, count_by}
 use Rattle.std.specs.Option.{IfSome, option_eq}
 use Rattle.ipcz_lines.specs.declared.line.Line.{Line}
 use Rattle.ipcz_lines.specs.declared.line.Line.TheVariants as lines
@@ -98,6 +98,10 @@ portals_at node named = count_by (is_at node) named
 abbrev pub ArePlaced : List NamedPortal → Type 0
 ArePlaced named = (i : ℕ) → i < length named → HoldsAt (λ p. p.place ≡ portals_at p.node (take i named)) named i
 
+-- no two portals have the same name
+abbrev pub AreDistinct : List NamedPortal → Type 0
+AreDistinct named = AllPairs (λ p q. p.name.now ≢ q.name.now) named
+
 -- a portal that is new, behind others
 pub record IsNew (name : List ℕ) (node : Option ℕ) (first : ℕ) (others : List NamedPortal) (p : NamedPortal) : Type 0 where
   pub name_is : p.name.now ≡ name
@@ -111,3 +115,24 @@ abbrev pub IsNoted : List ℕ → Option ℕ → ℕ → List NamedPortal → Li
 IsNoted name node first old new =
     ((new ≡ old) × ((32 ≤ length old) ⊎ ((i : ℕ) × IsFirstOfName name old i)))
     ⊎ ((length old < 32) × All (λ p. p.name.now ≢ name) old × ((p : NamedPortal) × (new ≡ old ++ p ∷ []) × IsNew name node first old p))
+
+-- the portal of a name is among those that are named, or there was no room for it
+abbrev pub IsNamedIn : List ℕ → List NamedPortal → Type 0
+IsNamedIn name named = (32 ≤ length named) ⊎ ((i : ℕ) × (i < length named) × HoldsAt (λ p. p.name.now ≡ name) named i)
+
+-- what was named stays named
+abbrev pub KeepsNames : List NamedPortal → List NamedPortal → Type 0
+KeepsNames old new = (name : List ℕ) → IsNamedIn name old → IsNamedIn name new
+
+-- each portal that a line opens is named, as far as there was room
+abbrev pub AllOpensNamed : List NamedPortal → ReadLine → Type 0
+AllOpensNamed named x = (name : List ℕ) → IsOpenOf name x.line → IsNamedIn name named
+
+-- the portal that a line calls is named, if it was there from the start, and as far as there was room
+abbrev pub AllCallsNamed : List NamedPortal → ReadLine → Type 0
+AllCallsNamed named x = (name : List ℕ) (node other : ℕ) → IsCallAt name x.line → IsFirstName 8 name node other → IsNamedIn name named
+
+-- each portal that the lines before this one tell of is named, as far as there was room
+pub record AreAllNamed (read : List ReadLine) (n : ℕ) (named : List NamedPortal) : Type 0 where
+  pub opened : AllWithin (AllOpensNamed named) read 0 n
+  pub called : AllWithin (AllCallsNamed named) read 0 n

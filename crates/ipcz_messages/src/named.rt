@@ -3,9 +3,10 @@
 //! Such a run tells nothing of routers. But nothing moves before its first settle: up to there each first portal `i>j` is at node i, and an
 //! opened one at the node that opened it, which no line tells.
 
-ghost use Rattle.std.specs.Prelude.{◌≡◌, ◌≤◌, ◌<◌, ℕ, List, [], length, true, IfSome, IfNone, IfOk, OnOk};
-ghost use Rattle.std.specs.List.{All, Any};
-ghost use Rattle.ipcz_messages.specs.Named.{ArePlaced, IsCloseOf, IsFirstName, IsNoted, IsOpenOf, IsPlaceOfName, IsTold, is_turn, portals_at};
+ghost use Rattle.std.specs.Prelude.{◌≡◌, ◌≤◌, ◌<◌, ◌⊎◌, ℕ, List, [], length, true, IfSome, IfNone, IfOk, OnOk};
+ghost use Rattle.std.specs.List.{All, Any, HoldsAt};
+ghost use Rattle.ipcz_messages.specs.Named.{AllCallsNamed, AllOpensNamed, AreAllNamed, AreDistinct, ArePlaced, IsCallAt, IsCloseOf, IsFirstName, IsNoted};
+ghost use Rattle.ipcz_messages.specs.Named.{IsOpenOf, IsPlaceOfName, IsTold, KeepsNames, is_turn, portals_at};
 
 use crate::calls::{nodes_of_name, portal_of};
 use ipcz_lines::{Answer, Line, ReadLine};
@@ -30,6 +31,14 @@ fn is_turn(read: &ReadLine) -> bool
     ensures { result ≡ is_turn read.now.line }
 {
     matches!(read.line, Line::Turn { .. })
+}
+
+// Whether any of the lines is of a turn.
+fn has_turns(lines: &[ReadLine]) -> bool
+    ensures some { result ≡ true → Any (λ x. is_turn x.line ≡ true) lines.now }
+    ensures all { Any (λ x. is_turn x.line ≡ true) lines.now → result ≡ true }
+{
+    lines.iter().any(is_turn)
 }
 
 // The node that has a first portal from the start, as 0 has `0>1`, by the portal's name.
@@ -87,6 +96,7 @@ fn note<'a>(
 // The names of the portals that a line opens.
 fn opened_by<'a>(line: &Line<'a>) -> Option<(&'a [u8], &'a [u8])>
     ensures opened { IfSome result (λ names. IsOpenOf names.0.now line.now × IsOpenOf names.1.now line.now) }
+    ensures both { IfSome result (λ names. (name : List ℕ) → IsOpenOf name line.now → (name ≡ names.0.now) ⊎ (name ≡ names.1.now)) }
     ensures other { IfNone result ((name : List ℕ) → IsOpenOf name line.now → ⊥) }
 {
     match line {
@@ -123,12 +133,31 @@ fn note_opened<'a>(
     ensures few { OnOk result (length named.old.items ≤ 32 → length named.new.items ≤ 32) }
     ensures told { OnOk result (All (IsTold lines.now) named.old.items → All (IsTold lines.now) named.new.items) }
     ensures placed { OnOk result (ArePlaced named.old.items → ArePlaced named.new.items) }
+    ensures once { OnOk result (AreDistinct named.old.items → AreDistinct named.new.items) }
+    ensures kept { OnOk result (KeepsNames named.old.items named.new.items) }
+    ensures all { OnOk result (HoldsAt (AllOpensNamed named.new.items) lines.now line) }
 {
     if let Some((first, second)) = opened_by(&lines[line].line) {
         note(named, first, None, line)?;
         note(named, second, None, line)?;
     }
     Ok(())
+}
+
+// The portal that a line calls and that was there from the start, with its node.
+fn called_at_home<'a>(line: &Line<'a>) -> Option<(&'a [u8], u8)>
+    ensures called { IfSome result (λ p. IsCallAt p.0.now line.now) }
+    ensures home { IfSome result (λ p. (other : ℕ) × IsFirstName 8 p.0.now p.1 other) }
+    ensures only { IfSome result (λ p. (name : List ℕ) → IsCallAt name line.now → name ≡ p.0.now) }
+    ensures other { IfNone result ((name : List ℕ) (node other : ℕ) → IsCallAt name line.now → IsFirstName 8 name node other → ⊥) }
+{
+    let Some(name) = portal_of(line) else {
+        return None;
+    };
+    let Some(node) = first_node(name) else {
+        return None;
+    };
+    Some((name, node))
 }
 
 // Notes the portal that a line calls, if it was there from the start.
@@ -141,10 +170,11 @@ fn note_called<'a>(
     ensures few { OnOk result (length named.old.items ≤ 32 → length named.new.items ≤ 32) }
     ensures told { OnOk result (All (IsTold lines.now) named.old.items → All (IsTold lines.now) named.new.items) }
     ensures placed { OnOk result (ArePlaced named.old.items → ArePlaced named.new.items) }
+    ensures once { OnOk result (AreDistinct named.old.items → AreDistinct named.new.items) }
+    ensures kept { OnOk result (KeepsNames named.old.items named.new.items) }
+    ensures all { OnOk result (HoldsAt (AllCallsNamed named.new.items) lines.now line) }
 {
-    if let Some(name) = portal_of(&lines[line].line)
-        && let Some(node) = first_node(name)
-    {
+    if let Some((name, node)) = called_at_home(&lines[line].line) {
         note(named, name, Some(node), 0)?;
     }
     Ok(())
@@ -156,6 +186,8 @@ fn note_closed(named: &mut Vec<NamedPortal>, lines: &[ReadLine], line: usize)
     ensures few { length named.new.items ≡ length named.old.items }
     ensures told { All (IsTold lines.now) named.old.items → All (IsTold lines.now) named.new.items }
     ensures placed { ArePlaced named.old.items → ArePlaced named.new.items }
+    ensures once { AreDistinct named.old.items → AreDistinct named.new.items }
+    ensures kept { KeepsNames named.old.items named.new.items }
 {
     if let Some(name) = closed_by(&lines[line].line)
         && let Some(index) = portal_named(named.as_slice(), name)
@@ -173,9 +205,11 @@ pub fn named_portals<'a>(
     ensures turned { IfOk result (λ named. Any (λ x. is_turn x.line ≡ true) lines.now → named.items ≡ []) }
     ensures told { IfOk result (λ named. All (IsTold lines.now) named.items) }
     ensures placed { IfOk result (λ named. ArePlaced named.items) }
+    ensures once { IfOk result (λ named. AreDistinct named.items) }
+    ensures all { IfOk result (λ named. (Any (λ x. is_turn x.line ≡ true) lines.now → ⊥) → AreAllNamed lines.now (length lines.now) named.items) }
 {
     let mut named = Vec::new(alloc);
-    if lines.iter().any(is_turn) {
+    if has_turns(lines) {
         return Ok(named);
     }
     for line in 0..lines.len() {

@@ -1,8 +1,9 @@
 use Rattle.std.proofs.Common.{◌≤◌, length}
 use Rattle.std.specs.List.{All}
-use Rattle.ipcz_messages.specs.Named.{ArePlaced, IsTold}
+use Rattle.ipcz_messages.specs.Named.{AreAllNamed, AreDistinct, ArePlaced, IsTold}
 use Rattle.ipcz_messages.proofs.named.named_portals.Given as goal
 
--- there are no more portals than are named, and each is told, and has its place
+-- there are no more portals than are named, each is told, has its place and a name of its own, and all of the lines before are there
 abbrev pub invariant-loop-line : goal.invariant-loop-line
 invariant-loop-line l = (length l.named.items ≤ 32) × All (IsTold l.lines) l.named.items × ArePlaced l.named.items
+    × AreDistinct l.named.items × AreAllNamed l.lines l.line l.named.items

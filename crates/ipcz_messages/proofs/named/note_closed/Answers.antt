@@ -1,6 +1,7 @@
 use Rattle.std.proofs.Common.{rules, subst}
 use Rattle.std.specs.List.{HoldsAt}
 use Rattle.ipcz_messages.specs.Named.{IsCloseOf, IsFirstOfName}
+use Rattle.ipcz_messages.proofs.Covering.{distinct_closed}
 use Rattle.ipcz_messages.proofs.Naming.{at_any, closed_told}
 use Rattle.ipcz_messages.proofs.Placing.{placed_closed}
 use Rattle.ipcz_messages.proofs.named.note_closed.Goals as goal
@@ -17,3 +18,9 @@ returns-in-Some-portal_named-clause-placed c =
     let place : IsFirstOfName c.in-Some.name.now c.args.named.now.items c.in-Some-portal_named.index =
     subst (λ xs. IsFirstOfName c.in-Some.name.now xs c.in-Some-portal_named.index) c.as_slice.ensures.value c.in-Some-portal_named.ensures.found in
     placed_closed c.args.line c.args.named.now.items c.in-Some-portal_named.index c.index_mut.result.now place.within c.index_mut.ensures.value
+
+pub returns-in-Some-portal_named-clause-once : goal.returns-in-Some-portal_named-clause-once
+returns-in-Some-portal_named-clause-once c =
+    let place : IsFirstOfName c.in-Some.name.now c.args.named.now.items c.in-Some-portal_named.index =
+    subst (λ xs. IsFirstOfName c.in-Some.name.now xs c.in-Some-portal_named.index) c.as_slice.ensures.value c.in-Some-portal_named.ensures.found in
+    distinct_closed c.args.line c.args.named.now.items c.in-Some-portal_named.index c.index_mut.result.now place.within c.index_mut.ensures.value
