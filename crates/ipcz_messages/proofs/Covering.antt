@@ -1,6 +1,6 @@
 -- Each portal that the lines tell of is named once, and stays so.
-use Rattle.std.proofs.Common.{◌≡◌, ℕ, ◌+◌, ◌<◌, ◌++◌, List, [], ◌∷◌, length, get_or, Option, Some, ◌≢◌, refl, ap, sym, ◌∙◌, subst, arith, inl, inr, ◌⊎◌}
-use Rattle.std.specs.List.{All, HoldsAt}
+use Rattle.std.proofs.Common.{◌≡◌, ℕ, ◌+◌, ◌<◌, ◌++◌, List, [], ◌∷◌, length, get_or, Option, Some, ◌≢◌, refl, ap, sym, ◌∙◌, subst, arith, rules, inl, inr, ◌⊎◌}
+use Rattle.std.specs.List.{All, AllWithin, HoldsAt}
 use Rattle.std.proofs.Math.ListN.{set}
 use Rattle.std.proofs.lemmas.Bool.{cases_order}
 use Rattle.std.proofs.lemmas.List.{get_or_append_left, get_or_default, get_or_push, length-append, length-set}
@@ -71,10 +71,18 @@ both_named first second line named both one two name h = elim (both name h) [
   | inr e ↦ rw e two
 ]
 
+one_call : (name other : List ℕ) (line : Line) → IsCallAt name line → IsCallAt other line → other ≡ name
+one_call name other line h k = search rules
+
 -- the portal that a line calls is named
-pub called_named : (called : List ℕ) (line : Line) (named : List NamedPortal) → ((name : List ℕ) → IsCallAt name line → name ≡ called) →
-    IsNamedIn called named → (name : List ℕ) (node other : ℕ) → IsCallAt name line → IsFirstName 8 name node other → IsNamedIn name named
-called_named called line named only one name node other h first = rw (only name h) one
+pub called_named : (called : List ℕ) (line : Line) (named : List NamedPortal) → IsCallAt called line → IsNamedIn called named →
+    (name : List ℕ) (node other : ℕ) → IsCallAt name line → IsFirstName 8 name node other → IsNamedIn name named
+called_named called line named at one name node other h first = rw (one_call called name line at h) one
+
+-- what was called stays named
+pub calls_kept : (read : List ReadLine) (n : ℕ) (old new : List NamedPortal) → KeepsNames old new → AllWithin (AllCallsNamed old) read 0 n →
+    AllWithin (AllCallsNamed new) read 0 n
+calls_kept read n old new kept all k d low lt name node other h first = kept name (all k d low lt name node other h first)
 
 -- one more line: what it opens is named, what it calls is named, and what was named stays so
 pub all_more : (read : List ReadLine) (n : ℕ) (old opened called new : List NamedPortal) → KeepsNames old opened → KeepsNames opened called →

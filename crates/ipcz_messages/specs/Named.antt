@@ -86,6 +86,10 @@ pub record IsTold (read : List ReadLine) (p : NamedPortal) : Type 0 where
   pub named : IsNamed read p.name.now p.node p.first
   pub closed : IfSome p.closed (λ i. IsClosedAt read p.name.now i)
 
+-- if no close of a portal is noted, none of the lines from its first one on, and before this one, closes it
+abbrev pub NotesItsClose : List ReadLine → ℕ → NamedPortal → Type 0
+NotesItsClose read n p = p.closed ≡ None → AllWithin (λ x. IsCloseOf p.name.now x.line → ⊥) read p.first n
+
 -- a portal stands at this node, or, with none, is an opened one
 abbrev pub is_at : Option ℕ → NamedPortal → Bool
 is_at node p = option_eq (λ m n. m == n) p.node node

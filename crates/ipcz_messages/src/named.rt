@@ -3,10 +3,10 @@
 //! Such a run tells nothing of routers. But nothing moves before its first settle: up to there each first portal `i>j` is at node i, and an
 //! opened one at the node that opened it, which no line tells.
 
-ghost use Rattle.std.specs.Prelude.{◌≡◌, ◌≤◌, ◌<◌, ◌⊎◌, ℕ, List, [], length, true, IfSome, IfNone, IfOk, OnOk};
-ghost use Rattle.std.specs.List.{All, Any, HoldsAt};
-ghost use Rattle.ipcz_messages.specs.Named.{AllCallsNamed, AllOpensNamed, AreAllNamed, AreDistinct, ArePlaced, IsCallAt, IsCloseOf, IsFirstName, IsNoted};
-ghost use Rattle.ipcz_messages.specs.Named.{IsOpenOf, IsPlaceOfName, IsTold, KeepsNames, is_turn, portals_at};
+ghost use Rattle.std.specs.Prelude.{◌≡◌, ◌+◌, ◌≤◌, ◌<◌, ◌≢◌, ◌⊎◌, ℕ, List, [], length, true, IfSome, IfNone, IfOk, OnOk};
+ghost use Rattle.std.specs.List.{All, AllWithin, Any, HoldsAt};
+ghost use Rattle.ipcz_messages.specs.Named.{AllCallsNamed, AllOpensNamed, AreAllNamed, AreDistinct, ArePlaced, IsCallAt, IsCloseOf, IsFirstName, IsFirstOfName, IsNoted};
+ghost use Rattle.ipcz_messages.specs.Named.{NotesItsClose, IsOpenOf, IsPlaceOfName, IsTold, KeepsNames, is_turn, portals_at};
 
 use crate::calls::{nodes_of_name, portal_of};
 use ipcz_lines::{Answer, Line, ReadLine};
@@ -134,6 +134,7 @@ fn note_opened<'a>(
     ensures told { OnOk result (All (IsTold lines.now) named.old.items → All (IsTold lines.now) named.new.items) }
     ensures placed { OnOk result (ArePlaced named.old.items → ArePlaced named.new.items) }
     ensures once { OnOk result (AreDistinct named.old.items → AreDistinct named.new.items) }
+    ensures closes { OnOk result (All (NotesItsClose lines.now line) named.old.items → All (NotesItsClose lines.now line) named.new.items) }
     ensures kept { OnOk result (KeepsNames named.old.items named.new.items) }
     ensures all { OnOk result (HoldsAt (AllOpensNamed named.new.items) lines.now line) }
 {
@@ -148,7 +149,6 @@ fn note_opened<'a>(
 fn called_at_home<'a>(line: &Line<'a>) -> Option<(&'a [u8], u8)>
     ensures called { IfSome result (λ p. IsCallAt p.0.now line.now) }
     ensures home { IfSome result (λ p. (other : ℕ) × IsFirstName 8 p.0.now p.1 other) }
-    ensures only { IfSome result (λ p. (name : List ℕ) → IsCallAt name line.now → name ≡ p.0.now) }
     ensures other { IfNone result ((name : List ℕ) (node other : ℕ) → IsCallAt name line.now → IsFirstName 8 name node other → ⊥) }
 {
     let Some(name) = portal_of(line) else {
@@ -171,6 +171,7 @@ fn note_called<'a>(
     ensures told { OnOk result (All (IsTold lines.now) named.old.items → All (IsTold lines.now) named.new.items) }
     ensures placed { OnOk result (ArePlaced named.old.items → ArePlaced named.new.items) }
     ensures once { OnOk result (AreDistinct named.old.items → AreDistinct named.new.items) }
+    ensures closes { OnOk result (AllWithin (AllCallsNamed named.old.items) lines.now 0 line → All (NotesItsClose lines.now line) named.old.items → All (NotesItsClose lines.now line) named.new.items) }
     ensures kept { OnOk result (KeepsNames named.old.items named.new.items) }
     ensures all { OnOk result (HoldsAt (AllCallsNamed named.new.items) lines.now line) }
 {
@@ -180,6 +181,17 @@ fn note_called<'a>(
     Ok(())
 }
 
+// The index of the portal that a line closes.
+fn index_closed(named: &[NamedPortal], line: &Line) -> Option<usize>
+    ensures closed { IfSome result (λ i. (name : List ℕ) × IsCloseOf name line.now × IsFirstOfName name named.now i) }
+    ensures other { IfNone result ((name : List ℕ) → IsCloseOf name line.now → All (λ p. p.name.now ≢ name) named.now) }
+{
+    let Some(name) = closed_by(line) else {
+        return None;
+    };
+    portal_named(named, name)
+}
+
 // Notes the portal that a line closes.
 fn note_closed(named: &mut Vec<NamedPortal>, lines: &[ReadLine], line: usize)
     requires { line < length lines.now }
@@ -187,11 +199,10 @@ fn note_closed(named: &mut Vec<NamedPortal>, lines: &[ReadLine], line: usize)
     ensures told { All (IsTold lines.now) named.old.items → All (IsTold lines.now) named.new.items }
     ensures placed { ArePlaced named.old.items → ArePlaced named.new.items }
     ensures once { AreDistinct named.old.items → AreDistinct named.new.items }
+    ensures closes { AreDistinct named.old.items → All (NotesItsClose lines.now line) named.old.items → All (NotesItsClose lines.now (line + 1)) named.new.items }
     ensures kept { KeepsNames named.old.items named.new.items }
 {
-    if let Some(name) = closed_by(&lines[line].line)
-        && let Some(index) = portal_named(named.as_slice(), name)
-    {
+    if let Some(index) = index_closed(named.as_slice(), &lines[line].line) {
         named[index].closed = Some(line);
     }
 }
@@ -206,6 +217,7 @@ pub fn named_portals<'a>(
     ensures told { IfOk result (λ named. All (IsTold lines.now) named.items) }
     ensures placed { IfOk result (λ named. ArePlaced named.items) }
     ensures once { IfOk result (λ named. AreDistinct named.items) }
+    ensures closes { IfOk result (λ named. All (NotesItsClose lines.now (length lines.now)) named.items) }
     ensures all { IfOk result (λ named. (Any (λ x. is_turn x.line ≡ true) lines.now → ⊥) → AreAllNamed lines.now (length lines.now) named.items) }
 {
     let mut named = Vec::new(alloc);

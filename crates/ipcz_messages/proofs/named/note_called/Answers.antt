@@ -1,6 +1,7 @@
 use Rattle.std.proofs.Common.{Some}
 use Rattle.std.specs.List.{HoldsAt}
 use Rattle.ipcz_messages.specs.Named.{AllCallsNamed, IsCallAt}
+use Rattle.ipcz_messages.proofs.Closing.{closes_called}
 use Rattle.ipcz_messages.proofs.Covering.{called_named, distinct_noted, noted_kept, noted_named}
 use Rattle.ipcz_messages.proofs.Naming.{at_any, called_noted}
 use Rattle.ipcz_messages.proofs.Placing.{placed_noted}
@@ -25,7 +26,7 @@ pub returns-in_ok-note-clause-all : goal.returns-in_ok-note-clause-all
 returns-in_ok-note-clause-all c =
     let new = c.note.new.named.items in
     at_any (AllCallsNamed new) c.args.lines.now c.args.line _ c.requires
-    (called_named c.in-Some.name.now _ new c.in-Some.ensures.only
+    (called_named c.in-Some.name.now _ new c.in-Some.ensures.called
     (noted_named c.in-Some.name.now (Some c.in-Some.node) 0 c.args.named.now.items new c.in_ok-note.ensures.noted))
 
 pub returns-in_default-clause-all : goal.returns-in_default-clause-all
@@ -36,3 +37,8 @@ returns-in_default-clause-all c =
 pub returns-in_ok-note-clause-once : goal.returns-in_ok-note-clause-once
 returns-in_ok-note-clause-once c =
     distinct_noted c.in-Some.name.now (Some c.in-Some.node) 0 c.args.named.now.items c.note.new.named.items c.in_ok-note.ensures.noted
+
+pub returns-in_ok-note-clause-closes : goal.returns-in_ok-note-clause-closes
+returns-in_ok-note-clause-closes c =
+    closes_called c.args.lines.now c.args.line c.in-Some.name.now c.in-Some.node c.args.named.now.items c.note.new.named.items c.in-Some.ensures.home
+    c.in_ok-note.ensures.noted

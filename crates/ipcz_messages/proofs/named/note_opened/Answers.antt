@@ -1,6 +1,7 @@
 use Rattle.std.proofs.Common.{rules, None}
 use Rattle.std.specs.List.{HoldsAt}
 use Rattle.ipcz_messages.specs.Named.{AllOpensNamed, IsOpenOf, KeepsNames}
+use Rattle.ipcz_messages.proofs.Closing.{closes_opened}
 use Rattle.ipcz_messages.proofs.Covering.{both_named, distinct_noted, noted_kept, noted_named}
 use Rattle.ipcz_messages.proofs.Naming.{at_any, opened_noted}
 use Rattle.ipcz_messages.proofs.Placing.{placed_noted}
@@ -47,3 +48,8 @@ pub returns-in_ok-note-2-clause-once : goal.returns-in_ok-note-2-clause-once
 returns-in_ok-note-2-clause-once c distinct =
     distinct_noted c.in-Some.second.now None c.args.line c.note.new.named.items c.note-in-Some.new.named.items c.in_ok-note-2.ensures.noted
     (distinct_noted c.in-Some.first.now None c.args.line c.args.named.now.items c.note.new.named.items c.in_ok-note.ensures.noted distinct)
+
+pub returns-in_ok-note-2-clause-closes : goal.returns-in_ok-note-2-clause-closes
+returns-in_ok-note-2-clause-closes c all =
+    closes_opened c.args.lines.now c.args.line c.in-Some.second.now c.note.new.named.items c.note-in-Some.new.named.items c.in_ok-note-2.ensures.noted
+    (closes_opened c.args.lines.now c.args.line c.in-Some.first.now c.args.named.now.items c.note.new.named.items c.in_ok-note.ensures.noted all)
