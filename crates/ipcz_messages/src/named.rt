@@ -6,7 +6,7 @@
 ghost use Rattle.std.specs.Prelude.{◌≡◌, ◌+◌, ◌≤◌, ◌<◌, ◌≢◌, ◌⊎◌, ℕ, List, [], length, true, IfSome, IfNone, IfOk, OnOk};
 ghost use Rattle.std.specs.List.{All, AllWithin, Any, HoldsAt};
 ghost use Rattle.ipcz_messages.specs.Named.{AllCallsNamed, AllOpensNamed, AreAllNamed, AreDistinct, ArePlaced, IsCallAt, IsCloseOf, IsFirstName, IsFirstOfName, IsNoted};
-ghost use Rattle.ipcz_messages.specs.Named.{NotesItsClose, IsOpenOf, IsPlaceOfName, IsTold, KeepsNames, is_turn, portals_at};
+ghost use Rattle.ipcz_messages.specs.Named.{IsOpenOf, IsPlaceOfName, IsTold, KeepsNames, NotesItsClose, is_turn, portals_at};
 
 use crate::calls::{nodes_of_name, portal_of};
 use ipcz_lines::{Answer, Line, ReadLine};
