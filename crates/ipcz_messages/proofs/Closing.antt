@@ -1,5 +1,5 @@
 -- Each close of a portal that is named is noted.
-use Rattle.std.proofs.Common.{◌≡◌, ◌≢◌, ℕ, ◌+◌, ◌<◌, List, length, get_or, Option, Some, None, refl, sym, ◌∙◌, subst, arith, rules}
+use Rattle.std.proofs.Common.{◌≡◌, ◌≢◌, ℕ, ◌+◌, ◌<◌, List, length, get_or, Some, None, refl, sym, ◌∙◌, subst, arith, rules}
 use Rattle.std.proofs.Common.{inl, inr}
 use Rattle.std.specs.List.{All, AllWithin, HoldsAt}
 use Rattle.std.proofs.Math.ListN.{set}
@@ -10,15 +10,13 @@ use Rattle.ipcz_lines.specs.declared.line.Line.{Line}
 use Rattle.ipcz_lines.specs.declared.line.ReadLine.{ReadLine}
 use Rattle.ipcz_messages.specs.declared.named.NamedPortal.{NamedPortal}
 use Rattle.ipcz_messages.specs.Named.{AllCallsNamed, AreDistinct, IsCallAt, IsCloseOf, IsFirstName, IsFirstOfName, IsNew, IsNoted, NotesItsClose}
+use Rattle.ipcz_messages.proofs.Counting.{none_some}
 
 close_is_call : (name : List ℕ) (line : Line) → IsCloseOf name line → IsCallAt name line
 close_is_call name line h = search rules
 
 one_close : (name other : List ℕ) (line : Line) → IsCloseOf name line → IsCloseOf other line → other ≡ name
 one_close name other line h k = search rules
-
-some_none : (n : ℕ) (o : Option ℕ) → o ≡ Some n → o ≡ None → ⊥
-some_none n o e f = cc
 
 -- a portal that is opened by this line wasn't closed before
 pub closes_opened : (read : List ReadLine) (n : ℕ) (name : List ℕ) (old new : List NamedPortal) → IsNoted name None n old new →
@@ -76,7 +74,7 @@ closes_one read n name named i q at place closed distinct all k d inside =
     (open_more read n (get_or named k d) (all k d within)
     (λ e closes. away differ within (one_close name (get_or named k d).name.now (get_or read n e).line (at e) closes ∙ sym (place.found d)))) in
     elim (cases_order k i) [
-      | inl e ↦ rw (e, get_or-set_same named i q d place.within) (λ none. absurd (some_none n q.closed closed none))
+      | inl e ↦ rw (e, get_or-set_same named i q d place.within) (λ none. absurd (none_some n q.closed none closed))
       | inr (inl less) ↦ apart (omega (arith, less))
       | inr (inr more) ↦ apart (omega (arith, more))
     ] where

@@ -116,7 +116,7 @@ not_look_hand a b c x h k = search rules
 some_same : (i j : ℕ) (o : Option ℕ) → o ≡ Some i → o ≡ Some j → i ≡ j
 some_same i j o e f = cc
 
-none_some : (i : ℕ) (o : Option ℕ) → o ≡ None → o ≡ Some i → ⊥
+pub none_some : (i : ℕ) (o : Option ℕ) → o ≡ None → o ≡ Some i → ⊥
 none_some i o e f = cc
 
 -- an early message that is looked at at a later line was posted, and the look takes it

@@ -1,5 +1,5 @@
 -- Each portal that the lines tell of is named once, and stays so.
-use Rattle.std.proofs.Common.{◌≡◌, ℕ, ◌+◌, ◌<◌, ◌++◌, List, [], ◌∷◌, length, get_or, Option, Some, ◌≢◌, refl, ap, sym, ◌∙◌, subst, arith, rules, inl, inr, ◌⊎◌}
+use Rattle.std.proofs.Common.{◌≡◌, ◌≢◌, ℕ, ◌+◌, ◌<◌, ◌++◌, List, [], ◌∷◌, length, get_or, Option, Some, refl, ap, sym, ◌∙◌, subst, arith, rules, inl, inr, ◌⊎◌}
 use Rattle.std.specs.List.{All, AllWithin, HoldsAt}
 use Rattle.std.proofs.Math.ListN.{set}
 use Rattle.std.proofs.lemmas.Bool.{cases_order}
