@@ -8,7 +8,7 @@ use Rattle.std.proofs.lemmas.Bool.{cases_order}
 use Rattle.std.proofs.lemmas.List.{get_or_default, get_or-set_other, get_or-set_same, get_or_append_left, get_or_push, length-append, length-set, take_all, take-append-le}
 use Rattle.std.proofs.lemmas.List.Sums.{sum_by-cons}
 use Rattle.ipcz_messages.specs.declared.named.NamedPortal.{NamedPortal}
-use Rattle.ipcz_messages.specs.Named.{is_at, portals_at, ArePlaced, IsNoted}
+use Rattle.ipcz_messages.specs.Named.{is_of_node, portals_at, ArePlaced, IsNoted}
 
 -- one more portal
 placed_push : (old : List NamedPortal) (p : NamedPortal) → p.place ≡ portals_at p.node old → ArePlaced old → ArePlaced (old ++ p ∷ [])
@@ -51,7 +51,7 @@ placed_set : (old : List NamedPortal) (k : ℕ) (q : NamedPortal) → k < length
 placed_set old k q within node place placed i lt d =
     let nodes = same_at (λ p. p.node) old k q i d within (node d) in
     let home = (get_or old i d).node in
-    let counts = same_count (is_at home) old k q i d within (ap (λ n. option_eq (λ a b. a == b) n home) (node d)) in
+    let counts = same_count (is_of_node home) old k q i d within (ap (λ n. option_eq (λ a b. a == b) n home) (node d)) in
     same_at (λ p. p.place) old k q i d within (place d) ∙ placed i (omega (arith, lt, length-set old k q)) d ∙ sym counts
     ∙ ap (λ n. portals_at n (take i (set old k q))) (sym nodes)
 

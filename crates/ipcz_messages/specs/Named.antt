@@ -90,13 +90,13 @@ pub record IsTold (read : List ReadLine) (p : NamedPortal) : Type 0 where
 abbrev pub NotesItsClose : List ReadLine → ℕ → NamedPortal → Type 0
 NotesItsClose read n p = p.closed ≡ None → AllWithin (λ x. IsCloseOf p.name.now x.line → ⊥) read p.first n
 
--- a portal stands at this node, or, with none, is an opened one
-abbrev pub is_at : Option ℕ → NamedPortal → Bool
-is_at node p = option_eq (λ m n. m == n) p.node node
+-- a portal is one of this node, or, with none, an opened one
+abbrev pub is_of_node : Option ℕ → NamedPortal → Bool
+is_of_node node p = option_eq (λ m n. m == n) p.node node
 
 -- how many portals stand at a node, or how many are opened ones
 abbrev pub portals_at : Option ℕ → List NamedPortal → ℕ
-portals_at node named = count_by (is_at node) named
+portals_at node named = count_by (is_of_node node) named
 
 -- the portals of a node, and the opened ones, have the places 0, 1, 2 and so on, in the order in which they are named
 abbrev pub ArePlaced : List NamedPortal → Type 0

@@ -16,6 +16,15 @@ close left 1
 words 3 547 3
 ";
 
+// Two portals of node 0, and one that only its close names.
+const PORTALS_OF_A_NODE: &[u8] = b"put 0>2 0
+put 0>1 0
+close 0>2 1
+close 1>2 0
+get 0>1 0 [] \"hello\"
+words 3 3 3
+";
+
 // A name, the node that it tells, its place in the band, its first line, and the line that closes it.
 type Row = (&'static [u8], Option<u8>, usize, usize, Option<usize>);
 
@@ -26,9 +35,15 @@ static ROWS: [Row; 4] = [
     (b"1>0", Some(1), 0, 0, None),
 ];
 
+static ROWS_OF_A_NODE: [Row; 3] = [
+    (b"0>2", Some(0), 0, 0, Some(2)),
+    (b"0>1", Some(0), 1, 0, None),
+    (b"1>2", Some(1), 0, 0, Some(3)),
+];
+
 // Whether a portal is that of a row.
-fn is_of_row(named: &[NamedPortal], row: usize) -> bool {
-    match (named.get(row), ROWS.get(row)) {
+fn is_of_row(named: &[NamedPortal], rows: &[Row], row: usize) -> bool {
+    match (named.get(row), rows.get(row)) {
         (Some(it), Some(row)) => {
             it.name == row.0
                 && it.node == row.1
@@ -41,11 +56,11 @@ fn is_of_row(named: &[NamedPortal], row: usize) -> bool {
 }
 
 // The first row that no portal is of, or how many portals there are.
-fn first_other(alloc: Global, transcript: &[u8]) -> Option<usize> {
+fn first_other(alloc: Global, transcript: &[u8], rows: &[Row]) -> Option<usize> {
     let lines = read(alloc, transcript).ok()?;
     let named = named_portals(alloc, &lines).ok()?;
-    for row in 0..ROWS.len() {
-        if !is_of_row(&named, row) {
+    for row in 0..rows.len() {
+        if !is_of_row(&named, rows, row) {
             return Some(row);
         }
     }
@@ -61,7 +76,12 @@ fn count_with_a_turn(alloc: Global) -> Option<usize> {
 
 #[test]
 fn portals_of_a_run_without_turns_are_named(rt: HostRuntime) {
-    assert!(rt; first_other(rt.alloc(), TRANSCRIPT) == Some(4));
+    assert!(rt; first_other(rt.alloc(), TRANSCRIPT, &ROWS) == Some(4));
+}
+
+#[test]
+fn portals_of_a_node_have_a_place_each(rt: HostRuntime) {
+    assert!(rt; first_other(rt.alloc(), PORTALS_OF_A_NODE, &ROWS_OF_A_NODE) == Some(3));
 }
 
 #[test]
