@@ -2,12 +2,11 @@
 use Rattle.std.specs.Prelude.{◌≡◌, ◌<◌, ◌≤◌, ◌+◌, ℕ, List, [], ◌∷◌, Option, MatchBool, eqb, slice_index}
 use Rattle.std.proofs.Common.{ap, sym, subst, ◌∙◌, refl, arith}
 use prog.Atomic.{either}
-use Rattle.atomic_table.specs.Table.{Allows}
 use Rattle.ipcz_router.specs.declared.act.Answer.TheVariants as answers
 use Rattle.ipcz_router.specs.declared.act.RouterAct.TheVariants as router_acts
 use Rattle.ipcz_node.specs.declared.act.Act.TheVariants as acts
 use Rattle.ipcz_world.proofs.Whole.{lists_have_lengths}
-use Rattle.ipcz_rule.specs.Rule.{Mine, Rules, saw}
+use Rattle.ipcz_rule.specs.Rule.{Mine, saw}
 use Rattle.ipcz_rule.specs.Steps.{act_part}
 use Rattle.ipcz_rule.proofs.Claiming.{claims, loads_for_claim}
 use Rattle.ipcz_rule.proofs.RuleLaws.{counts_were_reached}
@@ -23,10 +22,11 @@ use Rattle.ipcz_node.specs.Acts.{commit}
 use Rattle.ipcz_cell.specs.Cells.{AreSound, IsCell}
 use Rattle.ipcz_cell.proofs.Keeping.{router_act_keeps, act_state}
 use Rattle.ipcz_cell.proofs.Seating.{may_by, reseated, touched_cell}
+use Rattle.ipcz_cell.specs.Seats.{Keeps}
 
 -- a step at the claim count tells that what it finds is at most the number of words, and at least each count that was seen
-pub counts_told : (count size slots id : ℕ) (m : Mine) (f : ℕ → ℕ) (then : ℕ → Mine → Type 0) → Allows (Rules count size) slots id m size f then →
-    Allows (Rules count size) slots id m size f (λ n m'. (n ≤ size) × AreReached size m.0.seen n × then n m')
+pub counts_told : (count size slots id : ℕ) (m : Mine) (f : ℕ → ℕ) (then : ℕ → Mine → Type 0) → Keeps count size slots id m size f then →
+    Keeps count size slots id m size f (λ n m'. (n ≤ size) × AreReached size m.0.seen n × then n m')
 counts_told count size slots id m f then may s r deep at small =
     let h = may s r deep at small in
     let most = (lists_have_lengths r.world r.books r.routes r.lawful).claimed in
@@ -35,18 +35,18 @@ counts_told count size slots id m f then may s r deep at small =
     (h.0, h.1, h.2, h.3, (omega (arith, most, is, size_is), (λ k earlier e. (counts_were_reached count size s r id m.0 k earlier at e).0), h.4))
 
 pub count_may : (t : TableName) (id word serial : ℕ) (m : Mine) (told : Tells) → IsPicked told (counted t.size serial) → m.0.parts ≡ part_in m.0 ∷ [] → CanClaim (part_in m.0).state serial → t.size ≡ word →
-    Allows (Rules t.count t.size) t.id.slots id m word (λ n. n) (told m)
+    Keeps t.count t.size t.id.slots id m word (λ n. n) (told m)
 count_may t id word serial m told picked whole can at =
     may_by t.count t.size t.id.slots id m word (λ n. n) told (counted t.size serial) picked
-    (subst (λ (i : ℕ). Allows (Rules t.count t.size) t.id.slots id m i (λ n. n) (counted t.size serial m)) at
+    (subst (λ (i : ℕ). Keeps t.count t.size t.id.slots id m i (λ n. n) (counted t.size serial m)) at
     (counts_told t.count t.size t.id.slots id m (λ n. n) (λ n m'. MatchBool (eqb n t.size) (m' ≡ (change_part (act_part (acts.Router serial router_acts.Claim) answers.NoWord) (saw t.size n m.0), m.1)) (m' ≡ (saw t.size n m.0, m.1)))
     (loads_for_claim t.count t.size t.id.slots id m (part_in m.0) serial can.0 whole can.1)))
 
 pub claim_may : (t : TableName) (id word serial c : ℕ) (m : Mine) (told : Tells) → IsPicked told (claimed t.size serial c) → m.0.parts ≡ part_in m.0 ∷ [] → CanClaim (part_in m.0).state serial → c < t.size → t.size ≡ word →
-    Allows (Rules t.count t.size) t.id.slots id m word (λ n. either (eqb n c) (c + 1) n) (told m)
+    Keeps t.count t.size t.id.slots id m word (λ n. either (eqb n c) (c + 1) n) (told m)
 claim_may t id word serial c m told picked whole can few at =
     may_by t.count t.size t.id.slots id m word (λ n. either (eqb n c) (c + 1) n) told (claimed t.size serial c) picked
-    (subst (λ (i : ℕ). Allows (Rules t.count t.size) t.id.slots id m i (λ n. either (eqb n c) (c + 1) n) (claimed t.size serial c m)) at
+    (subst (λ (i : ℕ). Keeps t.count t.size t.id.slots id m i (λ n. either (eqb n c) (c + 1) n) (claimed t.size serial c m)) at
     (claims t.count t.size t.id.slots id c m (part_in m.0) serial can.0 whole can.1 few))
 
 module _ (t : TableName) (n : Node) (hand : Option Message) (tos : List ℕ) (id : TableId) (me : Mine) (was : IsCell t n hand tos id me) (id' : TableId) (me' : Mine) (same : id' ≡ id) (sound : AreSound t.count t.size me'.0) where

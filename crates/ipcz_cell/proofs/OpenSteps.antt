@@ -4,7 +4,6 @@ use Rattle.std.proofs.Common.{ap, sym, subst, ◌∙◌, refl, arith, append_ass
 use Rattle.std.proofs.lemmas.Bool.Decides.{nat_tests}
 use prog.Atomic.{either}
 use Rattle.atomic_table.specs.Seated.{TableId}
-use Rattle.atomic_table.specs.Table.{Allows}
 use Rattle.ipcz_base.specs.declared.end.End.{End}
 use Rattle.ipcz_base.specs.declared.message.Message.{Message}
 use Rattle.ipcz_base.specs.declared.refusal.Refusal.{Refusal}
@@ -16,7 +15,7 @@ use Rattle.ipcz_node.specs.Node.{Node}
 use Rattle.ipcz_node.specs.Calls.{serials_refusal}
 use Rattle.ipcz_node.specs.RoomyNodes.{CanOpen, RoomyNode, NodeRoom}
 use Rattle.ipcz_rule.specs.declared.view.Part.{Part}
-use Rattle.ipcz_rule.specs.Rule.{Mine, Rules}
+use Rattle.ipcz_rule.specs.Rule.{Mine}
 use Rattle.ipcz_rule.specs.Steps.{claimed_part, open_part}
 use Rattle.ipcz_rule.proofs.WordKinds.{loads}
 use Rattle.ipcz_rule.proofs.Claiming.{claims_for_open}
@@ -32,23 +31,24 @@ use Rattle.ipcz_cell.specs.Opens.{box_loads, FindsFree}
 use Rattle.ipcz_cell.proofs.Seating.{KeepsHands, reseated, touched_cell}
 use Rattle.ipcz_cell.proofs.Counting.{counts_told}
 use Rattle.ipcz_cell.proofs.Wording.{words_told}
+use Rattle.ipcz_cell.specs.Seats.{Keeps}
 
 pub count_load_may : (t : TableName) (id word : ℕ) (m : Mine) → m.0.parts ≡ part_in m.0 ∷ [] → t.size ≡ word →
-    Allows (Rules t.count t.size) t.id.slots id m word (λ n. n) (count_loaded word m)
+    Keeps t.count t.size t.id.slots id m word (λ n. n) (count_loaded word m)
 count_load_may t id word m whole at =
-    subst (λ (i : ℕ). Allows (Rules t.count t.size) t.id.slots id m i (λ n. n) (count_loaded i m)) at
+    subst (λ (i : ℕ). Keeps t.count t.size t.id.slots id m i (λ n. n) (count_loaded i m)) at
     (counts_told t.count t.size t.id.slots id m (λ n. n) (loaded t.size m) (loads t.count t.size t.id.slots id t.size m (part_in m.0) whole))
 
 pub word_load_may : (t : TableName) (id i : ℕ) (m : Mine) → m.0.parts ≡ part_in m.0 ∷ [] → i < t.size →
-    Allows (Rules t.count t.size) t.id.slots id m i (λ n. n) (word_loaded i m)
+    Keeps t.count t.size t.id.slots id m i (λ n. n) (word_loaded i m)
 word_load_may t id i m whole inside =
     let told = words_told t.count t.size t.id.slots id i None m (λ n. n) (loaded i m) inside (λ s r at. tt) (loads t.count t.size t.id.slots id i m (part_in m.0) whole) in
     λ s r deep at small. let h = told s r deep at small in (h.0, h.1, h.2, h.3, (h.4.0, h.4.2))
 
 pub open_claim_may : (t : TableName) (id word c : ℕ) (m : Mine) → m.0.parts ≡ part_in m.0 ∷ [] → (part_in m.0).state.opening ≡ None → c < t.size → t.size ≡ word →
-    Allows (Rules t.count t.size) t.id.slots id m word (λ n. either (eqb n c) (c + 1) n) (open_claimed word c m)
+    Keeps t.count t.size t.id.slots id m word (λ n. either (eqb n c) (c + 1) n) (open_claimed word c m)
 open_claim_may t id word c m whole none few at =
-    subst (λ (i : ℕ). Allows (Rules t.count t.size) t.id.slots id m i (λ n. either (eqb n c) (c + 1) n) (open_claimed i c m)) at
+    subst (λ (i : ℕ). Keeps t.count t.size t.id.slots id m i (λ n. either (eqb n c) (c + 1) n) (open_claimed i c m)) at
     (claims_for_open t.count t.size t.id.slots id c m (part_in m.0) whole none few)
 
 open_bits : bits_of open_word ≡ 3
@@ -56,9 +56,9 @@ unfolding open_word bits_of sets_bits source_bits has both no_sides
 open_bits = refl
 
 pub open_may : (t : TableName) (id i : ℕ) (m : Mine) → m.0.parts ≡ part_in m.0 ∷ [] → (part_in m.0).state.opening ≡ Some i → serials_refusal (part_in m.0).state ≡ None →
-    Allows (Rules t.count t.size) t.id.slots id m i (λ n. either (eqb n 0) 3 n) (opened i m)
+    Keeps t.count t.size t.id.slots id m i (λ n. either (eqb n 0) 3 n) (opened i m)
 open_may t id i m whole is fine =
-    subst (λ (w : ℕ). Allows (Rules t.count t.size) t.id.slots id m i (λ n. either (eqb n 0) w n) (opened i m)) open_bits
+    subst (λ (w : ℕ). Keeps t.count t.size t.id.slots id m i (λ n. either (eqb n 0) w n) (opened i m)) open_bits
     (opens t.count t.size t.id.slots id i m (part_in m.0) whole is fine)
 
 -- a node with room for a pair has the serials for it

@@ -8,12 +8,12 @@ use Rattle.ipcz_node.specs.Node.{Node}
 use Rattle.ipcz_world.specs.Soundness.{IsSound}
 use Rattle.ipcz_rule.specs.declared.view.View.{View}
 use Rattle.ipcz_rule.specs.declared.view.Part.{Part}
-use Rattle.atomic_table.specs.Table.{Allows}
-use Rattle.ipcz_rule.specs.Rule.{Slot, Mine, Rules}
+use Rattle.ipcz_rule.specs.Rule.{Slot, Mine}
 use Rattle.ipcz_cell.specs.Outcomes.{Tells, IsPicked}
 use Rattle.ipcz_cell.specs.TableNames.{TableName}
 use Rattle.ipcz_cell.specs.CellStates.{CellState, part_in, first_part}
 use Rattle.ipcz_cell.specs.Cells.{AreBelow, AreSound, IsSeated, IsCell, IsSoundCell, held_slots}
+use Rattle.ipcz_cell.specs.Seats.{Keeps}
 
 -- what a touch leaves of a part
 pub record KeepsHands (p p' : Part) : Type 0 where
@@ -99,5 +99,5 @@ touched_or_same (Ok x) t n n' hand tos id id' me me' p' v' Same was seated done 
 touched_or_same (Err x) t n n' hand tos id id' me me' p' v' Same was seated done same is keeps = same_cell t n n' hand tos id id' me me' was seated same.1
 
 -- what may be told by a name of it
-pub may_by : (count size slots id : ℕ) (m : Mine) (i : ℕ) (f : ℕ → ℕ) (t u : Tells) → IsPicked t u → Allows (Rules count size) slots id m i f (u m) → Allows (Rules count size) slots id m i f (t m)
+pub may_by : (count size slots id : ℕ) (m : Mine) (i : ℕ) (f : ℕ → ℕ) (t u : Tells) → IsPicked t u → Keeps count size slots id m i f (u m) → Keeps count size slots id m i f (t m)
 may_by count size slots id m i f t u e may s r deep at small = let h = may s r deep at small in (h.0, h.1, h.2, h.3, e.said m _ _ h.4)

@@ -12,6 +12,7 @@ use Rattle.ipcz_rule.specs.declared.view.View.{View}
 use Rattle.ipcz_rule.specs.Rule.{St, Mine, Rules}
 use Rattle.ipcz_cell.specs.Cells.{AreSound}
 use Rattle.ipcz_world.proofs.Whole.{nodes_are_sound}
+use Rattle.ipcz_cell.specs.Seats.{Keeps}
 
 -- a seat's view is inside
 at_inside : (l : List View) (i : ℕ) (v : View) → get_elem? l i ≡ some v → i < length l
@@ -29,15 +30,15 @@ sound_at count size s r id v at k p there =
     let sized = subst (λ (z : ℕ). IsSound count z p.node (node_at r.world p.node)) r.words counted in
     (omega (arith, inside, r.nodes), subst (λ (n : Node). IsSound count size p.node n) t.1.state sized)
 
-pub tells : (count size slots id i : ℕ) (m : Mine) (f : ℕ → ℕ) (then : ℕ → Mine → Type 0) → Allows (Rules count size) slots id m i f then →
+pub tells : (count size slots id i : ℕ) (m : Mine) (f : ℕ → ℕ) (then : ℕ → Mine → Type 0) → Keeps count size slots id m i f then →
     Allows (Rules count size) slots id m i f (λ n m'. then n m' × AreSound count size m'.0)
 tells count size slots id i m f then may s r deep at small =
     let t = may s r deep at small in
-    (t.0, t.1, t.2, t.3, (t.4, sound_at count size _ t.3 id t.0 (set_here s.views id t.0 (at_inside s.views id m.0 at))))
+    (t.0, t.1, t.2, t.3.0, (t.4, sound_at count size _ t.3.0 id t.0 (set_here s.views id t.0 (at_inside s.views id m.0 at))))
 
 -- the same at the table's own numbers
 pub step_may : (c s slots count size slots' i id : ℕ) (m : Mine) (f : ℕ → ℕ) (then : ℕ → Mine → Type 0) → c ≡ count → s ≡ size → slots ≡ slots' →
-    Allows (Rules count size) slots' id m i f then → Allows (Rules c s) slots id m i f (λ n m'. then n m' × AreSound count size m'.0)
+    Keeps count size slots' id m i f then → Allows (Rules c s) slots id m i f (λ n m'. then n m' × AreSound count size m'.0)
 step_may c s slots count size slots' i id m f then ec es el may =
     let told = tells count size slots' id i m f then may in
     let then' : ℕ → Mine → Type 0 = λ n m'. then n m' × AreSound count size m'.0 in

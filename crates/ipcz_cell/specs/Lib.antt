@@ -1,4 +1,5 @@
 pub mod Races
+pub mod Seats
 pub mod TableNames
 pub mod CellStates
 pub mod Cells

@@ -1,14 +1,13 @@
 //! Cells: a node's state with its seat at the table. Here are its puts, gets and closes, and the acts that take no link word and no mailbox.
 ghost use Rattle.std.specs.Prelude.{◌≡◌, ◌<◌, ◌+◌, true, false, if◌then◌else◌, Some, None, OnOk, OnErr, IfOk, IfErr, IsOk, unwrap_or};
-ghost use Rattle.atomic_table.specs.Table.{Allows};
 ghost use Rattle.ipcz_node.specs.Calls.{put_refusal, put_number, get_refusal, got_at, close_refusal};
 ghost use Rattle.ipcz_node.specs.RoomyNodes.{IsReadyFor, IsPossibleAct};
 ghost use Rattle.ipcz_node.specs.Acts.{act_lacks_serials};
 ghost use Rattle.ipcz_node.specs.Preparing.{act_grows};
 ghost use Rattle.ipcz_node.specs.Events.{event_of};
-ghost use Rattle.ipcz_rule.specs.Rule.{Rules};
 ghost use Rattle.ipcz_cell.specs.CellStates.{part_in, change_part, roomy};
 ghost use Rattle.ipcz_cell.specs.Cells.{AreSound, IsSeated};
+ghost use Rattle.ipcz_cell.specs.Seats.{Keeps};
 ghost use Rattle.ipcz_rule.specs.Steps.{put_part, close_part, act_part};
 ghost use Rattle.ipcz_world.specs.Wordless.{is_wordless};
 ghost use Rattle.ipcz_cell.specs.Parts.{got_part};
@@ -60,7 +59,7 @@ fn touch<F: FabricName, X: Outcome>(
 ) -> u64
     requires own { seat.old.table_id ≡ F.table.id }
     requires node { node < F.table.count }
-    requires may { Allows (Rules F.table.count F.table.size) F.table.id.slots seat.old.id seat.old.me (F.table.size + 1 + node) (λ n. n)
+    requires may { Keeps F.table.count F.table.size F.table.id.slots seat.old.id seat.old.me (F.table.size + 1 + node) (λ n. n)
         (X.tells seat.old.me) }
     ensures table { seat.new.table_id ≡ seat.old.table_id }
     ensures done { X.tells seat.old.me result seat.new.me }

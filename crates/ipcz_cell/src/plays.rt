@@ -2,9 +2,8 @@
 ghost use Rattle.std.specs.Prelude.{◌≡◌, ◌<◌, ◌==◌};
 ghost use Rattle.std.specs.Prelude.{bit_and, bit_or};
 ghost use prog.Atomic.{either};
-ghost use Rattle.atomic_table.specs.Table.{Allows};
-ghost use Rattle.ipcz_rule.specs.Rule.{Rules};
 ghost use Rattle.ipcz_cell.specs.Cells.{AreSound};
+ghost use Rattle.ipcz_cell.specs.Seats.{Keeps};
 
 use crate::fabric::{Fabric, FabricName};
 use atomic_table::{Join, Play, Seat, Split};
@@ -45,7 +44,7 @@ pub(crate) fn load_step<F: FabricName, X: Outcome>(
 ) -> u64
     requires own { seat.old.table_id ≡ F.table.id }
     requires inside { word < F.table.id.words }
-    requires may { Allows (Rules F.table.count F.table.size) F.table.id.slots seat.old.id seat.old.me word (λ n. n) (X.tells seat.old.me) }
+    requires may { Keeps F.table.count F.table.size F.table.id.slots seat.old.id seat.old.me word (λ n. n) (X.tells seat.old.me) }
     ensures table { seat.new.table_id ≡ seat.old.table_id }
     ensures done { X.tells seat.old.me result seat.new.me }
     ensures sound { AreSound F.table.count F.table.size seat.new.me.0 }
@@ -62,7 +61,7 @@ pub(crate) fn store_step<F: FabricName, X: Outcome>(
 )
     requires own { seat.old.table_id ≡ F.table.id }
     requires inside { word < F.table.id.words }
-    requires may { Allows (Rules F.table.count F.table.size) F.table.id.slots seat.old.id seat.old.me word (λ _. new)
+    requires may { Keeps F.table.count F.table.size F.table.id.slots seat.old.id seat.old.me word (λ _. new)
         (λ _. X.tells seat.old.me new) }
     ensures table { seat.new.table_id ≡ seat.old.table_id }
     ensures done { X.tells seat.old.me new seat.new.me }
@@ -81,7 +80,7 @@ pub(crate) fn exchange_step<F: FabricName, X: Outcome>(
 ) -> u64
     requires own { seat.old.table_id ≡ F.table.id }
     requires inside { word < F.table.id.words }
-    requires may { Allows (Rules F.table.count F.table.size) F.table.id.slots seat.old.id seat.old.me word (λ n. either (n == old) new n)
+    requires may { Keeps F.table.count F.table.size F.table.id.slots seat.old.id seat.old.me word (λ n. either (n == old) new n)
         (X.tells seat.old.me) }
     ensures table { seat.new.table_id ≡ seat.old.table_id }
     ensures done { X.tells seat.old.me result seat.new.me }
@@ -102,7 +101,7 @@ pub(crate) fn set_step<F: FabricName, X: Outcome>(
 ) -> u64
     requires own { seat.old.table_id ≡ F.table.id }
     requires inside { word < F.table.id.words }
-    requires may { Allows (Rules F.table.count F.table.size) F.table.id.slots seat.old.id seat.old.me word (λ n. bit_or n bits)
+    requires may { Keeps F.table.count F.table.size F.table.id.slots seat.old.id seat.old.me word (λ n. bit_or n bits)
         (X.tells seat.old.me) }
     ensures table { seat.new.table_id ≡ seat.old.table_id }
     ensures done { X.tells seat.old.me result seat.new.me }
@@ -120,7 +119,7 @@ pub(crate) fn keep_step<F: FabricName, X: Outcome>(
 ) -> u64
     requires own { seat.old.table_id ≡ F.table.id }
     requires inside { word < F.table.id.words }
-    requires may { Allows (Rules F.table.count F.table.size) F.table.id.slots seat.old.id seat.old.me word (λ n. bit_and n bits)
+    requires may { Keeps F.table.count F.table.size F.table.id.slots seat.old.id seat.old.me word (λ n. bit_and n bits)
         (X.tells seat.old.me) }
     ensures table { seat.new.table_id ≡ seat.old.table_id }
     ensures done { X.tells seat.old.me result seat.new.me }

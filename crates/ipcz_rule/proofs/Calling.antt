@@ -29,7 +29,10 @@ use Rattle.ipcz_world.proofs.facts.LinkTests.{same_end-itself}
 use Rattle.ipcz_world.proofs.Whole.{each_step_keeps_lawful, replies_plainly}
 use Rattle.ipcz_rule.specs.Rule.{with_part}
 use Rattle.ipcz_rule.specs.Steps.{get_part, close_part, act_part}
-use Rattle.ipcz_rule.specs.Kinds.{KeepsRule, IsTurns, Gets, Closes, PendingCloses}
+use Rattle.ipcz_rule.specs.Kinds.{KeepsEnds, IsKept, IsTurns, Gets, Closes, PendingCloses}
+use Rattle.ipcz_world.specs.HeldEnds.{IsEndHeld}
+use Rattle.ipcz_world.proofs.lawful.LettingGo.{held_were_held}
+use Rattle.ipcz_rule.proofs.KeptEnds.{turns_keep}
 use Rattle.ipcz_rule.proofs.FromLaws.{terminal_books, pending_terminal}
 use Rattle.ipcz_rule.proofs.Touching.{touches, touches_turn, set_moves, After, turn_after}
 use Rattle.ipcz_rule.proofs.Adding.{joined_put, joined_got}
@@ -86,7 +89,14 @@ get_lawful w b g n at number q lawful inside fine got =
       (subst (λ (e : Effect). Plain b step e.reply (advance w b step e.reply)) done plain).0,
     )
 
-pub gets : Gets
+get_ends : (w : World) (b : Books) (g : Routes) (n : ℕ) (at : End) (number : ℕ) (q : parcels.Parcel) → Lawful w b g → n < w.count →
+    get_refusal (node_at w n) at ≡ None → got_at (node_at w n) at ≡ Some (number, q) → KeepsEnds w (set_node w n (get_node (node_at w n) at))
+get_ends w b g n at number q lawful inside fine got i s held =
+    let it = get_step w n at in
+    held_were_held w it.world b g (steps.Get n at) it.reply i s lawful (refl, refl)
+    (subst (λ (u : World). IsEndHeld u i s) (sym (ap (λ (e : Effect). e.world) (get_gives w n at number q inside fine got))) held)
+
+pub gets : Gets IsKept
 gets count size slots id i m p at number q is fine got =
     let p' = get_part at number q p in
     let v' = with_part p' m.0 in
@@ -110,7 +120,7 @@ gets count size slots id i m p at number q is fine got =
       claimed = claimed-set_node w n p'.state;
       joined = joined_got s.views id m.0 v' p p' b at seat is refl r.joined q keeps.none_gone (ap (λ k. p.got ++ ((at, k), q) ∷ []) index) refl refl;
       lawful = subst (λ (y : Node). Lawful (set_node w n (get_node y at)) (add_got b at q) g') state kept.0;
-      known = tt;
+      known = subst (λ (y : Node). KeepsEnds w (set_node w n (get_node y at))) state (get_ends w b g n at number q r.lawful inside (rw state fine) (rw state got));
     })
 
 -- close
@@ -143,7 +153,14 @@ close_lawful w b g n at lawful inside fine =
       (subst (λ (e : Effect). Plain b step e.reply (advance w b step e.reply)) done plain).0,
     )
 
-pub closes : Closes
+close_ends : (w : World) (b : Books) (g : Routes) (n : ℕ) (at : End) → Lawful w b g → n < w.count → close_refusal (node_at w n) at ≡ None →
+    KeepsEnds w (set_node w n (close_node (node_at w n) at))
+close_ends w b g n at lawful inside fine i s held =
+    let it = close_step w n at in
+    held_were_held w it.world b g (steps.Close n at) it.reply i s lawful (inl (refl, refl))
+    (subst (λ (u : World). IsEndHeld u i s) (sym (ap (λ (e : Effect). e.world) (close_gives w n at inside fine))) held)
+
+pub closes : Closes IsKept
 closes count size slots id i m p at is fine =
     let p' = close_part at p in
     let v' = with_part p' m.0 in
@@ -164,7 +181,7 @@ closes count size slots id i m p at is fine =
       claimed = claimed-set_node w n p'.state;
       joined = joined_put s.views id m.0 v' p p' b at seat is refl r.joined Mark (ap (λ k. p.put ++ ((at, k), Mark) ∷ []) kept.1) refl refl;
       lawful = kept.0;
-      known = tt;
+      known = subst (λ (y : Node). KeepsEnds w (set_node w n (close_node y at))) state (close_ends w b g n at r.lawful inside (rw state fine));
     })
 
 -- a pending close
@@ -236,6 +253,6 @@ pending_closes_turns count size slots id i m p e is first =
       known = done.1;
     })
 
-pub pending_closes : PendingCloses KeepsRule
+pub pending_closes : PendingCloses IsKept
 pending_closes count size slots id i m p e is first s r deep at small =
-    let t = pending_closes_turns count size slots id i m p e is first s r deep at small in (t.0, t.1, t.2, t.3.0, t.4)
+    let t = pending_closes_turns count size slots id i m p e is first s r deep at small in (t.0, t.1, t.2, turns_keep count size s _ r ((p.node, node_acts.Close e) ∷ []) t.3, t.4)

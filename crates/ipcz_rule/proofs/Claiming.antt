@@ -1,6 +1,6 @@
 -- Steps on the claim count: a claim of a proxy, one that finds no word, and the first half of an open.
 use Rattle.std.specs.Prelude.{◌≡◌, ◌≤◌, ◌<◌, ◌+◌, ℕ, Bool, true, false, nat_lt, [], ◌∷◌, length, slice_index, Some, None, refl, MatchBool, if◌then◌else◌}
-use Rattle.std.proofs.Common.{arith, ap, ◌∙◌, sym, inr, subst, set, length-set, get_or-set_same, get_or-set_other, eqb, eqb-true}
+use Rattle.std.proofs.Common.{arith, ap, ◌∙◌, sym, inl, inr, subst, set, length-set, get_or-set_same, get_or-set_other, eqb, eqb-true}
 use Rattle.std.proofs.lemmas.Bool.Decides.{nat_tests}
 use prog.Atomic.{either}
 use mathlib.Core.Option.{some}
@@ -25,14 +25,17 @@ use Rattle.ipcz_world.proofs.frames.Frames.{node-set_node, node-set_claimed, wor
 use Rattle.ipcz_world.proofs.Whole.{claim_keeps_lawful}
 use Rattle.ipcz_rule.specs.declared.view.View.{View}
 use Rattle.ipcz_rule.specs.declared.view.Part.{Part}
+use Rattle.ipcz_world.specs.HeldEnds.{IsEndHeld}
+use Rattle.ipcz_world.proofs.lawful.LettingGo.{held_for_open_were_held}
 use Rattle.ipcz_rule.specs.Rule.{Slot, St, Mine, mailbox, Rules, with_part, saw}
 use Rattle.ipcz_rule.specs.Steps.{CanAct, claimed_part}
-use Rattle.ipcz_rule.specs.Kinds.{Follows, KeepsRule, IsTurns, turn_where, Claims, ClaimsForOpen, LoadsForClaim}
+use Rattle.ipcz_rule.specs.Kinds.{Follows, IsKept, KeepsEnds, IsTurns, turn_where, Claims, ClaimsForOpen, LoadsForClaim}
+use Rattle.ipcz_rule.proofs.KeptEnds.{turns_keep}
 use Rattle.ipcz_rule.proofs.Counts.{Sees}
 use Rattle.ipcz_rule.proofs.Moved.{ruled_with, spelled, keeps_sources}
 use Rattle.ipcz_rule.proofs.Touches.{NodeMoves, others_spell, own_spells, mails_show}
 use Rattle.ipcz_rule.proofs.Joins.{joined_same}
-use Rattle.ipcz_rule.proofs.Touching.{KeepsHands, set_moves, Anything, After}
+use Rattle.ipcz_rule.proofs.Touching.{KeepsHands, set_moves, After}
 use Rattle.ipcz_rule.proofs.Acting.{plain_part, act_routes, act_after, act_hand}
 use Rattle.ipcz_rule.proofs.Wording.{sees}
 
@@ -127,9 +130,9 @@ module _ (count size id : ℕ) (m : Mine) (p : Part) (serial : ℕ) (rt : Router
 pub claims_turns : Claims IsTurns
 claims_turns count size slots id c m p serial rt is can small s r deep at low = claimed_word count size id m p serial rt c is can small s r at
 
-pub claims : Claims KeepsRule
+pub claims : Claims IsKept
 claims count size slots id c m p serial rt is can below s r deep at small =
-    let t = claims_turns count size slots id c m p serial rt is can below s r deep at small in (t.0, t.1, t.2, t.3.0, t.4)
+    let t = claims_turns count size slots id c m p serial rt is can below s r deep at small in (t.0, t.1, t.2, turns_keep count size s _ r _ t.3, t.4)
 
 dry_after : (w : World) (n serial : ℕ) (x : Node) (rt : Router) → node_at w n ≡ x → nat_lt w.claimed w.size ≡ false →
     after_router_act w n serial acts.Claim (Some rt) ≡ set_node w n (commit x (OfRouter serial acts.Claim) answers.NoWord)
@@ -181,9 +184,9 @@ module _ (count size id : ℕ) (m : Mine) (p : Part) (serial : ℕ) (rt : Router
 pub loads_for_claim_turns : LoadsForClaim IsTurns
 loads_for_claim_turns count size slots id m p serial rt is can s r deep at small = dry_found count size id m p serial rt is can s r at
 
-pub loads_for_claim : LoadsForClaim KeepsRule
+pub loads_for_claim : LoadsForClaim IsKept
 loads_for_claim count size slots id m p serial rt is can s r deep at small =
-    let t = loads_for_claim_turns count size slots id m p serial rt is can s r deep at small in (t.0, t.1, t.2, t.3.0, t.4)
+    let t = loads_for_claim_turns count size slots id m p serial rt is can s r deep at small in (t.0, t.1, t.2, turns_keep count size s _ r _ t.3, t.4)
 
 half_moves : (w : World) (c n : ℕ) (x : Node) → NodeMoves w (set_claimed (set_node w n x) c) n x
 half_moves w c n x = record {
@@ -204,7 +207,7 @@ module _ (count size id : ℕ) (m : Mine) (p : Part) (c : ℕ) (is : m.0.parts �
   HalfTold b m' = MatchBool b (m' ≡ (with_part (claimed_part c p) (saw size count_found m.0), m.1)) (m' ≡ (saw size count_found m.0, m.1))
 
   abbrev Half : Bool → Type 0
-  Half b = (v : View) × (a : TableAct Slot) × Valid s.homes m.1 a × Rules count size (stepped s size (either b (c + 1) count_found) id m.1 v a) × HalfTold b (v, carried_after m.1 a)
+  Half b = (v : View) × (a : TableAct Slot) × Valid s.homes m.1 a × ((r' : Rules count size (stepped s size (either b (c + 1) count_found) id m.1 v a)) × KeepsEnds r.world r'.world) × HalfTold b (v, carried_after m.1 a)
 
   half_by : (b : Bool) → eqb count_found c ≡ b → Half b
   half_by true e =
@@ -217,19 +220,24 @@ module _ (count size id : ℕ) (m : Mine) (p : Part) (c : ℕ) (is : m.0.parts �
       let w' = set_claimed (set_node w p.node p'.state) (c + 1) in
       let lawful : Lawful w' r.books r.routes = subst (λ (k : ℕ). Lawful (set_claimed (set_node w p.node (record p.state { opening = Some k })) (k + 1)) r.books r.routes) found
       (subst (λ (y : Node). Lawful (set_claimed (set_node w p.node (record y { opening = Some w.claimed })) (w.claimed + 1)) r.books r.routes) sp.state kept) in
+      let ends : KeepsEnds w w' = subst (λ (k : ℕ). KeepsEnds w (set_claimed (set_node w p.node (record p.state { opening = Some k })) (k + 1))) found
+      (subst (λ (y : Node). KeepsEnds w (set_claimed (set_node w p.node (record y { opening = Some w.claimed })) (w.claimed + 1))) sp.state
+      (λ k side held. held_for_open_were_held w r.books r.routes p.node k side r.lawful sp.inside held)) in
       let v' = with_part p' (saw size count_found m.0) in (
         v',
         keeps,
         tt,
-        (claim_rules count size s r id m.0 v' p p' w' r.routes (c + 1) at is refl (inr (size, refl)) (half_moves w (c + 1) p.node p'.state)
+        claim_rules count size s r id m.0 v' p p' w' r.routes (c + 1) at is refl (inr (size, refl)) (half_moves w (c + 1) p.node p'.state)
             (λ j. word-set_claimed (set_node w p.node p'.state) (c + 1) j ∙ word-set_node w p.node p'.state j) (sym (claimed-set_claimed (set_node w p.node p'.state) (c + 1))) (omega (arith, found))
-            (record { node = refl; hand = refl; message = refl; probed = refl }) refl refl refl lawful Anything tt).0,
+            (record { node = refl; hand = refl; message = refl; probed = refl }) refl refl refl lawful (λ u b g. KeepsEnds w u) ends,
         refl,
       )
-  half_by false e = (saw size count_found m.0, keeps, tt, (sees s r size id m.0 (saw size count_found m.0) p at is is (inr (size, refl))).0, refl)
+  half_by false e =
+      let f = sees s r size id m.0 (saw size count_found m.0) p at is is (inr (size, refl)) in
+      (saw size count_found m.0, keeps, tt, (f.0, (λ k side held. inl (subst (λ (u : World). IsEndHeld u k side) f.1.0 held))), refl)
 
   pub half_claimed : Half (eqb count_found c)
   half_claimed = half_by (eqb count_found c) refl
 
-pub claims_for_open : ClaimsForOpen
+pub claims_for_open : ClaimsForOpen IsKept
 claims_for_open count size slots id c m p is idle small s r deep at low = half_claimed count size id m p c is idle small s r at

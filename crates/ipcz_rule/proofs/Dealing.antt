@@ -10,7 +10,7 @@ use Rattle.atomic_table.specs.Table.{Splits}
 use Rattle.atomic_table.proofs.Lists.{at_set, set_here, set_else, at_longer, at_last, at_snoc}
 use Rattle.ipcz_rule.specs.declared.view.View.{View}
 use Rattle.ipcz_rule.specs.declared.view.Part.{Part}
-use Rattle.ipcz_rule.specs.Rule.{Spells, InParts, Rules, puts_of, gets_of, drops_of}
+use Rattle.ipcz_rule.specs.Rule.{St, Spells, InParts, Rules, puts_of, gets_of, drops_of}
 use Rattle.ipcz_rule.specs.Start.{head_parts, tail_parts, dealt, after_deal, opening_part, opening_parts}
 use Rattle.ipcz_rule.proofs.Moved.{only, at_inside}
 use Rattle.ipcz_rule.proofs.Starting.{parts_are}
@@ -188,3 +188,9 @@ dealt_opening count v n below is = ap head_parts (is ∙ left-some count n below
 pub kept_opening : (count : ℕ) (v : View) (n : ℕ) → n < count → v.parts ≡ opening_parts count n (count - n) →
     (after_deal v).parts ≡ opening_parts count (n + 1) (count - (n + 1))
 kept_opening count v n below is = ap tail_parts (is ∙ left-some count n below)
+
+-- it shows the same world
+pub deals_opening_world : (count size id : ℕ) (v : View) (nodes n : ℕ) (below : n < nodes) (is : v.parts ≡ opening_parts nodes n (nodes - n)) (s : St) (r : Rules count size s) (at : get_elem? s.views id ≡ some v) →
+    (deals_opening count size id v nodes n below is s r at).world ≡ r.world
+unfolding deals_opening deals
+deals_opening_world count size id v nodes n below is s r at = refl

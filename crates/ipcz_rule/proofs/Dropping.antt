@@ -26,7 +26,8 @@ use Rattle.ipcz_world.proofs.Whole.{terminals_keep_books}
 use Rattle.ipcz_rule.specs.declared.view.Part.{Part}
 use Rattle.ipcz_rule.specs.Rule.{Mine, with_part, with_state}
 use Rattle.ipcz_rule.specs.Steps.{CanAct, act_part, add_gone_entry}
-use Rattle.ipcz_rule.specs.Kinds.{KeepsRule, IsTurns, Touches}
+use Rattle.ipcz_rule.specs.Kinds.{IsKept, IsTurns, Touches}
+use Rattle.ipcz_rule.proofs.KeptEnds.{turns_keep}
 use Rattle.ipcz_rule.proofs.Touching.{touches_turn, set_moves, After, turn_after}
 use Rattle.ipcz_rule.proofs.Acting.{is_unwritten, plain_part, acts_touch, act_routes, act_hand, here_at, possible, lacks, after_is}
 use Rattle.ipcz_rule.proofs.Adding.{joined_gone}
@@ -133,6 +134,6 @@ touches_acts_turns count size slots id i m p serial rt act is can e = elim (writ
   | inr (inr same) ↦ subst (Acted count size slots id i m p serial) (sym same) (retire_acts count size slots id i m p serial rt is (subst (CanAct p.state serial rt) same can))
 ]
 
-pub touches_acts : Touches KeepsRule
+pub touches_acts : Touches IsKept
 touches_acts count size slots id i m p serial rt act is can e s r deep at small =
-    let t = touches_acts_turns count size slots id i m p serial rt act is can e s r deep at small in (t.0, t.1, t.2, t.3.0, t.4)
+    let t = touches_acts_turns count size slots id i m p serial rt act is can e s r deep at small in (t.0, t.1, t.2, turns_keep count size s _ r ((p.node, OfRouter serial act) ∷ []) t.3, t.4)

@@ -26,7 +26,8 @@ use Rattle.ipcz_world.specs.Routes.{hand_of}
 use Rattle.ipcz_rule.specs.declared.view.View.{View}
 use Rattle.ipcz_rule.specs.Rule.{Slot, Mine, mailbox, with_part}
 use Rattle.ipcz_rule.specs.Steps.{hand_part, trusted}
-use Rattle.ipcz_rule.specs.Kinds.{Follows, KeepsRule, IsTurns, Hands}
+use Rattle.ipcz_rule.specs.Kinds.{Follows, IsKept, IsTurns, Hands}
+use Rattle.ipcz_rule.proofs.KeptEnds.{turns_keep}
 use Rattle.ipcz_rule.proofs.FromLaws.{hand_sender, hand_source}
 use Rattle.ipcz_rule.proofs.Joins.{joined_same}
 use Rattle.ipcz_rule.proofs.Moved.{spelled}
@@ -119,6 +120,6 @@ hands_turns count size slots id i k from m p x rest is at_k at_i holds has seria
     let G : List (ℕ × Slot) → Type 0 = λ held. (v : View) × (a : TableAct Slot) × Valid s.homes held a × Follows count size s r ((n, node_acts.Hand from) ∷ []) (stepped s i 0 id held v a) × Told (v, carried_after held a) in
     subst G (sym slot) (with_part p' m.0, gives, tt, rules, refl)
 
-pub hands : Hands KeepsRule
+pub hands : Hands IsKept
 hands count size slots id i k from m p x rest is at_k at_i holds has serials slot s r deep at small =
-    let t = hands_turns count size slots id i k from m p x rest is at_k at_i holds has serials slot s r deep at small in (t.0, t.1, t.2, t.3.0, t.4)
+    let t = hands_turns count size slots id i k from m p x rest is at_k at_i holds has serials slot s r deep at small in (t.0, t.1, t.2, turns_keep count size s _ r ((p.node, node_acts.Hand from) ∷ []) t.3, t.4)

@@ -9,7 +9,7 @@ use lib.ListN.{get_elem?}
 use Rattle.atomic_table.proofs.Lists.{at_set, set_here, set_else, at_longer}
 use Rattle.ipcz_rule.specs.declared.view.View.{View}
 use Rattle.ipcz_rule.specs.declared.view.Part.{Part}
-use Rattle.ipcz_rule.specs.Rule.{InParts, puts_of, gets_of, drops_of}
+use Rattle.ipcz_rule.specs.Rule.{St, InParts, Rules, puts_of, gets_of, drops_of}
 use Rattle.ipcz_rule.specs.Kinds.{together, spent, JoinsParts}
 use Rattle.ipcz_rule.proofs.Moved.{at_inside}
 
@@ -121,3 +121,9 @@ joins count size id v other w s r at apart at_other =
           let t = part_goes s.views id v other w at apart at_other h.id h.place h.view h.part h.seat h.there in
           record { id = t.0; view = t.1; place = t.2; part = h.part; seat = t.3; there = t.4; node_is = h.node_is };
     }
+
+-- it shows the same world
+pub joins_world : (count size id : ℕ) (v : View) (other : ℕ) (w : View) (s : St) (r : Rules count size s) (at : get_elem? s.views id ≡ some v) (apart : ¬ (other ≡ id))
+    (there : get_elem? (set s.views id (together v w)) other ≡ some w) → (joins count size id v other w s r at apart there).world ≡ r.world
+unfolding joins
+joins_world count size id v other w s r at apart there = λ i. r.world

@@ -32,3 +32,12 @@ pub mod Touches
 pub mod Touching
 pub mod WordKinds
 pub mod Wording
+pub mod Lasts
+pub mod LastsClaims
+pub mod LastsAll
+pub mod LastsCalls
+pub mod LastsOpenClaims
+pub mod LastsStart
+pub mod LastsSeats
+pub mod KeptEnds
+pub mod RunningDry

@@ -20,7 +20,7 @@ use Rattle.ipcz_rule.specs.declared.view.View.{View}
 use Rattle.ipcz_rule.specs.declared.view.Part.{Part}
 use Rattle.ipcz_rule.specs.Rule.{St, mailbox, Rules, with_part, with_state, saw}
 use Rattle.ipcz_rule.proofs.Counts.{Sees}
-use Rattle.ipcz_rule.proofs.Moved.{ruled, spelled, named_beside}
+use Rattle.ipcz_rule.proofs.Moved.{ruled_with, spelled, named_beside}
 use Rattle.ipcz_rule.proofs.Touches.{NodeMoves, others_spell, own_spells, mails_show}
 use Rattle.ipcz_rule.proofs.Joins.{joined_same}
 use Rattle.std.specs.Prelude.{nat_lt, if◌then◌else◌}
@@ -36,7 +36,9 @@ use Rattle.ipcz_world.specs.declared.step.Reply.TheVariants as replies
 use Rattle.ipcz_world.specs.Steps.{Effect, refuse, unless, open_on, open_step}
 use Rattle.ipcz_world.specs.Books.{Books, advance}
 use Rattle.ipcz_world.specs.Routes.{Routes, routes_after}
-use Rattle.ipcz_rule.specs.Kinds.{Opens}
+use Rattle.ipcz_rule.specs.Kinds.{KeepsEnds, IsKept, Opens}
+use Rattle.ipcz_world.specs.HeldEnds.{IsEndHeld}
+use Rattle.ipcz_world.proofs.lawful.LettingGo.{held_were_held}
 use Rattle.ipcz_rule.specs.Steps.{open_part}
 use Rattle.ipcz_rule.proofs.FromLaws.{opening_word}
 use Rattle.ipcz_rule.proofs.Known.{sound_part}
@@ -116,11 +118,19 @@ module _ (count size : ℕ) (s : St) (r : Rules count size s) (id : ℕ) (v v' :
   boxes : (k : ℕ) → slice_index (set s.words i n') (mailbox w k) ≡ slice_index s.words (mailbox w k)
   boxes k = get_or-set_other s.words i (mailbox w k) n' 0 (λ e. let l = below in omega arith)
 
-  pub open_rules : Rules count size record { words = set s.words i n'; homes = s.homes; views = set s.views id v' }
+  keeps_ends : KeepsEnds w w'
+  keeps_ends =
+      let sp = spelled s r id v p at is in
+      let it = open_step w p.node in
+      subst (λ (z : Node). KeepsEnds w (set_word (set_node w p.node (open_node z i)) i open_word)) sp.state
+      (λ k side held. held_were_held w it.world r.books r.routes (steps.Open p.node) it.reply k side r.lawful (inl (refl, refl))
+      (subst (λ (u : World). IsEndHeld u k side) (sym (ap (λ (e : Effect). e.world) (open_gives w p.node i p.state sp.inside sp.state opening fine))) held))
+
+  pub open_rules : (r' : Rules count size record { words = set s.words i n'; homes = s.homes; views = set s.views id v' }) × KeepsEnds w r'.world
   open_rules =
       let sp = spelled s r id v p at is in
       let moves = open_moves w i open_word p.node p'.state in
-      ruled s r w' r.books g' (set s.words i n') s.homes id v v' p p' at is is' sight (record {
+      ruled_with s r w' r.books g' (set s.words i n') s.homes id v v' p p' at is is' sight (record {
         count = moves.count;
         size = moves.size;
         wide = length-set s.words i n';
@@ -133,10 +143,10 @@ module _ (count size : ℕ) (s : St) (r : Rules count size s) (id : ℕ) (v v' :
         node = refl;
         own = own_spells s w w' (set s.words i n') p.node p'.state moves boxes p p' refl refl refl refl refl refl sp;
         others = others_spell s w w' (set s.words i n') p.node p'.state moves boxes;
-      }) (joined_same s.views id v v' p p' r.books at is is' refl refl refl r.joined) lawful
+      }) (joined_same s.views id v v' p p' r.books at is is' refl refl refl r.joined) lawful (λ u b g. KeepsEnds w u) keeps_ends
 
 -- open: the own new word goes from 0 to that of an open pair
-pub opens : Opens
+pub opens : Opens IsKept
 opens count size slots id i m p is opening fine s r deep at small =
     let w = r.world in
     let n : ℕ = slice_index s.words i in
@@ -145,5 +155,5 @@ opens count size slots id i m p is opening fine s r deep at small =
     let empty : word_at w i ≡ empty_word = opening_word w r.books r.routes p.node i r.lawful (ap (λ y. y.opening) sp.state ∙ opening) in
     let zero_here : n ≡ 0 = r.shows.links i (rw r.words inside) ∙ ap bits_of empty ∙ empty_bits in
     let v' = with_part (open_part i p) (saw i n m.0) in
-    let G : Bool → Type 0 = λ b. Rules count size (stepped s i (either b (bits_of open_word) n) id m.1 v' keeps) in
+    let G : Bool → Type 0 = λ b. (r' : Rules count size (stepped s i (either b (bits_of open_word) n) id m.1 v' keeps)) × KeepsEnds r.world r'.world in
     (v', keeps, tt, subst G (sym (eq-eqb n 0 zero_here)) (open_rules count size s r id m.0 v' p i (bits_of open_word) at is opening fine inside refl refl (inr (i, refl))), (zero_here, refl))

@@ -31,7 +31,8 @@ use Rattle.ipcz_rule.specs.declared.view.View.{View}
 use Rattle.ipcz_rule.specs.declared.view.Part.{Part}
 use Rattle.ipcz_rule.specs.Rule.{Slot, St, Mine, has_number, without_number, mailbox, MailAt, Spells, Rules, with_part, saw}
 use Rattle.ipcz_rule.specs.Steps.{post_part, look_part}
-use Rattle.ipcz_rule.specs.Kinds.{Follows, KeepsRule, IsTurns, turn_where, Posts, Looks}
+use Rattle.ipcz_rule.specs.Kinds.{Follows, IsKept, IsTurns, turn_where, Posts, Looks}
+use Rattle.ipcz_rule.proofs.KeptEnds.{turns_keep}
 use Rattle.ipcz_rule.proofs.FromLaws.{hand_stands}
 use Rattle.ipcz_rule.proofs.Joins.{joined_same}
 use Rattle.ipcz_rule.proofs.Moved.{spelled}
@@ -202,9 +203,9 @@ posts_turns count size slots id i k to m p x rest is at_k at_i small_to has full
     let G : List (ℕ × Slot) → Type 0 = λ held. (v : View) × (a : TableAct Slot) × Valid s.homes held a × Follows count size s r ((n, node_acts.Post to) ∷ []) (stepped s i 1 id held v a) × Told (v, carried_after held a) in
     subst G (sym slot) (with_part p' m.0, gives, tt, rules, refl)
 
-pub posts : Posts KeepsRule
+pub posts : Posts IsKept
 posts count size slots id i k to m p x rest is at_k at_i small_to has full first slot s r deep at small =
-    let t = posts_turns count size slots id i k to m p x rest is at_k at_i small_to has full first slot s r deep at small in (t.0, t.1, t.2, t.3.0, t.4)
+    let t = posts_turns count size slots id i k to m p x rest is at_k at_i small_to has full first slot s r deep at small in (t.0, t.1, t.2, turns_keep count size s _ r ((p.node, node_acts.Post to) ∷ []) t.3, t.4)
 
 module _ (count size slots id i k from : ℕ) (m : Mine) (p : Part) (is : m.0.parts ≡ p ∷ []) (at_k : k ≡ from * count + p.node) (at_i : i ≡ size + 1 + count + k) (small_from : from < count)
     (idle : p.state.hand ≡ None) (s : St) (r : Rules count size s) (at : get_elem? s.views id ≡ some m.0) (x : Message) where
@@ -275,6 +276,6 @@ module _ (count size slots id i k from : ℕ) (m : Mine) (p : Part) (is : m.0.pa
 pub looks_turns : Looks IsTurns
 looks_turns count size slots id i k from m p is at_k at_i small_from idle s r deep at small = looked count size slots id i k from m p is at_k at_i small_from idle s r at
 
-pub looks : Looks KeepsRule
+pub looks : Looks IsKept
 looks count size slots id i k from m p is at_k at_i small_from idle s r deep at small =
-    let t = looks_turns count size slots id i k from m p is at_k at_i small_from idle s r deep at small in (t.0, t.1, t.2, t.3.0, t.4)
+    let t = looks_turns count size slots id i k from m p is at_k at_i small_from idle s r deep at small in (t.0, t.1, t.2, turns_keep count size s _ r _ t.3, t.4)

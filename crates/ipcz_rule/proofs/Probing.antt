@@ -15,7 +15,8 @@ use Rattle.ipcz_rule.specs.declared.view.View.{View}
 use Rattle.ipcz_rule.specs.declared.view.Part.{Part}
 use Rattle.ipcz_rule.specs.Rule.{Slot, St, Mine, has_number, mailbox, MailAt, Spells, Rules, with_part, saw}
 use Rattle.ipcz_rule.specs.Steps.{probe_part}
-use Rattle.ipcz_rule.specs.Kinds.{Follows, KeepsRule, IsTurns, Probes}
+use Rattle.ipcz_rule.specs.Kinds.{Follows, IsKept, IsTurns, Probes}
+use Rattle.ipcz_rule.proofs.KeptEnds.{turns_keep}
 use Rattle.ipcz_rule.proofs.FromLaws.{hand_stands}
 use Rattle.ipcz_rule.proofs.Joins.{joined_same}
 use Rattle.ipcz_rule.proofs.Moved.{spelled}
@@ -76,6 +77,6 @@ module _ (count size id i k to : ℕ) (m : Mine) (p : Part) (is : m.0.parts ≡ 
 pub probes_turns : Probes IsTurns
 probes_turns count size slots id i k to m p is at_k at_i small_to s r deep at low = probed_mail count size id i k to m p is at_k at_i small_to s r at
 
-pub probes : Probes KeepsRule
+pub probes : Probes IsKept
 probes count size slots id i k to m p is at_k at_i small_to s r deep at small =
-    let t = probes_turns count size slots id i k to m p is at_k at_i small_to s r deep at small in (t.0, t.1, t.2, t.3.0, t.4)
+    let t = probes_turns count size slots id i k to m p is at_k at_i small_to s r deep at small in (t.0, t.1, t.2, turns_keep count size s _ r [] t.3, t.4)

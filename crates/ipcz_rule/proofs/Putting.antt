@@ -11,8 +11,8 @@ use Rattle.ipcz_world.specs.Lawful.{Lawful}
 use Rattle.ipcz_world.proofs.frames.Frames.{word-set_node, claimed-set_node}
 use Rattle.ipcz_rule.specs.Rule.{with_part}
 use Rattle.ipcz_rule.specs.Steps.{put_part}
-use Rattle.ipcz_rule.specs.Kinds.{Puts}
-use Rattle.ipcz_rule.proofs.Touching.{touches, set_moves, put_lawful}
+use Rattle.ipcz_rule.specs.Kinds.{KeepsEnds, IsKept, Puts}
+use Rattle.ipcz_rule.proofs.Touching.{touches, set_moves, put_lawful, put_ends}
 use Rattle.ipcz_rule.proofs.Adding.{joined_put}
 
 found_hand : (n : Node) (f : Option Found) (p : parcels.Parcel) → (on_found n f (put_at_router n p)).hand ≡ n.hand
@@ -20,7 +20,7 @@ unfolding on_found
 found_hand n None p = refl
 found_hand n (Some f) p = refl
 
-pub puts : Puts
+pub puts : Puts IsKept
 puts profile count size slots id i m p at bytes ends is fine =
     let p' = put_part at bytes ends p in
     let item = Parcel (record { bytes = bytes; ends = ends }) in
@@ -42,5 +42,5 @@ puts profile count size slots id i m p at bytes ends is fine =
       claimed = claimed-set_node w n p'.state;
       joined = joined_put s.views id m.0 v' p p' b at seat is refl r.joined item (ap (λ k. p.put ++ ((at, k), item) ∷ []) kept.1) refl refl;
       lawful = kept.0;
-      known = tt;
+      known = subst (λ (y : Node). KeepsEnds w (set_node w n (put_node y at (record { bytes = bytes; ends = ends })))) state (put_ends profile w b g n at bytes ends r.lawful inside (rw state fine));
     })

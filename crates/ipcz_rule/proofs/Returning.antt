@@ -17,7 +17,8 @@ use Rattle.ipcz_rule.specs.declared.view.View.{View}
 use Rattle.ipcz_rule.specs.declared.view.Part.{Part}
 use Rattle.ipcz_rule.specs.Rule.{Slot, Mine, has_number, without_number, mailbox, MailAt, Spells, with_part, saw}
 use Rattle.ipcz_rule.specs.Steps.{unprobe_part}
-use Rattle.ipcz_rule.specs.Kinds.{Follows, KeepsRule, IsTurns, Unprobes, GivesBack}
+use Rattle.ipcz_rule.specs.Kinds.{Follows, IsKept, IsTurns, Unprobes, GivesBack}
+use Rattle.ipcz_rule.proofs.KeptEnds.{turns_keep}
 use Rattle.ipcz_rule.proofs.FromLaws.{hand_stands, hand_sender}
 use Rattle.ipcz_rule.proofs.Joins.{joined_same}
 use Rattle.ipcz_rule.proofs.Moved.{spelled}
@@ -62,9 +63,9 @@ unprobes_turns count size slots id i k to m p rest is at_k at_i small_to has slo
     let G : List (ℕ × Slot) → Type 0 = λ held. (v : View) × (a : TableAct Slot) × Valid s.homes held a × Follows count size s r [] (stepped s i 0 id held v a) × Told (v, carried_after held a) in
     subst G (sym slot) (with_part p' m.0, gives, tt, rules, refl)
 
-pub unprobes : Unprobes KeepsRule
+pub unprobes : Unprobes IsKept
 unprobes count size slots id i k to m p rest is at_k at_i small_to has slot s r deep at small =
-    let t = unprobes_turns count size slots id i k to m p rest is at_k at_i small_to has slot s r deep at small in (t.0, t.1, t.2, t.3.0, t.4)
+    let t = unprobes_turns count size slots id i k to m p rest is at_k at_i small_to has slot s r deep at small in (t.0, t.1, t.2, turns_keep count size s _ r [] t.3, t.4)
 
 -- a mailbox at 2 shows its mail whatever its slot
 any_home : (n : ℕ) (home other : maybe.Option (maybe.Option Slot)) (x : Mail) → is_some (hand_message x) ≡ true → MailAt n home x → (n ≡ 2) × MailAt n other x
@@ -113,6 +114,6 @@ gives_back_turns count size slots id i k from m p y rest is at_k at_i holds slot
     let G : List (ℕ × Slot) → Type 0 = λ held. (v : View) × (a : TableAct Slot) × Valid s.homes held a × Follows count size s r [] (stepped s i word id held v a) × Told (v, carried_after held a) in
     subst G (sym slot) (v', gives, tt, rules, refl)
 
-pub gives_back : GivesBack KeepsRule
+pub gives_back : GivesBack IsKept
 gives_back count size slots id i k from m p y rest is at_k at_i holds slot s r deep at small =
-    let t = gives_back_turns count size slots id i k from m p y rest is at_k at_i holds slot s r deep at small in (t.0, t.1, t.2, t.3.0, t.4)
+    let t = gives_back_turns count size slots id i k from m p y rest is at_k at_i holds slot s r deep at small in (t.0, t.1, t.2, turns_keep count size s _ r [] t.3, t.4)

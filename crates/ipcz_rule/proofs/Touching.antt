@@ -5,7 +5,7 @@ use Rattle.std.proofs.lemmas.List.{set-get_or}
 use Rattle.std.proofs.lemmas.Bool.Decides.{nat_tests}
 use mathlib.Core.Option.{some}
 use lib.ListN.{get_elem?}
-use Rattle.atomic_table.specs.Table.{Allows, keeps}
+use Rattle.atomic_table.specs.Table.{keeps}
 use Rattle.ipcz_base.specs.declared.profile.Profile.TheVariants.{Printed, Wide}
 use Rattle.ipcz_base.specs.declared.profile.Profile.{Profile}
 use Rattle.ipcz_base.specs.declared.end.End.{End}
@@ -32,7 +32,9 @@ use Rattle.ipcz_world.proofs.Whole.{each_step_keeps_lawful, replies_plainly}
 use Rattle.ipcz_rule.specs.declared.view.View.{View}
 use Rattle.ipcz_rule.specs.declared.view.Part.{Part}
 use Rattle.ipcz_rule.specs.Rule.{St, Mine, mailbox, Joined, Rules}
-use Rattle.ipcz_rule.specs.Kinds.{IsTurns}
+use Rattle.ipcz_world.specs.HeldEnds.{IsEndHeld}
+use Rattle.ipcz_world.proofs.lawful.LettingGo.{held_were_held}
+use Rattle.ipcz_rule.specs.Kinds.{IsTurns, KeepsEnds, IsKept}
 use Rattle.ipcz_rule.proofs.Moved.{ruled_with, spelled, keeps_sources}
 use Rattle.ipcz_rule.proofs.Touches.{NodeMoves, others_spell, own_spells, mails_show}
 
@@ -79,17 +81,14 @@ touched count size id i m p p' v' is is' same_seen k s r at G t =
     }) t.joined t.lawful G t.known in
     subst After (sym (set-get_or s.words i 0)) rules
 
--- nothing more is said of the world after a call
-abbrev pub Anything : World → Books → Routes → Type 0
-Anything w b g = Unit {0}
-
 -- touch, of a call
 pub touches : (count size slots id i : ℕ) (m : Mine) (p p' : Part) (v' : View) → m.0.parts ≡ p ∷ [] → v'.parts ≡ p' ∷ [] → v'.seen ≡ m.0.seen → KeepsHands p p' →
-    ((s : St) (r : Rules count size s) → get_elem? s.views id ≡ some m.0 → p.node < r.world.count → node_at r.world p.node ≡ p.state → Touched r.world (set s.views id v') p p' Anything) →
-    Allows (Rules count size) slots id m i (λ n. n) (λ n m'. m' ≡ (v', m.1))
+    ((s : St) (r : Rules count size s) → get_elem? s.views id ≡ some m.0 → p.node < r.world.count → node_at r.world p.node ≡ p.state →
+    Touched r.world (set s.views id v') p p' (λ w b g. KeepsEnds r.world w)) →
+    IsKept count size slots id m i (λ n. n) (λ n. []) (λ n m'. m' ≡ (v', m.1))
 touches count size slots id i m p p' v' is is' same_seen k owes s r deep at small =
     let sp = spelled s r id m.0 p at is in
-    (v', keeps, tt, (touched count size id i m p p' v' is is' same_seen k s r at Anything (owes s r at sp.inside sp.state)).0, refl)
+    (v', keeps, tt, touched count size id i m p p' v' is is' same_seen k s r at (λ w b g. KeepsEnds r.world w) (owes s r at sp.inside sp.state), refl)
 
 -- touch, of an act
 pub touches_turn : (count size slots id i : ℕ) (m : Mine) (p p' : Part) (v' : View) (act : Act) → m.0.parts ≡ p ∷ [] → v'.parts ≡ p' ∷ [] → v'.seen ≡ m.0.seen → KeepsHands p p' →
@@ -172,3 +171,15 @@ pub put_lawful : (profile : Profile) (w : World) (b : Books) (g : Routes) (n : �
 unfolding advance routes_after
 put_lawful Printed w b g n at bytes ends = done_by Printed w b g n at bytes ends (steps.Put n at bytes ends) (inl (refl, refl)) refl refl (λ h. h.0)
 put_lawful Wide w b g n at bytes ends = done_by Wide w b g n at bytes ends (steps.PutWide n at bytes ends) (inl (refl, refl)) refl refl (λ h. h.0)
+
+-- and lets nobody have an end that nobody had
+pub put_ends : (profile : Profile) (w : World) (b : Books) (g : Routes) (n : ℕ) (at : End) (bytes : List ℕ) (ends : List End) → Lawful w b g → n < w.count →
+    put_refusal profile (node_at w n) at bytes ends ≡ None → KeepsEnds w (set_node w n (put_node (node_at w n) at (record { bytes = bytes; ends = ends })))
+put_ends Printed w b g n at bytes ends lawful inside fine i s held =
+    let it = put_step Printed w n at (record { bytes = bytes; ends = ends }) in
+    held_were_held w it.world b g (steps.Put n at bytes ends) it.reply i s lawful (inl (refl, refl))
+    (subst (λ (u : World). IsEndHeld u i s) (sym (ap (λ (e : Effect). e.world) (put_gives Printed w n at bytes ends inside fine))) held)
+put_ends Wide w b g n at bytes ends lawful inside fine i s held =
+    let it = put_step Wide w n at (record { bytes = bytes; ends = ends }) in
+    held_were_held w it.world b g (steps.PutWide n at bytes ends) it.reply i s lawful (inl (refl, refl))
+    (subst (λ (u : World). IsEndHeld u i s) (sym (ap (λ (e : Effect). e.world) (put_gives Wide w n at bytes ends inside fine))) held)

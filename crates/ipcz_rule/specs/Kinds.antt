@@ -1,17 +1,19 @@
 -- The kinds of atomic step of a seat with one node: what each needs of the node, and what it leaves of the seat. Each keeps the rule.
 -- In addition it is said of a step that a turn takes which turns of the shown world it is: none, or one act of its node.
+-- Of a step of a call it is said that ends of link words which nobody held are held by nobody.
 -- In each the seat is `id`, the table has so many slots, and `i` is the word. What a step tells that may find its word changed is by a test
 -- of the number found: if it fails, the step was a load.
-use Rattle.std.specs.Prelude.{◌≡◌, ◌<◌, cond, length, slice_index, ◌+◌, ◌*◌, ◌-◌, ℕ, Bool, true, false, eqb, List, [], ◌∷◌, ◌++◌, Some}
+use Rattle.std.specs.Prelude.{◌≡◌, ◌≤◌, ◌<◌, ◌⊎◌, cond, length, slice_index, ◌+◌, ◌*◌, ◌-◌, ℕ, Bool, true, false, eqb, List, [], ◌∷◌, ◌++◌, Some}
 use Rattle.std.specs.Prelude.{None, MatchBool, bit_and, bit_or}
 use prog.Atomic.{either}
 use mathlib.Core.Option.{some}
 use lib.ListN.{get_elem?}
-use Rattle.atomic_table.specs.Table.{Act as TableAct, Allows, Joins, Valid, stepped, carried_after}
+use Rattle.atomic_table.specs.Table.{Act as TableAct, Joins, Valid, stepped, carried_after}
 use Rattle.ipcz_base.specs.declared.profile.Profile.{Profile}
 use Rattle.ipcz_base.specs.declared.end.End.{End}
 use Rattle.ipcz_base.specs.declared.message.Message.{Message}
 use Rattle.ipcz_base.specs.declared.parcel.Parcel as parcels
+use Rattle.ipcz_base.specs.declared.side.Side.{Side}
 use Rattle.ipcz_base.specs.Sides.{opposite}
 use Rattle.ipcz_word.specs.Word.{Plan, Refuses, plan_of, open_word}
 use Rattle.ipcz_word.specs.Layout.{bits_of, word_of_bits, stable_bit, waiting_bit, locked_bit}
@@ -28,7 +30,9 @@ use Rattle.ipcz_node.specs.Hands.{message_lacks_serials}
 use Rattle.ipcz_world.specs.WordAnswers.{word_after}
 use Rattle.ipcz_rule.specs.declared.view.View.{View}
 use Rattle.ipcz_rule.specs.declared.view.Part.{Part}
+use Rattle.ipcz_world.specs.HeldEnds.{IsEndHeld}
 use Rattle.ipcz_world.specs.Ranks.{AreTurns}
+use Rattle.ipcz_world.specs.World.{World}
 use Rattle.ipcz_world.specs.Wordless.{is_wordless}
 use Rattle.ipcz_rule.specs.Rule.{Slot, St, Mine, Rules, has_number, with_part, saw}
 use Rattle.ipcz_rule.specs.Steps.{put_part, get_part, close_part, claimed_part, open_part, act_part, acted_view, CanAct}
@@ -44,10 +48,6 @@ Follows count size s r turns s' = (r' : Rules count size s') × AreTurns r.world
 abbrev pub Form : Type 1
 Form = (count size slots id : ℕ) → Mine → ℕ → (ℕ → ℕ) → (ℕ → List (ℕ × Act)) → (ℕ → Mine → Type 0) → Type 0
 
--- that it keeps the rule
-abbrev pub KeepsRule : Form
-KeepsRule count size slots id me i f turns told = Allows (Rules count size) slots id me i f told
-
 -- that it keeps the rule and is these turns, whatever world the rule shows before
 abbrev pub IsTurns : Form
 IsTurns count size slots id me i f turns told =
@@ -55,6 +55,19 @@ IsTurns count size slots id me i f turns told =
     slice_index s.words i < 18446744073709551616 →
     (v : View) × (a : TableAct Slot) × Valid s.homes me.1 a ×
     Follows count size s r (turns (slice_index s.words i)) (stepped s i (f (slice_index s.words i)) id me.1 v a) ×
+    told (slice_index s.words i) (v, carried_after me.1 a)
+
+-- an end that is held in the second world was held in the first, or its number wasn't claimed there
+abbrev pub KeepsEnds : World → World → Type 0
+KeepsEnds w v = (i : ℕ) (s : Side) → IsEndHeld v i s → IsEndHeld w i s ⊎ (w.claimed ≤ i)
+
+-- that it keeps the rule, and that ends which nobody held are held by nobody
+abbrev pub IsKept : Form
+IsKept count size slots id me i f turns told =
+    (s : St) (r : Rules count size s) → length s.homes ≡ slots → get_elem? s.views id ≡ some me.0 →
+    slice_index s.words i < 18446744073709551616 →
+    (v : View) × (a : TableAct Slot) × Valid s.homes me.1 a ×
+    ((r' : Rules count size (stepped s i (f (slice_index s.words i)) id me.1 v a)) × KeepsEnds r.world r'.world) ×
     told (slice_index s.words i) (v, carried_after me.1 a)
 
 -- one act of a node if a test holds, else nothing
@@ -67,21 +80,21 @@ Loads F = (count size slots id i : ℕ) (m : Mine) (p : Part) → m.0.parts ≡ 
     F count size slots id m i (λ n. n) (λ n. []) (λ n m'. m' ≡ (saw i n m.0, m.1))
 
 -- touch, of a put of whichever profile
-abbrev pub Puts : Type 0
-Puts = (profile : Profile) (count size slots id i : ℕ) (m : Mine) (p : Part) (at : End) (bytes : List ℕ) (ends : List End) → m.0.parts ≡ p ∷ [] →
+abbrev pub Puts : Form → Type 0
+Puts F = (profile : Profile) (count size slots id i : ℕ) (m : Mine) (p : Part) (at : End) (bytes : List ℕ) (ends : List End) → m.0.parts ≡ p ∷ [] →
     put_refusal profile p.state at bytes ends ≡ None →
-    Allows (Rules count size) slots id m i (λ n. n) (λ n m'. m' ≡ (with_part (put_part at bytes ends p) m.0, m.1))
+    F count size slots id m i (λ n. n) (λ n. []) (λ n m'. m' ≡ (with_part (put_part at bytes ends p) m.0, m.1))
 
 -- touch, of a get
-abbrev pub Gets : Type 0
-Gets = (count size slots id i : ℕ) (m : Mine) (p : Part) (at : End) (number : ℕ) (q : parcels.Parcel) → m.0.parts ≡ p ∷ [] →
+abbrev pub Gets : Form → Type 0
+Gets F = (count size slots id i : ℕ) (m : Mine) (p : Part) (at : End) (number : ℕ) (q : parcels.Parcel) → m.0.parts ≡ p ∷ [] →
     get_refusal p.state at ≡ None → got_at p.state at ≡ Some (number, q) →
-    Allows (Rules count size) slots id m i (λ n. n) (λ n m'. m' ≡ (with_part (get_part at number q p) m.0, m.1))
+    F count size slots id m i (λ n. n) (λ n. []) (λ n m'. m' ≡ (with_part (get_part at number q p) m.0, m.1))
 
 -- touch, of a close
-abbrev pub Closes : Type 0
-Closes = (count size slots id i : ℕ) (m : Mine) (p : Part) (at : End) → m.0.parts ≡ p ∷ [] → close_refusal p.state at ≡ None →
-    Allows (Rules count size) slots id m i (λ n. n) (λ n m'. m' ≡ (with_part (close_part at p) m.0, m.1))
+abbrev pub Closes : Form → Type 0
+Closes F = (count size slots id i : ℕ) (m : Mine) (p : Part) (at : End) → m.0.parts ≡ p ∷ [] → close_refusal p.state at ≡ None →
+    F count size slots id m i (λ n. n) (λ n. []) (λ n m'. m' ≡ (with_part (close_part at p) m.0, m.1))
 
 -- touch, of a close that is pending
 abbrev pub PendingCloses : Form → Type 0
@@ -161,6 +174,13 @@ LoadsForClaim F = (count size slots id : ℕ) (m : Mine) (p : Part) (serial : �
     (m' ≡ (with_part (act_part (acts.Router serial router_acts.Claim) answers.NoWord p) (saw size n m.0), m.1))
     (m' ≡ (saw size n m.0, m.1)))
 
+-- touch, of a claim of a proxy that is told that no word is left, whether or not numbers are left
+abbrev pub Dries : Form → Type 0
+Dries F = (count size slots id i : ℕ) (m : Mine) (p : Part) (serial : ℕ) (r : Router) → m.0.parts ≡ p ∷ [] →
+    CanAct p.state serial r router_acts.Claim →
+    F count size slots id m i (λ n. n) (λ n. []) (λ n m'. m' ≡
+    (with_part (act_part (acts.Router serial router_acts.Claim) answers.NoWord p) m.0, m.1))
+
 -- claim: the count is exchanged for the next, if it is what was found before
 abbrev pub Claims : Form → Type 0
 Claims F = (count size slots id c : ℕ) (m : Mine) (p : Part) (serial : ℕ) (r : Router) → m.0.parts ≡ p ∷ [] →
@@ -171,15 +191,15 @@ Claims F = (count size slots id c : ℕ) (m : Mine) (p : Part) (serial : ℕ) (r
     (m' ≡ (saw size n m.0, m.1)))
 
 -- the first half of an open: a claim for it
-abbrev pub ClaimsForOpen : Type 0
-ClaimsForOpen = (count size slots id c : ℕ) (m : Mine) (p : Part) → m.0.parts ≡ p ∷ [] → p.state.opening ≡ None → c < size →
-    Allows (Rules count size) slots id m size (λ n. either (eqb n c) (c + 1) n)
+abbrev pub ClaimsForOpen : Form → Type 0
+ClaimsForOpen F = (count size slots id c : ℕ) (m : Mine) (p : Part) → m.0.parts ≡ p ∷ [] → p.state.opening ≡ None → c < size →
+    F count size slots id m size (λ n. either (eqb n c) (c + 1) n) (λ n. [])
     (λ n m'. MatchBool (eqb n c) (m' ≡ (with_part (claimed_part c p) (saw size n m.0), m.1)) (m' ≡ (saw size n m.0, m.1)))
 
 -- open: the word that was claimed for it goes from 0 to that of an open pair; it is 0 as long as the open is under way
-abbrev pub Opens : Type 0
-Opens = (count size slots id i : ℕ) (m : Mine) (p : Part) → m.0.parts ≡ p ∷ [] → p.state.opening ≡ Some i → serials_refusal p.state ≡ None →
-    Allows (Rules count size) slots id m i (λ n. either (eqb n 0) (bits_of open_word) n)
+abbrev pub Opens : Form → Type 0
+Opens F = (count size slots id i : ℕ) (m : Mine) (p : Part) → m.0.parts ≡ p ∷ [] → p.state.opening ≡ Some i → serials_refusal p.state ≡ None →
+    F count size slots id m i (λ n. either (eqb n 0) (bits_of open_word) n) (λ n. [])
     (λ n m'. (n ≡ 0) × (m' ≡ (with_part (open_part i p) (saw i n m.0), m.1)))
 
 -- probe: the slot of an empty mailbox is taken, and its word is 3

@@ -6,3 +6,9 @@ pub mod RuleLaws
 pub mod Start
 pub mod Steps
 pub mod TableRuns
+pub mod Lasting
+pub mod LastingClaims
+pub mod LastingKinds
+pub mod LastingCalls
+pub mod LastingStart
+pub mod LastingSeats

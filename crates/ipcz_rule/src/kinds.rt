@@ -1,10 +1,10 @@
 //! The kinds of atomic step of a seat with one node (specs/Kinds). Each function does nothing: its contract says that the step keeps the
-//! rule of the table, what it leaves of its seat, and, but for a call's, which turns of the shown world it is: none, or one act of its
-//! node.
+//! rule of the table, what it leaves of its seat, and which turns of the shown world it is: none, or one act of its node. Of a call's it says in
+//! place of turns that ends of link words which nobody held are held by nobody.
 
 ghost use Rattle.ipcz_rule.specs.Kinds.{Loads, Puts, Gets, Closes, PendingCloses, Touches, TouchActs, Marks, Wakes, Unlocks, TriesLock};
 ghost use Rattle.ipcz_rule.specs.Kinds.{LoadsForLock};
-ghost use Rattle.ipcz_rule.specs.Kinds.{IsTurns, LoadsForClaim, Claims, ClaimsForOpen, Opens, Probes, Unprobes, Posts, Looks, LoadsForHand};
+ghost use Rattle.ipcz_rule.specs.Kinds.{IsKept, IsTurns, LoadsForClaim, Dries, Claims, ClaimsForOpen, Opens, Probes, Unprobes, Posts, Looks, LoadsForHand};
 ghost use Rattle.ipcz_rule.specs.Kinds.{Hands, GivesBack, JoinsParts};
 
 /// A load of any word changes nothing but what was seen.
@@ -14,17 +14,17 @@ pub fn a_load_keeps_the_rule()
 
 /// A touch is a put that the node doesn't refuse: the node's part gains the item under its number.
 pub fn a_put_keeps_the_rule()
-    ensures { Puts }
+    ensures { Puts IsKept }
 {}
 
 /// A touch is a get that gives a parcel: the part gains it under its number.
 pub fn a_get_keeps_the_rule()
-    ensures { Gets }
+    ensures { Gets IsKept }
 {}
 
 /// A touch is a close: the part gains the mark.
 pub fn a_close_keeps_the_rule()
-    ensures { Closes }
+    ensures { Closes IsKept }
 {}
 
 /// A touch is a close that is pending.
@@ -72,6 +72,11 @@ pub fn a_load_for_a_claim_keeps_the_rule()
     ensures { LoadsForClaim IsTurns }
 {}
 
+/// A claim that is told that no word is left, at any time.
+pub fn a_claim_that_finds_no_slot_keeps_the_rule()
+    ensures { Dries IsKept }
+{}
+
 /// A claim of a proxy's spare.
 pub fn a_claim_keeps_the_rule()
     ensures { Claims IsTurns }
@@ -79,12 +84,12 @@ pub fn a_claim_keeps_the_rule()
 
 /// The first half of an open.
 pub fn a_claim_for_an_open_keeps_the_rule()
-    ensures { ClaimsForOpen }
+    ensures { ClaimsForOpen IsKept }
 {}
 
 /// An open, which finds its word empty.
 pub fn an_open_keeps_the_rule()
-    ensures { Opens }
+    ensures { Opens IsKept }
 {}
 
 /// A probe takes the slot of an empty mailbox.

@@ -2,6 +2,7 @@
 #![tactic(auto)]
 
 pub mod kinds;
+pub mod lasting;
 mod law;
 pub mod laws;
 mod node;

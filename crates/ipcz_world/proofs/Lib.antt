@@ -2,6 +2,7 @@ pub mod Vocabulary
 pub mod Whole
 pub mod WholeTheorem
 pub mod OwnTurns
+pub mod LastingTheorem
 pub mod acts
 pub mod code
 pub mod facts

@@ -61,6 +61,7 @@ pub mod MovingEnds
 pub mod OpenedNodes
 pub mod Opening
 pub mod OpeningPair
+pub mod PassingOver
 pub mod ProxyWillStop
 pub mod Puts
 pub mod Putting

@@ -1,4 +1,5 @@
 -- Small facts: what tests of links and sides tell, lengths, queues, and routers that are found in a node.
+pub mod Claimed
 pub mod Drained
 pub mod Lost
 pub mod Finding

@@ -3,6 +3,7 @@ pub mod Acting
 pub mod CalmNodes
 pub mod CalmRouters
 pub mod CalmWorlds
+pub mod DeadWords
 pub mod Departures
 pub mod EachOnce
 pub mod EndLaws
@@ -10,8 +11,13 @@ pub mod FittingHands
 pub mod Following
 pub mod Going
 pub mod GoneReading
+pub mod HoldingOnce
 pub mod Idling
+pub mod LastingEnds
+pub mod LastingRanks
+pub mod LastingTurns
 pub mod LengthLaws
+pub mod LettingGo
 pub mod Limits
 pub mod LinkLaws
 pub mod Moving
@@ -40,6 +46,7 @@ pub mod Settling
 pub mod Soundness
 pub mod StartWakers
 pub mod Staying
+pub mod StayingHeld
 pub mod StepWakers
 pub mod Tracking
 pub mod Turning

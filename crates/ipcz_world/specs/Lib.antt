@@ -6,10 +6,12 @@ pub mod Coding
 pub mod Each
 pub mod FirstRuns
 pub mod Flows
+pub mod HeldEnds
 pub mod Holding
 pub mod Inv
 pub mod Lawful
 pub mod Lawfulness
+pub mod Lasting
 pub mod Laws
 pub mod Lending
 pub mod Mailing

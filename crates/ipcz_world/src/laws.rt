@@ -14,6 +14,10 @@ ghost use Rattle.ipcz_world.specs.WorldLaws.{RunsArePlain, RepliesStrayNothing};
 ghost use Rattle.ipcz_world.specs.SettleLimit.{RankIsWithinLimit, SettleLimitIsEnough};
 ghost use Rattle.ipcz_world.specs.PutBounds.{StayingIsUnused, PutsAreBounded, DirectPutsAreBounded};
 ghost use Rattle.ipcz_world.specs.Theorem.{TheTheoremHolds};
+ghost use Rattle.ipcz_world.specs.Lasting.{LastingRunsKeepTheTheorem, DeedsKeepRanks, DeedsKeepEnds};
+ghost use Rattle.ipcz_world.specs.HeldEnds.{PassingKeepsLawful, GrowingKeepsLawful, DryKeepsLawful, WetKeepsLawful};
+ghost use Rattle.ipcz_world.specs.HeldEnds.{HeldWereHeld, TurnsHeldWereHeld, HeldForOpenWereHeld, LostAreNotHeld, LetGoAreNotHeld, AcceptedAreHeld, DeadWordsDoNotMatter};
+ghost use Rattle.ipcz_world.specs.HeldEnds.{HeldUntilLetGo, CallsKeepHeld, HeldInOnePlace};
 
 /// The theorem of this repository (specs/Theorem): to their callers the nodes together are the machine over the books alone. Whatever steps
 /// are taken from the start, and whichever possible act each turn takes, that machine allows their replies; each portal has got a prefix of
@@ -287,4 +291,93 @@ pub fn puts_into_a_direct_world_are_bounded()
 /// each other open pair is direct: what an end has put and its peer hasn't got stands in the in queue of the peer's terminal.
 pub fn a_settled_world_is_direct()
     ensures { SettledIsDirect }
+{}
+
+/// A claim may pass over numbers: the world stays lawful with the same books, and these numbers are nobody's for good. So a claim can
+/// answer any number that isn't claimed yet.
+pub fn passing_over_numbers_keeps_a_world_lawful()
+    ensures { PassingKeepsLawful }
+{}
+
+/// There may be more numbers at any time, none of them claimed. So no limit of them matters to the law.
+pub fn more_numbers_keep_a_world_lawful()
+    ensures { GrowingKeepsLawful }
+{}
+
+/// A claim may be told that no word is left while numbers are left: the world stays lawful with the same books and routes.
+pub fn a_dry_claim_keeps_a_world_lawful()
+    ensures { DryKeepsLawful }
+{}
+
+/// A router that found no word may be told at any time that it may claim again.
+pub fn a_router_that_may_claim_again_keeps_a_world_lawful()
+    ensures { WetKeepsLawful }
+{}
+
+/// An end of a link word that is held after a step was held before it, or its word was claimed by the step. So an end that was let go is
+/// never held again.
+pub fn held_ends_were_held()
+    ensures { HeldWereHeld }
+{}
+
+/// The same of any turns of nodes, in whatever order.
+pub fn ends_held_after_turns_were_held()
+    ensures { TurnsHeldWereHeld }
+{}
+
+/// The same of the first half of an open.
+pub fn ends_held_for_an_open_were_held()
+    ensures { HeldForOpenWereHeld }
+{}
+
+/// No end is held of a word that isn't claimed, that a claim passed over, or that was lost with a proxy.
+pub fn lost_words_are_not_held()
+    ensures { LostAreNotHeld }
+{}
+
+/// Nobody holds an end that its router has just let go, by giving up a decaying link or by leaving.
+pub fn ends_let_go_are_not_held()
+    ensures { LetGoAreNotHeld }
+{}
+
+/// An end of a link word is held in one place at most: by one router, for one open under way, or by one message.
+pub fn each_end_is_held_in_one_place()
+    ensures { HeldInOnePlace }
+{}
+
+/// An end of a link word that is held is held after an act as well, or the act lets it go: by giving up a decaying link, or by leaving.
+pub fn ends_are_held_until_they_are_let_go()
+    ensures { HeldUntilLetGo }
+{}
+
+/// A call of a caller lets no end go.
+pub fn calls_let_no_end_go()
+    ensures { CallsKeepHeld }
+{}
+
+/// The old word of an AcceptBypass in hand is held by the router that it is for, so that its word may be read.
+pub fn the_old_word_of_a_bypass_in_hand_is_held()
+    ensures { AcceptedAreHeld }
+{}
+
+/// The theorem holds of runs in which, between steps, claims pass over numbers, find no word for a while, and may claim again.
+pub fn the_theorem_holds_after_every_lasting_run()
+    ensures { LastingRunsKeepTheTheorem }
+{}
+
+/// What a word says of which both ends were let go doesn't matter: with another word in its place each step is one as well, has the same
+/// reply, and leads to the same world but for such words.
+pub fn dead_words_do_not_matter()
+    ensures { DeadWordsDoNotMatter }
+{}
+
+/// Between steps the rank of a world stays or falls, but for a router that may claim again, which raises it by two at most: so between two
+/// of these, turns are bounded as ever.
+pub fn what_lasts_keeps_the_rank()
+    ensures { DeedsKeepRanks }
+{}
+
+/// Between steps no end of a link word is let go, and none comes to be held.
+pub fn what_lasts_keeps_the_ends()
+    ensures { DeedsKeepEnds }
 {}

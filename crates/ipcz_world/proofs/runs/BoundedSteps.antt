@@ -39,7 +39,7 @@ use Rattle.ipcz_world.proofs.runs.NodeSteps.{hand-is}
 use Rattle.ipcz_world.proofs.facts.Tests.{and_first}
 use Rattle.ipcz_world.specs.World.{has_unclaimed_word}
 
-bounded-set_node : (w : World) (n : ℕ) (x : Node) → n < w.count → IsBounded w → IsBoxed w.count x → IsBounded (set_node w n x)
+pub bounded-set_node : (w : World) (n : ℕ) (x : Node) → n < w.count → IsBounded w → IsBoxed w.count x → IsBounded (set_node w n x)
 unfolding set_node mail_at
 bounded-set_node w n x ln b h = record {
   nodes = length-put_place (bare_node 0 0) w.nodes n x (subst (λ k. n < k) (sym b.nodes) ln) ∙ b.nodes;

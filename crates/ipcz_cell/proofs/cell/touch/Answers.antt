@@ -1,7 +1,6 @@
 use Rattle.std.proofs.Common.{◌≡◌, ◌+◌, ℕ, subst, arith}
-use Rattle.atomic_table.specs.Table.{Allows}
-use Rattle.ipcz_rule.specs.Rule.{Rules}
 use Rattle.ipcz_cell.proofs.cell.touch.Goals as goal
+use Rattle.ipcz_cell.specs.Seats.{Keeps}
 
 pub load_step-requires-clause-inside : goal.load_step-requires-clause-inside
 load_step-requires-clause-inside g c =
@@ -17,4 +16,4 @@ load_step-requires-clause-may g c =
     let t = g.F.FabricName.table in
     let size = c.fabric.invariant.4 in
     let same : t.size + 1 + c.args.node ≡ c.fabric.inside.words + 1 + c.args.node = omega (arith, size) in
-    subst (λ (i : ℕ). Allows (Rules t.count t.size) t.id.slots c.args.seat.now.id c.args.seat.now.me i (λ n. n) (g.X.Outcome.tells c.args.seat.now.me)) same c.requires.may
+    subst (λ (i : ℕ). Keeps t.count t.size t.id.slots c.args.seat.now.id c.args.seat.now.me i (λ n. n) (g.X.Outcome.tells c.args.seat.now.me)) same c.requires.may

@@ -1,0 +1,241 @@
+-- A claim on a table whose link words come back: the numbers before it are passed over, and then it is the rule's own.
+use Rattle.std.specs.Prelude.{◌≡◌, ◌≤◌, ◌<◌, ◌⊎◌, ◌+◌, ℕ, zero, suc, eqb, nat_eq, Bool, true, false, List, [], ◌∷◌, length, slice_index, Option, Some, None, refl, MatchBool}
+use Rattle.std.proofs.Common.{arith, ap, ◌∙◌, sym, subst, inl, inr, ⊎_elim, set, length-set, get_or-set_same, get_or-set_other, eqb-true}
+use Rattle.std.proofs.lemmas.Bool.Decides.{nat_tests}
+use prog.Atomic.{either}
+use mathlib.Core.Option.{some}
+use lib.ListN.{get_elem?}
+use Rattle.atomic_table.specs.Table.{Act as TableAct, Valid, stepped, carried_after}
+use Rattle.ipcz_base.specs.declared.side.Side.{Side}
+use Rattle.ipcz_word.specs.Word.{Word}
+use Rattle.ipcz_word.specs.Layout.{bits_of}
+use Rattle.ipcz_word.specs.Laws.{HasNode}
+use Rattle.ipcz_router.specs.Router.{Router}
+use Rattle.ipcz_router.specs.declared.act.RouterAct.TheVariants as router_acts
+use Rattle.ipcz_router.specs.declared.act.Answer.TheVariants as answers
+use Rattle.ipcz_node.specs.declared.act.Act.{Act}
+use Rattle.ipcz_node.specs.declared.act.Act.TheVariants as acts
+use Rattle.ipcz_world.specs.World.{World, node_at, word_at, mail_at, router_at, set_claimed, way}
+use Rattle.ipcz_world.specs.Routes.{hand_of}
+use Rattle.ipcz_world.specs.Ranks.{AreTurns}
+use Rattle.ipcz_world.specs.Lawful.{Lawful}
+use Rattle.ipcz_world.specs.WorldLaws.{LawfulStraysNothing}
+use Rattle.ipcz_world.specs.HeldEnds.{IsEndHeld, ByRouter, ByOpen, ByOutbox, ByMailbox, PassingKeepsLawful, passed_over, lose_words}
+use Rattle.ipcz_rule.specs.declared.view.View.{View}
+use Rattle.ipcz_rule.specs.declared.view.Part.{Part}
+use Rattle.ipcz_rule.specs.Rule.{Slot, St, Mine, mailbox, MailAt, Rules, Spells, Shows, with_part, saw}
+use Rattle.ipcz_world.specs.declared.mail.Mail.{Mail}
+use Rattle.ipcz_rule.specs.Steps.{CanAct, act_part}
+use Rattle.ipcz_rule.specs.Kinds.{IsTurns, Follows, Loads, Claims, turn_where}
+use Rattle.ipcz_slots.specs.SlotKinds.{Known, Steps, Keeps, Skips}
+use Rattle.ipcz_rule.specs.Lasting.{EndLaws, virtual, sizes, side_of, turns_of, own_of}
+use Rattle.ipcz_rule.specs.LastingClaims.{passing_turns, ClaimsOnSlots, ClaimsInTheirOrder, ClaimsLast}
+use Rattle.ipcz_rule.proofs.Lasts.{are_sizes, count_is, laws_of, kept_by, held_claimed}
+use Rattle.ipcz_slots.proofs.Reusing.{claims}
+use Rattle.ipcz_slots.proofs.Ordered.{claims_in_order}
+
+-- passing over numbers changes nothing but the claim count
+node_same : (w : World) (c n : ℕ) → node_at (set_claimed w c) n ≡ node_at w n
+unfolding node_at set_claimed
+node_same w c n = refl
+
+word_same : (w : World) (c i : ℕ) → word_at (set_claimed w c) i ≡ word_at w i
+unfolding word_at set_claimed
+word_same w c i = refl
+
+mail_same : (w : World) (c k : ℕ) → mail_at (set_claimed w c) k ≡ mail_at w k
+unfolding mail_at set_claimed
+mail_same w c k = refl
+
+count_same : (w : World) (c : ℕ) → (set_claimed w c).count ≡ w.count
+unfolding set_claimed
+count_same w c = refl
+
+size_same : (w : World) (c : ℕ) → (set_claimed w c).size ≡ w.size
+unfolding set_claimed
+size_same w c = refl
+
+pub claimed_same : (w : World) (c : ℕ) → (set_claimed w c).claimed ≡ c
+unfolding set_claimed
+claimed_same w c = refl
+
+hand_same : (w : World) (c n : ℕ) (h : Option ℕ) → hand_of (set_claimed w c) n h ≡ hand_of w n h
+unfolding hand_of mail_at set_claimed
+hand_same w c n None = refl
+hand_same w c n (Some from) = refl
+
+pub held_same : (w : World) (c i : ℕ) (s : Side) → IsEndHeld (set_claimed w c) i s → IsEndHeld w i s
+unfolding node_at mail_at router_at set_claimed
+held_same w c i s (ByRouter k r here holds) = ByRouter k r here holds
+held_same w c i s (ByOpen n e) = ByOpen n e
+held_same w c i s (ByOutbox from to place m there holds) = ByOutbox from to place m there holds
+held_same w c i s (ByMailbox k place m there holds) = ByMailbox k place m there holds
+
+-- the table whose count has passed over so many numbers
+module _ (ends : EndLaws) (passing : PassingKeepsLawful) (strays : LawfulStraysNothing) (count limit : ℕ) (t : St) (r : Rules count limit t) (skip : ℕ) (most : r.world.claimed + skip ≤ limit) where
+  abbrev w1 : World
+  w1 = passed_over r.world skip
+
+  abbrev n1 : ℕ
+  n1 = r.world.claimed + skip
+
+  abbrev pub t1 : St
+  t1 = record { words = set t.words limit n1; homes = t.homes; views = t.views }
+
+  lawful1 : Lawful w1 r.books (lose_words r.routes r.world.claimed skip)
+  lawful1 = passing r.world r.books r.routes skip r.lawful (let z = r.words in omega (arith, z, most))
+
+  pub wide1 : limit < length t.words
+  wide1 = let e = r.shows.wide in let z = r.words in omega (arith, e, z)
+
+  link1 : (i : ℕ) → i < r.world.size → slice_index t1.words i ≡ slice_index t.words i
+  link1 i l = get_or-set_other t.words limit i n1 0 (λ e. let z = r.words in omega (arith, e, z, l))
+
+  box1 : (j : ℕ) → slice_index t1.words (mailbox r.world j) ≡ slice_index t.words (mailbox r.world j)
+  box1 j = get_or-set_other t.words limit (mailbox r.world j) n1 0 (λ e. let z = r.words in omega (arith, e, z))
+
+  spells1 : (p : Part) → Spells t.words r.world p → Spells t1.words w1 p
+  unfolding set_claimed
+  spells1 p sp = record {
+    inside = sp.inside;
+    state = node_same r.world n1 p.node ∙ sp.state;
+    message = hand_same r.world n1 p.node p.state.hand ∙ sp.message;
+    probed = λ to l. sp.probed to l ∙ sym (ap (λ (v : ℕ). nat_eq v 3) (box1 (way r.world p.node to)));
+  }
+
+  shows1 : Shows t1 w1 r.owner
+  unfolding set_claimed
+  shows1 = record {
+    wide = length-set t.words limit n1 ∙ r.shows.wide;
+    deep = r.shows.deep;
+    links = λ i l. link1 i l ∙ (r.shows.links i l ∙ ap bits_of (sym (word_same r.world n1 i)));
+    claims = ap (slice_index t1.words) r.words ∙ get_or-set_same t.words limit n1 0 wide1;
+    mail = λ j l. subst (λ (v : ℕ). MailAt v (get_elem? t.homes j) (mail_at w1 j)) (sym (box1 j)) (subst (λ (m : Mail). MailAt (slice_index t.words (mailbox r.world j)) (get_elem? t.homes j) m) (sym (mail_same r.world n1 j)) (r.shows.mail j l));
+    parts = λ id v j p at there. let was = r.shows.parts id v j p at there in (was.0, spells1 p was.1);
+  }
+
+  pub passed_rules : Rules count limit t1
+  passed_rules = record {
+    world = w1;
+    books = r.books;
+    routes = lose_words r.routes r.world.claimed skip;
+    owner = r.owner;
+    nodes = count_same r.world n1 ∙ r.nodes;
+    words = size_same r.world n1 ∙ r.words;
+    shows = shows1;
+    joined = r.joined;
+    lawful = lawful1;
+    lengths = (strays w1 r.books (lose_words r.routes r.world.claimed skip) lawful1).0;
+    strays = (strays w1 r.books (lose_words r.routes r.world.claimed skip) lawful1).1;
+    sources = λ i. subst (λ (x : Word). HasNode x.source) (sym (word_same r.world n1 i)) (r.sources i);
+    counted = λ id v j n at there. let low = r.counted id v j n at (subst (λ (q : ℕ). get_elem? v.seen j ≡ some (q, n)) (size_same r.world n1) there) in let e = claimed_same r.world n1 in omega (arith, low, e);
+    parts = r.parts;
+  }
+
+  pub passed_world : passed_rules.world ≡ w1
+  unfolding passed_rules
+  passed_world = refl
+
+-- one value over another
+pub set_over : (l : List ℕ) (i a b : ℕ) → set (set l i a) i b ≡ set l i b
+set_over [] i a b = refl
+set_over (x ∷ xs) zero a b = refl
+set_over (x ∷ xs) (suc i) a b = ap (λ (l : List ℕ). x ∷ l) (set_over xs i a b)
+
+pub eqb_self : (n : ℕ) → eqb n n ≡ true
+eqb_self n = grind (arith, nat_tests)
+
+-- a claim of a number beyond the count, on the virtual table
+module _ (ends : EndLaws) (passing : PassingKeepsLawful) (strays : LawfulStraysNothing) (loads : Loads IsTurns) (old : Claims IsTurns)
+    (count limit slots id c skip : ℕ) (m : Mine) (p : Part) (serial : ℕ) (rt : Router) (is : m.0.parts ≡ p ∷ []) (can : CanAct p.state serial rt router_acts.Claim) (small : c + skip < limit)
+    (t : St) (r : Rules count limit t) (deep : length t.homes ≡ slots) (at : get_elem? t.views id ≡ some m.0) (fits : slice_index t.words limit < 18446744073709551616) (tiny : limit < 18446744073709551616) where
+  abbrev act2 : Act
+  act2 = acts.Router serial router_acts.Claim
+
+  abbrev n2 : ℕ
+  n2 = slice_index t.words limit
+
+  abbrev left2 : Mine
+  left2 = (with_part (act_part act2 (answers.Claimed (c + skip)) p) (saw limit (c + skip) m.0), m.1)
+
+  -- what it is, by whether the count was found
+  abbrev Res2 : Bool → Type 0
+  Res2 b = (v : View) × (a : TableAct Slot) × Valid t.homes m.1 a ×
+      ((r' : Rules count limit (stepped t limit (either b (c + skip + 1) n2) id m.1 v a)) ×
+      MatchBool b (passing_turns count limit c skip ((p.node, act2) ∷ []) t r (stepped t limit (either b (c + skip + 1) n2) id m.1 v a) r')
+      (turns_of count limit limit (λ n. []) t r (stepped t limit (either b (c + skip + 1) n2) id m.1 v a) r')) ×
+      MatchBool b (◌≡◌ {A = Mine} (v, carried_after m.1 a) left2) (◌≡◌ {A = Mine} (v, carried_after m.1 a) (saw limit n2 m.0, m.1))
+
+  by2 : (b : Bool) → eqb n2 c ≡ b → Res2 b
+  unfolding set_claimed passed_rules
+  by2 true e =
+      let found : r.world.claimed ≡ c = sym (count_is count limit t r) ∙ eqb-true n2 c e in
+      let most : r.world.claimed + skip ≤ limit = omega (arith, found, small) in
+      let t' : St = t1 ends passing strays count limit t r skip most in
+      let r1 = passed_rules ends passing strays count limit t r skip most in
+      let k : ℕ = c + skip in
+      let same : r.world.claimed + skip ≡ k = omega (arith, found) in
+      let here : slice_index t'.words limit ≡ k = get_or-set_same t.words limit (r.world.claimed + skip) 0 (wide1 ends passing strays count limit t r skip most) ∙ same in
+      let Raw : ℕ → Bool → Type 0 = λ j b. (v : View) × (a : TableAct Slot) × Valid t.homes m.1 a ×
+      Follows count limit t' r1 (turn_where b p.node act2) (stepped t' limit (either b (k + 1) j) id m.1 v a) ×
+      MatchBool b (◌≡◌ {A = Mine} (v, carried_after m.1 a) (with_part (act_part act2 (answers.Claimed k) p) (saw limit j m.0), m.1)) (◌≡◌ {A = Mine} (v, carried_after m.1 a) (saw limit j m.0, m.1)) in
+      let raw : Raw (slice_index t'.words limit) (eqb (slice_index t'.words limit) k) = old count limit slots id k m p serial rt is can small t' r1 deep at (subst (λ (q : ℕ). q < 18446744073709551616) (sym here) (omega (arith, small, tiny))) in
+      let done : Raw k true = subst (λ (b : Bool). Raw k b) (eqb_self k) (subst (λ (j : ℕ). Raw j (eqb j k)) here raw) in
+      let Out : List ℕ → Type 0 = λ ws. (r' : Rules count limit (record { words = ws; homes = (stepped t' limit (k + 1) id m.1 done.0 done.1).homes; views = (stepped t' limit (k + 1) id m.1 done.0 done.1).views })) ×
+      AreTurns (passed_over r.world skip) r.books (lose_words r.routes r.world.claimed skip) ((p.node, act2) ∷ []) r'.world r'.books r'.routes in
+      let out = subst Out (set_over t.words limit (r.world.claimed + skip) (k + 1)) done.3 in
+      (done.0, done.1, done.2, (out.0, (found, omega (arith, small), out.1)), done.4)
+  by2 false e = loads count limit slots id limit m p is t r deep at fits
+
+  pub claimed_beyond : Res2 (eqb n2 c)
+  claimed_beyond = by2 (eqb n2 c) refl
+
+-- what was nowhere stays so, and nobody has the numbers that were passed over
+module _ (ends : EndLaws) (passing : PassingKeepsLawful) (count limit k c skip : ℕ) (p : Part) (serial : ℕ) where
+  abbrev g3 : Known (virtual count limit)
+  g3 = passing_turns count limit c skip ((p.node, acts.Router serial router_acts.Claim) ∷ [])
+
+  -- who holds an end then held it before, or the number wasn't passed over
+  was3 : (t : St) (r : Rules count limit t) (t' : St) (r' : Rules count limit t') → g3 t r t' r' → (i : ℕ) (s : Side) → IsEndHeld r'.world i s → IsEndHeld r.world i s ⊎ (c + skip ≤ i)
+  was3 t r t' r' g i s held =
+      let most : r.world.claimed + skip ≤ r.world.size = let z = r.words in let e = g.0 in let l = g.1 in omega (arith, z, e, l) in
+      ⊎_elim (λ h. inl (held_same r.world (r.world.claimed + skip) i s h)) (λ far. inr (let e = g.0 in let q = claimed_same r.world (r.world.claimed + skip) in omega (arith, far, e, q)))
+      (ends.kept (passed_over r.world skip) r'.world r.books r'.books (lose_words r.routes r.world.claimed skip) r'.routes ((p.node, acts.Router serial router_acts.Claim) ∷ []) i s (passing r.world r.books r.routes skip r.lawful most) g.2 held)
+
+  pub passes_kept : Keeps (virtual count limit) (sizes count limit k true) g3
+  passes_kept t r t' r' g b i l gone held = ⊎_elim gone (λ far. let e = count_is count limit t r in let f = g.0 in omega (arith, e, f, far, l)) (was3 t r t' r' g i (side_of b) held)
+
+  pub passes_skipped : Skips (virtual count limit) (sizes count limit k true) g3 (c + skip)
+  passes_skipped t r t' r' g b i far under held = ⊎_elim
+      (λ h. let low = held_claimed ends r.world r.books r.routes r.lawful i (side_of b) h in let e = count_is count limit t r in omega (arith, e, low, far))
+      (λ beyond. omega (arith, beyond, under))
+      (was3 t r t' r' g i (side_of b) held)
+
+claims_beyond : EndLaws → PassingKeepsLawful → LawfulStraysNothing → Loads IsTurns → Claims IsTurns → ClaimsOnSlots
+claims_beyond ends passing strays loads old k dirty free one count limit slots id c skip m p serial rt is can small tiny has =
+    let x = virtual count limit in
+    let z = sizes count limit k true in
+    let n : ℕ = c + skip in
+    let g : Known x = passing_turns count limit c skip ((p.node, acts.Router serial router_acts.Claim) ∷ []) in
+    let h : Known x = turns_of count limit limit (λ j. []) in
+    let hit : Mine → Type 0 = λ m'. m' ≡ (with_part (act_part (acts.Router serial router_acts.Claim) (answers.Claimed n) p) (saw limit n m.0), m.1) in
+    let miss : ℕ → Mine → Type 0 = λ j m'. m' ≡ (saw limit j m.0, m.1) in
+    let P : ℕ → Type 0 = λ q. Steps x (λ t r t' r'. MatchBool (eqb (slice_index t.words limit) c) (g t r t' r') (h t r t' r')) slots id m q (λ j. either (eqb j c) (n + 1) j) (λ j m'. MatchBool (eqb j c) (hit m') (miss j m')) in
+    let steps : P limit = λ t r deep at fits. claimed_beyond ends passing strays loads old count limit slots id c skip m p serial rt is can small t r deep at fits tiny in
+    claims x z (laws_of ends count limit k true) (are_sizes count limit k one) g h slots id c n (own_of m.0 dirty free) m.1 hit miss
+    (passes_kept ends passing count limit k c skip p serial) (passes_skipped ends passing count limit k c skip p serial) (kept_by ends count limit k true limit (λ j. [])) (omega arith) small has (subst P (omega arith) steps)
+
+-- where slots aren't used again a claim is the rule's own
+claims_in_their_order : EndLaws → Claims IsTurns → ClaimsInTheirOrder
+claims_in_their_order ends old k dirty free count limit slots id c m p serial rt is can few areas =
+    let x = virtual count limit in
+    let z = sizes count limit k false in
+    let act = acts.Router serial router_acts.Claim in
+    let turns : ℕ → List (ℕ × Act) = λ n. turn_where (eqb n c) p.node act in
+    let told : ℕ → Mine → Type 0 = λ n m'. MatchBool (eqb n c) (m' ≡ (with_part (act_part act (answers.Claimed c) p) (saw limit n m.0), m.1)) (m' ≡ (saw limit n m.0, m.1)) in
+    claims_in_order x z (laws_of ends count limit k false) areas (turns_of count limit limit turns) slots id c (own_of m.0 dirty free) m.1 told
+    (kept_by ends count limit k false limit turns) refl few
+    (subst (λ (q : ℕ). Steps x (turns_of count limit limit turns) slots id m q (λ n. either (eqb n c) (c + 1) n) told) (omega arith) (old count limit slots id c m p serial rt is can few))
+
+pub claims_last : ClaimsLast
+claims_last ends passing strays loads old = (claims_beyond ends passing strays loads old, claims_in_their_order ends old)

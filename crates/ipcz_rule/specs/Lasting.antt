@@ -1,0 +1,125 @@
+-- The table whose link words come back: its rule is that it folds a table which keeps the rule of one whose words don't, and each kind of step
+-- of that is one of this.
+use Rattle.std.specs.Prelude.{◌≡◌, ◌≢◌, ◌≤◌, ◌<◌, ◌⊎◌, ◌+◌, ◌*◌, ◌%◌, ℕ, Bool, true, false, List, [], ◌∷◌, Some, slice_index, MatchBool, bit_or, eqb}
+use prog.Atomic.{either}
+use Rattle.atomic_table.specs.Table.{State}
+use Rattle.ipcz_base.specs.declared.side.Side.{Side}
+use Rattle.ipcz_base.specs.declared.side.Side.TheVariants.{A, B}
+use Rattle.ipcz_router.specs.Router.{Router}
+use Rattle.ipcz_router.specs.declared.act.RouterAct.{RouterAct}
+use Rattle.ipcz_router.specs.declared.act.RouterAct.TheVariants as router_acts
+use Rattle.ipcz_router.specs.declared.act.Answer.TheVariants as answers
+use Rattle.ipcz_node.specs.declared.act.Act.{Act}
+use Rattle.ipcz_node.specs.declared.act.Act.TheVariants as acts
+use Rattle.ipcz_world.specs.Ranks.{AreTurns}
+use Rattle.ipcz_world.specs.Wordless.{is_wordless}
+use Rattle.ipcz_world.specs.HeldEnds.{IsEndHeld, TurnsHeldWereHeld, LostAreNotHeld, LetGoAreNotHeld, AcceptedAreHeld, lets_go}
+use Rattle.ipcz_rule.specs.declared.view.View.{View}
+use Rattle.ipcz_rule.specs.declared.view.Part.{Part}
+use Rattle.ipcz_rule.specs.Rule.{Slot, Mine, Rules, with_part}
+use Rattle.ipcz_rule.specs.RuleLaws.{LinksAreWords}
+use Rattle.ipcz_rule.specs.Steps.{CanAct, act_part}
+use Rattle.ipcz_rule.specs.Kinds.{Form, IsTurns, Marks, Wakes, Unlocks, TriesLock, LoadsForLock, LoadsForClaim, LoadsForHand, Touches, TouchActs, Probes, Unprobes, Posts, Looks, Hands, GivesBack}
+use Rattle.ipcz_slots.specs.declared.own.Own.{Own}
+use Rattle.ipcz_slots.specs.Slots.{Virtual, Sizes, AreSizes, Lasting, has_number, without_number, let_go_word}
+use Rattle.ipcz_slots.specs.SlotKinds.{Known, LastingSteps, same_own, side_bit}
+
+-- a side by its bit
+abbrev pub side_of : Bool → Side
+side_of false = A
+side_of true = B
+
+-- the virtual table: today's rule, with as many link words as there are numbers; an end is nowhere if nobody holds it
+abbrev pub virtual : ℕ → ℕ → Virtual Slot View
+virtual count limit = record { holds = Rules count limit; gone = λ t r b i. IsEndHeld r.world i (side_of b) → ⊥ }
+
+-- so many nodes, numbers and slots, and whether slots are used again
+abbrev pub sizes : ℕ → ℕ → ℕ → Bool → Sizes
+sizes count limit slots reuses = record { slots = slots; limit = limit; others = 1 + count + count * count; reuses = reuses }
+
+-- the rule of a table for so many nodes and numbers, with so many slots for link words, which are used again or not
+abbrev pub LastingRules : (count limit slots : ℕ) → Bool → State Slot (Own View) → Type 0
+LastingRules count limit slots reuses = Lasting (virtual count limit) (sizes count limit slots reuses)
+
+-- the laws of worlds that this takes
+pub record EndLaws : Type 0 where
+  pub kept : TurnsHeldWereHeld
+  pub lost : LostAreNotHeld
+  pub let_go : LetGoAreNotHeld
+  pub accepted : AcceptedAreHeld
+  pub words : LinksAreWords
+
+-- what is known of a step which is these turns of the shown world, by the number found in the word i
+abbrev pub turns_of : (count limit i : ℕ) → (ℕ → List (ℕ × Act)) → Known (virtual count limit)
+turns_of count limit i turns t r t' r' = AreTurns r.world r.books r.routes (turns (slice_index t.words i)) r'.world r'.books r'.routes
+
+-- a seat's view with its slots
+abbrev pub own_of : View → List ℕ → List ℕ → Own View
+own_of v dirty free = record { view = v; dirty = dirty; free = free }
+
+-- a step on the word of a number: here it is one on the number's slot
+abbrev pub OnSlot : (k : ℕ) (reuses : Bool) (dirty free : List ℕ) → Form
+OnSlot k reuses dirty free count limit slots id m i f turns told = AreSizes (sizes count limit k reuses) →
+    LastingSteps (virtual count limit) (sizes count limit k reuses) (turns_of count limit i turns) slots id (own_of m.0 dirty free, m.1) (i % k) f
+    (same_own (own_of m.0 dirty free) told)
+
+-- a step on a word behind the link words: here it is one as far behind the slots
+abbrev pub Behind : (k : ℕ) (reuses : Bool) (dirty free : List ℕ) → Form
+Behind k reuses dirty free count limit slots id m i f turns told = AreSizes (sizes count limit k reuses) → (j : ℕ) → i ≡ limit + j →
+    j < 1 + count + count * count →
+    LastingSteps (virtual count limit) (sizes count limit k reuses) (turns_of count limit i turns) slots id (own_of m.0 dirty free, m.1) (k + j) f
+    (same_own (own_of m.0 dirty free) told)
+
+-- the kinds of step on a link word that a turn takes: the very statements of the rule, with the slot of the number in place of its word
+abbrev pub SlotKindsLast : Type 0
+SlotKindsLast = EndLaws → (k : ℕ) (reuses : Bool) (dirty free : List ℕ) →
+    (Marks IsTurns → Marks (OnSlot k reuses dirty free)) × (Wakes IsTurns → Wakes (OnSlot k reuses dirty free)) ×
+    (Unlocks IsTurns → Unlocks (OnSlot k reuses dirty free)) × (TriesLock IsTurns → TriesLock (OnSlot k reuses dirty free)) ×
+    (LoadsForLock IsTurns → LoadsForLock (OnSlot k reuses dirty free)) × (LoadsForHand IsTurns → LoadsForHand (OnSlot k reuses dirty free))
+
+-- the kinds of step behind the link words that a turn takes, but for claims
+abbrev pub OtherKindsLast : Type 0
+OtherKindsLast = EndLaws → (k : ℕ) (reuses : Bool) (dirty free : List ℕ) →
+    (TouchActs IsTurns → TouchActs (Behind k reuses dirty free)) × (LoadsForClaim IsTurns → LoadsForClaim (Behind k reuses dirty free)) ×
+    (Probes IsTurns → Probes (Behind k reuses dirty free)) × (Unprobes IsTurns → Unprobes (Behind k reuses dirty free)) ×
+    (Posts IsTurns → Posts (Behind k reuses dirty free)) × (Looks IsTurns → Looks (Behind k reuses dirty free)) ×
+    (Hands IsTurns → Hands (Behind k reuses dirty free)) × (GivesBack IsTurns → GivesBack (Behind k reuses dirty free))
+
+-- an act by which a router lets its end of a number go: its step is on the let-go word of the number's slot, and sets the side's bit
+abbrev pub LetsGoOnSlots : Type 0
+LetsGoOnSlots = (k : ℕ) (reuses : Bool) (dirty free : List ℕ) →
+    (count limit slots id i : ℕ) (b : Bool) (m : Mine) (p : Part) (serial : ℕ) (r : Router) (act : RouterAct) → m.0.parts ≡ p ∷ [] →
+    CanAct p.state serial r act → is_wordless act ≡ true → lets_go i (side_of b) r act ≡ true →
+    AreSizes (sizes count limit k reuses) →
+    LastingSteps (virtual count limit) (sizes count limit k reuses) (turns_of count limit i (λ n. (p.node, acts.Router serial act) ∷ [])) slots id
+    (own_of m.0 dirty free, m.1) (let_go_word (sizes count limit k reuses) (i % k)) (λ n. bit_or n (side_bit b))
+    (same_own (own_of m.0 dirty free) (λ n m'. m' ≡ (with_part (act_part (acts.Router serial act) answers.Plain p) m.0, m.1)))
+
+-- a slot that both sides have let go is taken, and emptied; and one that a seat has is given back: no turns
+abbrev pub ReusingLasts : Type 0
+ReusingLasts = (k : ℕ) (dirty free : List ℕ) → 1 ≤ k → (count limit slots id p : ℕ) (m : Mine) →
+    (p < k → LastingSteps (virtual count limit) (sizes count limit k true) (turns_of count limit 0 (λ n. [])) slots id (own_of m.0 dirty free, m.1)
+    (let_go_word (sizes count limit k true) p) (λ n. either (eqb n 3) 0 n)
+    (λ n m'. MatchBool (eqb n 3) (m' ≡ (own_of m.0 (p ∷ dirty) free, m.1)) (m' ≡ (own_of m.0 dirty free, m.1)))) ×
+    (has_number dirty p ≡ true → LastingSteps (virtual count limit) (sizes count limit k true) (turns_of count limit 0 (λ n. [])) slots id
+    (own_of m.0 dirty free, m.1) p (λ n. 0) (λ n m'. m' ≡ (own_of m.0 (without_number dirty p) (p ∷ free), m.1))) ×
+    ((has_number dirty p ≡ true) ⊎ (has_number free p ≡ true) → LastingSteps (virtual count limit) (sizes count limit k true)
+    (turns_of count limit 0 (λ n. [])) slots id (own_of m.0 dirty free, m.1) (let_go_word (sizes count limit k true) p) (λ n. 3)
+    (λ n m'. m' ≡ (own_of m.0 (without_number dirty p) (without_number free p), m.1)))
+
+-- a proxy that leaves lets its end of its central link go, and the spare that it has is used no more: its slot is the seat's, to be emptied
+abbrev pub LeavesOnSlots : Type 0
+LeavesOnSlots = (k : ℕ) (dirty free : List ℕ) → 1 ≤ k →
+    (count limit slots id i j : ℕ) (b : Bool) (m : Mine) (p : Part) (serial : ℕ) (r : Router) → m.0.parts ≡ p ∷ [] →
+    CanAct p.state serial r router_acts.Leave → lets_go i (side_of b) r router_acts.Leave ≡ true → r.spare ≡ Some j → j ≢ i →
+    LastingSteps (virtual count limit) (sizes count limit k true) (turns_of count limit i (λ n. (p.node, acts.Router serial router_acts.Leave) ∷ [])) slots
+    id (own_of m.0 dirty free, m.1) (let_go_word (sizes count limit k true) (i % k)) (λ n. bit_or n (side_bit b))
+    (λ n m'. (◌≡◌ {A = Mine} (m'.0.view, m'.1) (with_part (act_part (acts.Router serial router_acts.Leave) answers.Plain p) m.0, m.1)) ×
+    (m'.0.dirty ≡ (j % k) ∷ dirty) × (m'.0.free ≡ free))
+
+-- by these laws, and the rule's own kind
+abbrev pub LettingGoLasts : Type 0
+LettingGoLasts = EndLaws → Touches IsTurns → LetsGoOnSlots
+
+abbrev pub LeavingLasts : Type 0
+LeavingLasts = EndLaws → Touches IsTurns → LeavesOnSlots

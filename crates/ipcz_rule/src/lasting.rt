@@ -1,0 +1,40 @@
+//! The kinds of atomic step on a table whose link words come back (specs/Lasting). Each function does nothing: its contract is the law.
+
+ghost use Rattle.ipcz_rule.specs.LastingKinds.{TurnsLast};
+ghost use Rattle.ipcz_rule.specs.LastingSeats.{SeatsLast};
+ghost use Rattle.ipcz_rule.specs.LastingStart.{StartLasts};
+ghost use Rattle.ipcz_rule.specs.LastingCalls.{CallsLast, OpensLast, ClaimsForOpenLast, ClaimsForOpenInOrder};
+
+/// Each kind of step that a turn takes keeps the rule of a table with slots, and is the turns that it says: on the slot of a number, or as far
+/// behind the slots as it is behind the link words. An act by which a router lets an end go is one step on the let-go word of its slot. A slot
+/// that both sides have let go is taken by whoever finds both bits, emptied, and may be given back; a claim takes a number whose slot is free
+/// at its seat, and where slots aren't used again the next number.
+pub fn turns_keep_the_lasting_rule()
+    ensures { TurnsLast }
+{}
+
+/// A put, a get and a close keep the rule of a table whose link words come back.
+pub fn calls_keep_the_lasting_rule()
+    ensures { CallsLast }
+{}
+
+/// So does an open on the word that was claimed for it.
+pub fn an_open_keeps_the_lasting_rule()
+    ensures { OpensLast }
+{}
+
+/// So does a claim for an open.
+pub fn a_claim_for_an_open_keeps_the_lasting_rule()
+    ensures again { ClaimsForOpenLast }
+    ensures order { ClaimsForOpenInOrder }
+{}
+
+/// The table at the start keeps the rule of a table whose link words come back.
+pub fn the_start_keeps_the_lasting_rule()
+    ensures { StartLasts }
+{}
+
+/// So do seats that are dealt and joined.
+pub fn seats_keep_the_lasting_rule()
+    ensures { SeatsLast }
+{}

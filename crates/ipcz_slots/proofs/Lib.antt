@@ -1,0 +1,9 @@
+pub mod Folding
+pub mod Letting
+pub mod Reusing
+pub mod Beginning
+pub mod Discarding
+pub mod Uniting
+pub mod NextNumber
+pub mod Ordered
+pub mod Returning

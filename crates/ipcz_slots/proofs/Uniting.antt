@@ -1,0 +1,107 @@
+-- A seat takes in another's view and slots.
+use Rattle.std.specs.Prelude.{◌≡◌, ◌≢◌, ◌⊎◌, ℕ, Bool, true, false, ◌||◌, cond, nat_eq, List, [], ◌∷◌, ◌++◌, map, slice_index, refl}
+use Rattle.std.proofs.Common.{arith, ap, ◌∙◌, sym, subst, inl, inr, ⊎_elim, set}
+use Rattle.std.proofs.lemmas.List.{map-set}
+use Rattle.std.proofs.lemmas.Bool.Decides.{nat_tests}
+use mathlib.Core.Option.{some}
+use lib.ListN.{get_elem?}
+use Rattle.atomic_table.specs.Table.{State}
+use Rattle.atomic_table.proofs.Lists.{at_set, set_else, at_map}
+use Rattle.ipcz_slots.specs.declared.own.Own.{Own}
+use Rattle.ipcz_slots.specs.Slots.{Virtual, Sizes, Owns, SlotSays, Status, Shows, Dirty, Free, Spare, slot_of, let_go_word, has_number}
+use Rattle.ipcz_slots.specs.SlotKinds.{JoinsSeats}
+use Rattle.ipcz_slots.proofs.Folding.{says_still, view_at}
+use Rattle.ipcz_slots.proofs.Beginning.{no_slots}
+
+either_by : (b : Bool) (i j : ℕ) (js ks : List ℕ) → nat_eq i j ≡ b → (has_number (js ++ ks) i ≡ true → (has_number js i ≡ true) ⊎ (has_number ks i ≡ true)) →
+    (nat_eq i j || has_number (js ++ ks) i) ≡ true → ((nat_eq i j || has_number js i) ≡ true) ⊎ (has_number ks i ≡ true)
+either_by true i j js ks e rest h = inl (ap (λ c. c || has_number js i) e)
+either_by false i j js ks e rest h = ⊎_elim (λ k. inl (ap (λ c. c || has_number js i) e ∙ k)) (λ k. inr k) (rest (sym (ap (λ c. c || has_number (js ++ ks) i) e) ∙ h))
+
+in_either : (js ks : List ℕ) (i : ℕ) → has_number (js ++ ks) i ≡ true → (has_number js i ≡ true) ⊎ (has_number ks i ≡ true)
+in_either [] ks i h = inr h
+in_either (j ∷ js) ks i h = either_by (nat_eq i j) i j js ks refl (in_either js ks i) h
+
+-- the slots of one seat are another's
+moved : ℕ → ℕ → Status → Status
+moved other id (Shows i) = Shows i
+moved other id (Dirty k) = Dirty (cond (nat_eq k other) id k)
+moved other id (Free k) = Free (cond (nat_eq k other) id k)
+moved other id Spare = Spare
+
+says_moved : {S V : Type 0} (x : Virtual S V) (z : Sizes) (t : State S V) (r : x.holds t) (p word bits other id : ℕ) (st : Status) → SlotSays x z t r p word bits st → SlotSays x z t r p word bits (moved other id st)
+unfolding moved
+says_moved x z t r p word bits other id (Shows i) h = h
+says_moved x z t r p word bits other id (Dirty k) h = h
+says_moved x z t r p word bits other id (Free k) h = h
+says_moved x z t r p word bits other id Spare h = h
+
+shows_moved : (other id i : ℕ) (st : Status) → st ≡ Shows i → moved other id st ≡ Shows i
+unfolding moved
+shows_moved other id i st e = ap (moved other id) e
+
+to_id : (other id k : ℕ) → k ≡ other → cond (nat_eq k other) id k ≡ id
+to_id other id k e = let h : nat_eq k other ≡ true = grind (arith, nat_tests, e) in ap (λ b. cond b id k) h
+
+stays : (other id k : ℕ) → k ≢ other → cond (nat_eq k other) id k ≡ k
+stays other id k ne = let h : nat_eq k other ≡ false = grind (arith, nat_tests, ne) in ap (λ b. cond b id k) h
+
+dirty_moved : (other id k j : ℕ) (st : Status) → st ≡ Dirty k → cond (nat_eq k other) id k ≡ j → moved other id st ≡ Dirty j
+unfolding moved
+dirty_moved other id k j st e h = ap (moved other id) e ∙ ap Dirty h
+
+free_moved : (other id k j : ℕ) (st : Status) → st ≡ Free k → cond (nat_eq k other) id k ≡ j → moved other id st ≡ Free j
+unfolding moved
+free_moved other id k j st e h = ap (moved other id) e ∙ ap Free h
+
+pub joins_seats : {S V : Type 0} (x : Virtual S V) (z : Sizes) → JoinsSeats x z
+joins_seats {S} {V} x z id other o p both spent join s l at apart there =
+    let t = l.0 in
+    let r = l.1 in
+    let f = l.2 in
+    let mine : Own V = record { view = both; dirty = o.dirty ++ p.dirty; free = o.free ++ p.free } in
+    let empty : Own V = record { view = spent; dirty = []; free = [] } in
+    let apart' : other ≢ id = apart in
+    let apart'' : id ≢ other = λ e. apart (sym e) in
+    let his : get_elem? s.views other ≡ some p = sym (set_else s.views id other mine apart') ∙ there in
+    let views1 : map (λ (q : Own V). q.view) (set s.views id mine) ≡ set t.views id both = map-set (λ q. q.view) s.views id mine ∙ ap (λ vs. set vs id both) f.views in
+    let his_view : get_elem? (set t.views id both) other ≡ some p.view = subst (λ vs. get_elem? vs other ≡ some p.view) views1 (at_map (λ q. q.view) (set s.views id mine) other p there) in
+    let d = join t r (view_at x z s t r f id o at) apart his_view in
+    let t' : State S V = record { words = t.words; homes = t.homes; views = set (set t.views id both) other spent } in
+    let w = f.own id o at in
+    let u = f.own other p his in
+    let united : Owns z (λ q. moved other id (f.status q)) id (o.dirty ++ p.dirty) (o.free ++ p.free) = record {
+      dirty_is = λ q h. ⊎_elim
+          (λ k. let e = w.dirty_is q k in (e.0, dirty_moved other id id id (f.status q) e.1 (stays other id id apart'')))
+          (λ k. let e = u.dirty_is q k in (e.0, dirty_moved other id other id (f.status q) e.1 (to_id other id other refl)))
+          (in_either o.dirty p.dirty q h);
+      free_is = λ q h. ⊎_elim
+          (λ k. let e = w.free_is q k in (e.0, free_moved other id id id (f.status q) e.1 (stays other id id apart'')))
+          (λ k. let e = u.free_is q k in (e.0, free_moved other id other id (f.status q) e.1 (to_id other id other refl)))
+          (in_either o.free p.free q h);
+    } in (
+      t',
+      d.0,
+      record {
+        wide = f.wide;
+        tall = f.tall;
+        homes = f.homes;
+        views = map-set (λ q. q.view) (set s.views id mine) other empty ∙ ap (λ vs. set vs other spent) views1;
+        rest = f.rest;
+        status = λ q. moved other id (f.status q);
+        slots = λ q k. says_moved x z t' d.0 q (slice_index s.words q) (slice_index s.words (let_go_word z q)) other id (f.status q)
+            (says_still x z t t' r d.0 q (slice_index s.words q) (slice_index s.words (let_go_word z q)) (f.status q) (λ i e b. refl) (λ b i e. d.1 b i) (f.slots q k));
+        others = λ i k. ⊎_elim (λ e. inl (shows_moved other id i (f.status (slot_of z i)) e)) (λ h. inr (d.1 false i h.0, d.1 true i h.1)) (f.others i k);
+        own = λ j q here. ⊎_elim
+            (λ e. no_slots z (λ n. moved other id (f.status n)) j q.dirty q.free (ap (λ (y : Own V). y.dirty) (sym e.1)) (ap (λ (y : Own V). y.free) (sym e.1)))
+            (λ e. ⊎_elim
+            (λ g. subst (λ y. Owns z (λ n. moved other id (f.status n)) j y.dirty y.free) g.1 (subst (λ n. Owns z (λ m. moved other id (f.status m)) n mine.dirty mine.free) (sym g.0) united))
+            (λ g. let v = f.own j q g.1 in record {
+              dirty_is = λ n h. let k = v.dirty_is n h in (k.0, dirty_moved other id j j (f.status n) k.1 (stays other id j e.0));
+              free_is = λ n h. let k = v.free_is n h in (k.0, free_moved other id j j (f.status n) k.1 (stays other id j e.0));
+            })
+            (at_set s.views id j mine q e.1))
+            (at_set (set s.views id mine) other j empty q here);
+        whole = λ e. let w1 = f.whole e in record { shows = λ q l. shows_moved other id q (f.status q) (w1.shows q l); fresh = w1.fresh };
+      },
+    )

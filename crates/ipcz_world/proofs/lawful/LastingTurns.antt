@@ -1,0 +1,29 @@
+-- Turns alone, however many: an end that was let go isn't held after them.
+use Rattle.std.specs.Prelude.{[], ◌∷◌}
+use Rattle.std.proofs.Common.{arith, subst, inl, inr}
+use Rattle.ipcz_world.proofs.Vocabulary.{World, after_act}
+use Rattle.ipcz_world.specs.declared.step.Step.TheVariants.{Turn}
+use Rattle.ipcz_world.specs.declared.step.Reply.TheVariants as replies
+use Rattle.ipcz_world.specs.Books.{after_turn, advance}
+use Rattle.ipcz_world.specs.Routes.{routes_after, routes_after_turn}
+use Rattle.ipcz_world.specs.Turns.{turn_event}
+use Rattle.ipcz_world.specs.Lawful.{Lawful}
+use Rattle.ipcz_world.specs.WorldLaws.{StepKeepsLawful}
+use Rattle.ipcz_world.specs.HeldEnds.{IsEndHeld, TurnsHeldWereHeld}
+use Rattle.ipcz_world.proofs.facts.Claimed.{claimed-after_act}
+use Rattle.ipcz_world.proofs.lawful.LettingGo.{held_were_held}
+use Rattle.ipcz_world.proofs.lawful.Turning.{stepped}
+
+pub turns_held_were_held : StepKeepsLawful → TurnsHeldWereHeld
+unfolding advance routes_after
+turns_held_were_held keeps w v b d g h [] i s law run held = inl (subst (λ u. IsEndHeld u i s) run.0 held)
+turns_held_were_held keeps w v b d g h (t ∷ ts) i s law run held =
+    let u : World = after_act w t.0 t.1 in
+    let step = stepped w t.0 t.1 run.0 in
+    let next : Lawful u (after_turn w b t.0 (turn_event w t.0 t.1)) (routes_after_turn w g t.0 (turn_event w t.0 t.1)) =
+    keeps w u b g (Turn t.0) (replies.Turned (turn_event w t.0 t.1)) law step in
+    elim (turns_held_were_held keeps u v (after_turn w b t.0 (turn_event w t.0 t.1)) d (routes_after_turn w g t.0 (turn_event w t.0 t.1)) h ts i s
+    next run.1 held) [
+      | inl e ↦ held_were_held w u b g (Turn t.0) (replies.Turned (turn_event w t.0 t.1)) i s law step e
+      | inr l ↦ inr (omega (arith, l, claimed-after_act w t.0 t.1))
+    ]
