@@ -7,7 +7,7 @@ use Rattle.ipcz_base.specs.declared.refusal.Refusal.{Refusal}
 use Rattle.ipcz_base.specs.declared.refusal.Refusal.TheVariants.{OutOfMemory}
 use Rattle.ipcz_base.specs.Refusals.{code_of}
 use Rattle.ipcz_node.specs.FirstPairs.{first_pair_count}
-use Rattle.ipcz_world.specs.World.{World, node_limit, word_limit, new_world}
+use Rattle.ipcz_world.specs.World.{World, node_limit, new_world}
 use Rattle.ipcz_world.specs.Steps.{StepFirst, next_sizes, put_of}
 use Rattle.ipcz_world.specs.Books.{Books, advance}
 use Rattle.ipcz_world.specs.Routes.{Routes, routes_after}
@@ -50,9 +50,13 @@ Answers Tells old step status new = (reply : Reply) × TakesStep old step reply 
 abbrev pub IsRefused : {X : Type 0} → ℕ → X → ℕ → X → Type 0
 IsRefused why old status new = (status ≡ why) × (new ≡ old)
 
--- whether a world may have so many nodes and words
+-- how many words a world or a table may have that C makes: IPCZ_MAX_WORDS of the header
+abbrev pub most_words : ℕ
+most_words = 4096
+
+-- whether a world or a table that C makes may have so many nodes and words
 abbrev pub is_within : ℕ → ℕ → Bool
-is_within nodes words = nat_le 1 nodes && nat_le nodes node_limit && nat_le (first_pair_count nodes) words && nat_le words word_limit
+is_within nodes words = nat_le 1 nodes && nat_le nodes node_limit && nat_le (first_pair_count nodes) words && nat_le words most_words
 
 -- a create within the limits, on a handle of no world: a new world, or no memory was found
 abbrev pub Creates : ℕ → ℕ → ℕ → Option World → Type 0

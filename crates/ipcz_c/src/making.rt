@@ -10,7 +10,7 @@ use ipcz_node::first_pair_count;
 use ipcz_world::World;
 use std::alloc::{AllocError, Global};
 
-// Whether a world may have so many nodes and words.
+// Whether a world or a table that C makes may have so many nodes and words.
 pub(crate) fn are_within(nodes: u8, words: u32) -> bool
     ensures { result ≡ is_within nodes words }
 {

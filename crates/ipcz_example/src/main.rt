@@ -12,7 +12,7 @@ fn talk(alloc: Global) -> Result<Reply, Refusal> {
         side: Side::A,
     };
     let right = left.opposite();
-    let mut world = World::new(alloc, 2, 4)?;
+    let mut world = World::new(alloc, 2, 1 << 24)?;
     let bytes = Vec::from_slice(alloc, b"hello")?;
     let ends = Vec::new(alloc);
     world.put(0, left, Sequence::from_vec(bytes), Sequence::from_vec(ends))?;

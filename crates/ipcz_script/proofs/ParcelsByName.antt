@@ -390,7 +390,7 @@ of-log : (input : List ℕ) (script : Script) (log : List Answered) (t : Session
 of-log input script log t read is text whole xs x y says bits peers =
     let good = scripts_have_names input script read in
     let new = scripts_have_new input script read in
-    let own = lines_say_answers script.nodes script.words script.commands log t good.0 good.1 is in
+    let own = lines_say_answers script.nodes script.words script.commands log t good.0 good.2 is in
     let texts : map saying_text xs ≡ map saying_text (sayings_in log) =
     same_lines text (map saying_text xs) (map saying_text (sayings_in log))
     says.lines (subst (λ l. AreLines l (map saying_text (sayings_in log))) (sym whole) own.lines) in

@@ -207,12 +207,12 @@ module _ (P : Command → Type 0) (holds : Holds P) where
       go (Some c) k rest = rest c (all-append before (c ∷ []) h (k, tt))
 
   abbrev IsGood : Script → Type 0
-  IsGood script = IsWithinLimits script.nodes script.words × AllByRecursion P script.commands
+  IsGood script = IsWithinLimits script.nodes script.words × (script.words ≤ 4096) × AllByRecursion P script.commands
 
-  commands-good : (nodes words : ℕ) (r : Result (List Command) ScriptFault) → IsWithinLimits nodes words → Reads (AllByRecursion P) r →
-      Reads IsGood (with_commands nodes words r)
-  commands-good nodes words (Ok cs) limits h = (limits, h)
-  commands-good nodes words (Err why) limits h = tt
+  commands-good : (nodes words : ℕ) (r : Result (List Command) ScriptFault) → IsWithinLimits nodes words → words ≤ 4096 →
+      Reads (AllByRecursion P) r → Reads IsGood (with_commands nodes words r)
+  commands-good nodes words (Ok cs) limits few h = (limits, few, h)
+  commands-good nodes words (Err why) limits few h = tt
 
   members-good : (d : Data) (n : Option ℕ) (vs : Option (List Data)) → Where (λ n. (1 ≤ n) × (n ≤ 8)) n →
       Reads IsGood (with_members n (option_and_then (words_in d) n) vs)
@@ -224,7 +224,7 @@ module _ (P : Command → Type 0) (holds : Holds P) where
       go None vs k = tt
       go (Some words) None k = tt
       go (Some words) (Some ds) k = commands-good nodes words (commands_from nodes [] ds)
-          (record { some_node = h.0; nodes = h.1; pairs = k.0; words = k.1 }) (all-read nodes [] ds h.1 tt)
+          (record { some_node = h.0; nodes = h.1; pairs = k.0; words = omega (arith, k.1) }) k.1 (all-read nodes [] ds h.1 tt)
 
   script-good : (d : Data) → Reads IsGood (script_of d)
   script-good d = go (has_three_members d)
@@ -235,7 +235,7 @@ module _ (P : Command → Type 0) (holds : Holds P) where
       go false = tt
 
   pub read-good : (input : List ℕ) (script : Script) → IsScript input (Ok script) →
-      IsWithinLimits script.nodes script.words × AllByRecursion P script.commands
+      IsWithinLimits script.nodes script.words × (script.words ≤ 4096) × AllByRecursion P script.commands
   read-good input script (inl h) = let never : Ok script ≡ Err _ = h.1 in cc
   read-good input script (inr h) = go h.1 h.3
     where
@@ -260,7 +260,7 @@ scripts_have_names input script is =
       settle = λ limit. tt;
       show = tt;
     }) input script is in
-    (good.0, all-names script.commands good.1)
+    (good.0, good.1, all-names script.commands good.2)
 
 pub turns_have_bits : TurnsHaveBits
 turns_have_bits input script is = (read-good NodeHasBits (record {
@@ -271,4 +271,4 @@ turns_have_bits input script is = (read-good NodeHasBits (record {
   turn = λ node count l. grind (arith, l);
   settle = λ limit. tt;
   show = tt;
-}) input script is).1
+}) input script is).2

@@ -1,5 +1,5 @@
 -- What the bytes of a transcript say, as functions promise it.
-use Rattle.std.specs.Prelude.{◌≡◌, ◌↔◌, ℕ, List, codes, Ok}
+use Rattle.std.specs.Prelude.{◌≡◌, ◌≤◌, ◌↔◌, ℕ, List, codes, Ok}
 use Rattle.ipcz_world.specs.Lawful.{IsWithinLimits}
 use Rattle.ipcz_script.specs.declared.script.Script.{Script}
 use Rattle.ipcz_script.specs.declared.outcome.Outcome.{Outcome}
@@ -8,10 +8,11 @@ use Rattle.ipcz_script.specs.Reading.{IsScript}
 use Rattle.ipcz_script.specs.Transcript.{IsRunOutput}
 use Rattle.ipcz_script.specs.ReadBack.{AreLines, EndsWith, HasLine, HaveNames}
 
--- law: a script that is read is within the limits, and its commands have names
+-- law: a script that is read is within the limits of worlds and has 4096 link words at most, and its commands have names
 abbrev pub ScriptsHaveNames : Type 0
 ScriptsHaveNames =
-    (input : List ℕ) (script : Script) → IsScript input (Ok script) → IsWithinLimits script.nodes script.words × HaveNames script.commands
+    (input : List ℕ) (script : Script) → IsScript input (Ok script) →
+    IsWithinLimits script.nodes script.words × (script.words ≤ 4096) × HaveNames script.commands
 
 -- what is said of the lines of each output of a script, by how its run ended
 abbrev pub OfLines : (Outcome → List (List ℕ) → Type 0) → Type 0

@@ -63,7 +63,8 @@ pub fn settled_gets_give_all()
     ensures { SettledGetsGiveAll }
 {}
 
-/// Each script that is read is within the limits, and its commands have names: what the laws of bytes require.
+/// Each script that is read is within the limits of worlds and has 4096 link words at most, and its commands have names: what the laws of
+/// bytes require.
 pub fn scripts_have_names()
     ensures { ScriptsHaveNames }
 {}

@@ -102,6 +102,7 @@ fn script_of(alloc: Global, value: &Value) -> Result<Script, ScriptFault>
         values_in (view value.now) ≡ Some values → length values ≤ max_bytes }
     ensures gives { Gives result (script_of (view value.now)) }
     ensures limits { IfOk result (λ script. IsWithinLimits script.nodes script.words) }
+    ensures words { IfOk result (λ script. script.words ≤ 4096) }
 {
     if !has_three_members(value) {
         return Err(ScriptFault::BadShape(0));
@@ -131,6 +132,7 @@ fn script_of(alloc: Global, value: &Value) -> Result<Script, ScriptFault>
 pub fn read_script(alloc: Global, bytes: &[u8]) -> Result<Script, ScriptFault>
     ensures answer { IsAnswer bytes.now result }
     ensures limits { IfOk result (λ script. IsWithinLimits script.nodes script.words) }
+    ensures words { IfOk result (λ script. script.words ≤ 4096) }
     ensures too_long { max_bytes < length bytes.now → result ≡ Err fault.TooLong }
 {
     if bytes.len() > MAX_BYTES {

@@ -1,9 +1,9 @@
 -- What the code of the world keeps, as the definitions of worlds name it: the link words with their claim count, apart from the nodes.
-use Rattle.std.specs.Prelude.{◌≡◌, ◌≤◌, ℕ, ◌+◌, Bool, true, false, nat_lt, if◌then◌else◌, Option, Some, None, List, length}
+use Rattle.std.specs.Prelude.{◌≡◌, ◌≤◌, ℕ, ◌+◌, ◌-◌, ◌++◌, Bool, true, false, nat_lt, if◌then◌else◌, Option, Some, None, List, length, map, replicate}
 use Rattle.std.specs.List.{All}
 use Rattle.ipcz_base.specs.declared.side.Side.{Side}
 use Rattle.ipcz_base.specs.Indexed.{place_at, put_place}
-use Rattle.ipcz_word.specs.Layout.{IsWord, idle_bits, bits_of}
+use Rattle.ipcz_word.specs.Layout.{IsWord, idle_bits, bits_of, word_of_bits}
 use Rattle.ipcz_word.specs.Word.{Word, empty_word}
 use Rattle.ipcz_router.specs.declared.act.RouterAct.{RouterAct}
 use Rattle.ipcz_router.specs.declared.act.RouterAct.TheVariants.{Claim}
@@ -27,6 +27,21 @@ pub record IsTable (bits : List ℕ) (count : ℕ) : Type 0 where
   pub words : All IsLinkNumber bits
   pub claimed : count ≤ length bits
   pub few : length bits ≤ word_limit
+
+-- the words from the claim count on are empty
+abbrev pub AreUnclaimedEmpty : List Word → ℕ → Type 0
+AreUnclaimedEmpty words claimed = (i : ℕ) → claimed ≤ i → place_at empty_word words i ≡ empty_word
+
+-- the table of so many words in which those of these numbers are claimed, and the others are empty
+abbrev pub laid_table : List ℕ → ℕ → WordTable
+laid_table bits size = record { words = map word_of_bits bits ++ replicate (size - length bits) empty_word; claimed = length bits }
+
+-- the numbers of the claimed words are link words, and they are laid out in memory that has room for all the words
+pub record IsLaidOut (bits : List ℕ) (capacity size : ℕ) : Type 0 where
+  pub words : All IsLinkNumber bits
+  pub claimed : length bits ≤ size
+  pub few : size ≤ word_limit
+  pub room : size ≤ capacity
 
 -- the number of a claimed word
 abbrev pub claimed_word : WordTable → ℕ → Option ℕ

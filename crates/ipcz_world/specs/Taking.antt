@@ -15,11 +15,11 @@ use Rattle.ipcz_world.specs.Turns.{turn_event, turn_lacks_serials, turn_grows, a
 use Rattle.ipcz_world.specs.Steps.{FirstAct, StepFirst}
 use Rattle.ipcz_world.specs.Soundness.{HasLengths, IsSound}
 
--- the lists of a world have their lengths, its nodes name only what there is, the source of each router is the number of a node, and the
--- first act of each of them is possible, and so is what stands in for it
+-- the lists of a world have their lengths, its nodes name only what there is, of the words only claimed ones, the source of each router is the
+-- number of a node, and the first act of each of them is possible, and so is what stands in for it
 pub record IsRegular (w : World) : Type 0 where
   pub lengths : HasLengths w
-  pub sound : (n : ℕ) → n < w.count → IsSound w.count w.size n (node_at w n)
+  pub sound : (n : ℕ) → n < w.count → IsSound w.count w.claimed n (node_at w n)
   pub sourced : (n serial : ℕ) (r : Router) → n < w.count → router_in (node_at w n) serial ≡ Some r → HasNode (source_of r)
   pub possible : (n : ℕ) (act : Act) → n < w.count → FirstAct w n act → can_take w n act ≡ true
 

@@ -3,7 +3,8 @@ ghost use Rattle.ipcz_word.specs.Layout.{word_of_bits};
 ghost use Rattle.ipcz_word.specs.Laws.{HasNode};
 ghost use Rattle.ipcz_word.specs.Word.{empty_word, open_word};
 ghost use Rattle.ipcz_world.specs.Coding.{claimed_word, has_unclaimed, claim_one, put_word, is_claim, side_answer, side_after, source_at};
-ghost use Rattle.ipcz_world.specs.Coding.{table_answer, table_after, IsTable};
+ghost use Rattle.ipcz_world.specs.Coding.{table_answer, table_after, IsTable, AreUnclaimedEmpty};
+ghost use Rattle.ipcz_world.specs.World.{word_limit};
 
 use crate::word_answers::answer_act;
 use ipcz_base::Side;
@@ -13,65 +14,69 @@ use std::alloc::{AllocError, Global};
 use std::marker::Model;
 
 /// The link words that the nodes share, and how many of them were claimed (docs/PROTOCOL.md, "Link words").
+///
+/// Words are laid out in memory as they are claimed. Those that aren't are empty, and touch no memory: room is kept for them, so that a
+/// claim never fails for want of it.
 #[derive(Drop)]
 pub(crate) struct LinkWords {
     bits: Vec<u64>,
-    claimed: u32,
+    size: u32,
 }
 
 impl Model for LinkWords {
-    ghost use Rattle.std.specs.Prelude.{map};
+    ghost use Rattle.std.specs.Prelude.{vec_capacity};
     ghost use Rattle.std.specs.FinMap.{code};
     ghost use Rattle.std.specs.Coded.{codes};
-    ghost use Rattle.ipcz_word.specs.Layout.{word_of_bits};
-    ghost use Rattle.ipcz_world.specs.Coding.{WordTable, IsTable};
+    ghost use Rattle.ipcz_world.specs.Coding.{WordTable, laid_table, IsLaidOut};
 
     ghost Value = { WordTable };
 
     ghost coded = { Prim.hlevel (codes, code) };
 
-    ghost view = { λ a. record { words = map word_of_bits a.bits.items; claimed = a.claimed } };
+    ghost view = { λ a. laid_table a.bits.items a.size };
 
-    ghost invariant = { λ a. IsTable a.bits.items a.claimed };
+    ghost invariant = { λ a. IsLaidOut a.bits.items (vec_capacity a.bits) a.size };
 }
 
 impl LinkWords {
-    /// So many link words, 4096 at most. The first ones are those of pairs' first links, and claimed; the others are empty.
+    /// So many link words. The first ones are those of pairs' first links, and claimed; the others are empty. Room is kept for all of them.
     pub(crate) fn new(alloc: Global, pairs: u32, words: u32) -> Result<LinkWords, AllocError>
         requires pairs { pairs ≤ words }
-        requires words { words ≤ 4096 }
+        requires words { words ≤ word_limit }
         ensures words { IfOk result (λ t. t.words ≡ replicate pairs open_word ++ replicate (words - pairs) empty_word) }
         ensures claimed { IfOk result (λ t. t.claimed ≡ pairs) }
     {
-        let mut bits = vec![in alloc; OPEN_WORD; pairs as usize]?;
-        bits.resize(words as usize, EMPTY_WORD)?;
-        Ok(LinkWords {
-            bits,
-            claimed: pairs,
-        })
+        let mut bits = Vec::with_capacity(alloc, words as usize)?;
+        for _pair in 0..pairs {
+            bits.push_reserved(OPEN_WORD);
+        }
+        Ok(LinkWords { bits, size: words })
     }
 
-    /// These link words, of which so many are claimed.
-    pub(crate) fn of(bits: Vec<u64>, claimed: u32) -> LinkWords
-        requires { IsTable bits.items claimed }
+    /// These link words, of which so many are claimed; the others are empty.
+    pub(crate) fn of(mut bits: Vec<u64>, claimed: u32) -> LinkWords
+        requires table { IsTable bits.items claimed }
+        requires empty { AreUnclaimedEmpty (map word_of_bits bits.items) claimed }
         ensures words { result.words ≡ map word_of_bits bits.items }
         ensures claimed { result.claimed ≡ claimed }
     {
-        LinkWords { bits, claimed }
+        let size = bits.as_slice().len() as u32;
+        bits.truncate(claimed as usize);
+        LinkWords { bits, size }
     }
 
     /// How many words were claimed.
     pub(crate) fn claimed(&self) -> u32
         ensures { result ≡ self.now.claimed }
     {
-        self.claimed
+        self.bits.as_slice().len() as u32
     }
 
     /// The number of a claimed word.
     pub(crate) fn word(&self, i: u32) -> Option<u64>
         ensures { result ≡ claimed_word self.now i }
     {
-        if i < self.claimed {
+        if i < self.claimed() {
             Some(self.bits[i as usize])
         } else {
             None
@@ -82,7 +87,7 @@ impl LinkWords {
     pub(crate) fn source(&self, i: u32) -> Option<u8>
         ensures { result ≡ source_at self.now i }
     {
-        if self.claimed > i {
+        if self.claimed() > i {
             ipcz_word::source(self.bits[i as usize])
         } else {
             None
@@ -93,7 +98,7 @@ impl LinkWords {
     pub(crate) fn has_unclaimed(&self) -> bool
         ensures { result ≡ has_unclaimed self.now }
     {
-        (self.claimed as usize) < self.bits.as_slice().len()
+        self.claimed() < self.size
     }
 
     /// Claims the next word and gives its number.
@@ -102,14 +107,14 @@ impl LinkWords {
         ensures word { result ≡ self.old.claimed }
         ensures table { self.new ≡ claim_one self.old }
     {
-        let word = self.claimed;
-        self.claimed += 1;
+        let word = self.claimed();
+        self.bits.push_reserved(EMPTY_WORD);
         word
     }
 
-    /// Makes a word that of a pair's first link.
+    /// Makes a claimed word that of a pair's first link.
     pub(crate) fn open(&mut self, i: u32)
-        requires { i < length self.old.words }
+        requires { i < self.old.claimed }
         ensures { self.new ≡ put_word self.old i open_word }
     {
         self.bits[i as usize] = OPEN_WORD;
@@ -124,7 +129,7 @@ impl LinkWords {
         link: Option<(u32, Side)>,
     ) -> Answer
         requires node { HasNode source }
-        requires within { IfSome link (λ l. l.0 < length self.old.words) }
+        requires within { IfSome link (λ l. l.0 < self.old.claimed) }
         ensures answer { result ≡ table_answer self.old source act link }
         ensures table { self.new ≡ table_after self.old source act link }
     {
@@ -156,7 +161,7 @@ impl LinkWords {
         link: Option<(u32, Side)>,
     ) -> Answer
         requires node { HasNode source }
-        requires within { IfSome link (λ l. l.0 < length self.old.words) }
+        requires within { IfSome link (λ l. l.0 < self.old.claimed) }
         ensures answer { result ≡ side_answer self.old source act link }
         ensures table { self.new ≡ side_after self.old source act link }
     {
@@ -166,11 +171,11 @@ impl LinkWords {
         }
     }
 
-    // Answers an act on a word.
+    // Answers an act on a claimed word.
     #[tactic(auto, unfolding(crate::specs::Coding::side_answer, crate::specs::Coding::side_after))]
     fn answer_word(&mut self, source: Option<u8>, act: RouterAct, i: u32, side: Side) -> Answer
         requires node { HasNode source }
-        requires within { i < length self.old.words }
+        requires within { i < self.old.claimed }
         ensures answer { result ≡ side_answer self.old source act (Some (i, side)) }
         ensures table { self.new ≡ side_after self.old source act (Some (i, side)) }
     {

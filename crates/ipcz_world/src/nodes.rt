@@ -2,7 +2,7 @@ ghost use Rattle.std.specs.Prelude.{◌≡◌, ◌<◌, ◌≤◌, IfOk, IfErr, 
 ghost use Rattle.std.specs.Borrow.{sem};
 ghost use Rattle.ipcz_base.specs.Indexed.{place_at};
 ghost use Rattle.ipcz_node.specs.Node.{bare_node};
-ghost use Rattle.ipcz_world.specs.World.{new_nodes, numbers_from};
+ghost use Rattle.ipcz_world.specs.World.{node_limit, new_nodes, numbers_from};
 
 use ipcz_base::Refusal;
 use ipcz_node::NodeState;
@@ -31,9 +31,9 @@ impl Model for Nodes {
 impl Nodes {
     ghost use Rattle.ipcz_world.specs.Lending.{LendsNode};
 
-    /// So many nodes, 8 at most, with their first pairs. Its only refusal is `OutOfMemory`.
+    /// So many nodes with their first pairs. Its only refusal is `OutOfMemory`.
     pub(crate) fn new(alloc: Global, count: u8) -> Result<Nodes, Refusal>
-        requires { count ≤ 8 }
+        requires { count ≤ node_limit }
         ensures nodes { IfOk result (λ s. s ≡ new_nodes count (numbers_from 0 count)) }
         ensures why { IfErr result (λ e. e ≡ Refusal.OutOfMemory) }
     {

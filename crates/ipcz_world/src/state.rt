@@ -1,6 +1,6 @@
 ghost use Rattle.std.specs.Prelude.{◌≡◌, ◌<◌, ◌≤◌, IfOk, IfErr, length, map};
 ghost use Rattle.ipcz_word.specs.Layout.{word_of_bits};
-ghost use Rattle.ipcz_world.specs.Coding.{claimed_word, table_of, IsTable};
+ghost use Rattle.ipcz_world.specs.Coding.{claimed_word, table_of, AreUnclaimedEmpty, IsTable};
 ghost use Rattle.ipcz_world.specs.Holding.{holder_of, routers_at};
 ghost use Rattle.ipcz_world.specs.Lawful.{IsWithinLimits};
 ghost use Rattle.ipcz_world.specs.Parts.{world_of_parts};
@@ -87,6 +87,7 @@ impl State {
         claimed: u32,
     ) -> State
         requires words { IsTable words.items claimed }
+        requires empty { AreUnclaimedEmpty (map word_of_bits words.items) claimed }
         requires nodes { length nodes.items ≤ 255 }
         requires mail { length mail.items ≤ 64 }
         ensures { result ≡ world_of_parts (map (λ k. k.node) nodes.items) mail.items (map word_of_bits words.items) claimed }

@@ -56,7 +56,11 @@ impl World {
     /// in the order of their nodes, whose two terminals share one link; its word is open and claimed, the other words are empty. Each
     /// mailbox is empty.
     ///
-    /// `nodes` is 1 to 8; `words` is from the number of first pairs, `nodes * (nodes - 1) / 2`, to 4096. Its only refusal is `OutOfMemory`.
+    /// `nodes` is 1 to 8; `words` is from the number of first pairs, `nodes * (nodes - 1) / 2`, to 2^32 - 1. Each open and each bypass
+    /// claims a word for good. For each word 8 bytes of address space are reserved here, which are first touched when the word is claimed.
+    /// So `World::new(alloc, 2, 1 << 24)` reserves 128 MiB and touches a page of them, and that world answers no `NoWord` before its callers
+    /// and proxies have claimed the other 16,777,215 words. Its only refusal is `OutOfMemory`: also of a system that doesn't reserve more
+    /// than its memory.
     pub fn new(alloc: Global, nodes: u8, words: u32) -> Result<World, Refusal>
         requires limits { IsWithinLimits nodes words }
         ensures world { IfOk result (λ w. w ≡ new_world nodes words) }

@@ -1,13 +1,12 @@
 -- The parts of a world at the start, as the loops that make them see them.
-use Rattle.std.specs.Prelude.{◌≡◌, ◌<◌, ◌≤◌, ◌-◌, ◌+◌, ℕ, zero, suc, List, [], ◌∷◌, ◌++◌, length, map, take, replicate, refl}
+use Rattle.std.specs.Prelude.{◌≡◌, ◌<◌, ◌≤◌, ◌-◌, ◌+◌, ℕ, zero, suc, List, [], ◌∷◌, ◌++◌, map, replicate, refl}
 use Rattle.std.proofs.Common.{arith, ap, sym, ◌∙◌, append_assoc, append-nil}
-use Rattle.std.proofs.lemmas.List.{map-append, length-replicate, take_all}
+use Rattle.std.proofs.lemmas.List.{map-append, length-replicate}
 use Rattle.ipcz_world.proofs.Vocabulary.{Node, empty_word, open_word}
 use Rattle.ipcz_node.specs.FirstPairs.{new_node}
 use Rattle.ipcz_node.specs.RoomyNodes.{RoomyNode}
-use Rattle.ipcz_word.specs.Layout.{word_of_bits, source_of_bits}
-use Rattle.ipcz_word.specs.SideSets.{both}
-use Rattle.ipcz_word.specs.SideSets as sides
+use Rattle.ipcz_word.specs.Layout.{word_of_bits}
+use Rattle.ipcz_world.specs.Coding.{laid_table}
 use Rattle.ipcz_world.specs.World.{new_nodes, numbers_from}
 use Rattle.ipcz_world.proofs.code.StatesOfNodes.{nodes_of}
 use Rattle.ipcz_world.proofs.code.Tables.{open_number}
@@ -49,23 +48,10 @@ map-replicate : {X Y : Type 0} (f : X → Y) (n : ℕ) (x : X) → map f (replic
 map-replicate f zero x = refl
 map-replicate f (suc n) x = ap (λ l. f x ∷ l) (map-replicate f n x)
 
-empty_number : word_of_bits 0 ≡ empty_word
-unfolding word_of_bits source_of_bits empty_word both sides.none
-empty_number = refl
-
--- the numbers of the words at the start
-pub filled : (pairs words len : ℕ) (bits new : List ℕ) → pairs ≤ words → len ≡ pairs → bits ≡ replicate pairs 3 →
-    new ≡ take words bits ++ replicate (words - len) 0 → new ≡ replicate pairs 3 ++ replicate (words - pairs) 0
-filled pairs words len bits new few many is all =
-    let l : length bits ≤ words = omega (arith, few, ap length is, length-replicate {A = ℕ} pairs 3) in
-    all ∙ ap (λ n. take words bits ++ replicate (words - n) 0) many ∙
-    ap (λ xs. xs ++ replicate (words - pairs) 0) (take_all words bits l ∙ is)
-
--- they stand for the words at the start
-pub first_words : (pairs rest : ℕ) (bits : List ℕ) → bits ≡ replicate pairs 3 ++ replicate rest 0 →
-    map word_of_bits bits ≡ replicate pairs open_word ++ replicate rest empty_word
-first_words pairs rest bits is =
-    ap (map word_of_bits) is
-    ∙ map-append word_of_bits (replicate pairs 3) (replicate rest 0)
-    ∙ ap (λ xs. xs ++ map word_of_bits (replicate rest 0)) (map-replicate word_of_bits pairs 3 ∙ ap (replicate pairs) open_number)
-    ∙ ap (λ xs. replicate pairs open_word ++ xs) (map-replicate word_of_bits rest 0 ∙ ap (replicate rest) empty_number)
+-- the numbers of the first pairs' words make the words at the start
+pub first_words : (pairs words : ℕ) (bits : List ℕ) → bits ≡ replicate pairs 3 →
+    (laid_table bits words).words ≡ replicate pairs open_word ++ replicate (words - pairs) empty_word
+first_words pairs words bits is =
+    ap (λ ns. (laid_table ns words).words) is
+    ∙ ap (λ k. map word_of_bits (replicate pairs 3) ++ replicate (words - k) empty_word) (length-replicate {A = ℕ} pairs 3)
+    ∙ ap (λ xs. xs ++ replicate (words - pairs) empty_word) (map-replicate word_of_bits pairs 3 ∙ ap (replicate pairs) open_number)

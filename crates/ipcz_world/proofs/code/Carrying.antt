@@ -20,6 +20,7 @@ use Rattle.ipcz_node.proofs.LoneNodes.{OnlyFlagged, none_flagged, rested, stands
 use Rattle.ipcz_world.proofs.Vocabulary.{Node, Router, World, Message, Empty, commit, opposite, with_router}
 use Rattle.ipcz_world.proofs.Vocabulary.{node_at, router_in, set_mail, set_node, way}
 use Rattle.ipcz_world.proofs.Vocabulary.{LinkEnd}
+use Rattle.ipcz_world.specs.World.{node_limit}
 use Rattle.ipcz_world.specs.declared.mail.Mail.{Mail}
 use Rattle.ipcz_world.specs.declared.mail.Mail.TheVariants.{Hand}
 use Rattle.ipcz_world.specs.Carrying.{HasCome, IsLone, with_hand}
@@ -85,7 +86,7 @@ module _ (w : World) (n serial : ℕ) (link : LinkEnd) (is : IsRegular w) (lone 
   abbrev at : Node → Node → Mail → World
   at x y b = pair w n m x y b
 
-  few : w.count ≤ 8
+  few : w.count ≤ node_limit
   few = is.lengths.few
 
   passing : IsPassing w n m

@@ -21,6 +21,7 @@ use Rattle.ipcz_node.proofs.LoneNodes.{written_elsewhere}
 use Rattle.ipcz_node.proofs.Written.{insert_twice}
 use Rattle.ipcz_world.proofs.Vocabulary.{Node, Router, World, Message, Empty, commit, opposite, router_in, with_router}
 use Rattle.ipcz_world.proofs.Vocabulary.{node_at, set_mail, set_node, way, LinkEnd}
+use Rattle.ipcz_world.specs.World.{node_limit}
 use Rattle.ipcz_world.specs.declared.mail.Mail.{Mail}
 use Rattle.ipcz_world.specs.declared.mail.Mail.TheVariants.{Hand}
 use Rattle.ipcz_world.specs.Carrying.{HasCome, IsLone, with_hand}
@@ -65,7 +66,7 @@ module _ (w : World) (n serial : ℕ) (link : LinkEnd) (is : IsRegular w) (lone 
   abbrev at : Node → Mail → World
   at x b = single w n x b
 
-  few : w.count ≤ 8
+  few : w.count ≤ node_limit
   few = is.lengths.few
 
   counts-x : x0.count ≡ w.count

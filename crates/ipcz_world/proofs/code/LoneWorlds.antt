@@ -13,6 +13,7 @@ use Rattle.ipcz_router.specs.Acts.{item_passes}
 use Rattle.ipcz_router.specs.Lone.{is_settled, last_link, next_link}
 use Rattle.ipcz_router.proofs.LoneRouters.{last_told, next_told, SendsFirst, SendsLast}
 use Rattle.ipcz_node.specs.Lone.{SendsNext, SendsOnly}
+use Rattle.ipcz_world.specs.World.{node_limit}
 use Rattle.ipcz_world.specs.Carrying.{IsLone, IsLoneSender}
 use Rattle.ipcz_world.proofs.Vocabulary.{LinkEnd, Router}
 use Rattle.ipcz_node.specs.Node.{flagged_router}
@@ -123,7 +124,7 @@ quiet_is x h =
     }
 
 -- the act of a node with an empty hand that sees no full mailbox and has no mail: an act of its own
-pub own_act : (v : World) (k : ℕ) → v.count ≤ 8 → (node_at v k).count ≡ v.count →
+pub own_act : (v : World) (k : ℕ) → v.count ≤ node_limit → (node_at v k).count ≡ v.count →
     ((i : ℕ) → i < v.count → is_full (mail_at v (way v i k)) ≡ false) → (node_at v k).hand ≡ None →
     are_empty (node_at v k).outboxes ≡ true →
     next_at v k ≡ close_turn (node_at v k).pending (router_turn (flagged_router (node_at v k)))
@@ -137,7 +138,7 @@ own_act v k few counted full hand boxes =
     rw (hand, sender, destination) refl
 
 -- a quiet node that sees no full mailbox is idle
-pub quiet_idle : (v : World) (k : ℕ) → v.count ≤ 8 → (node_at v k).count ≡ v.count →
+pub quiet_idle : (v : World) (k : ℕ) → v.count ≤ node_limit → (node_at v k).count ≡ v.count →
     ((i : ℕ) → i < v.count → is_full (mail_at v (way v i k)) ≡ false) → Quiet (node_at v k) → is_idle (next_at v k) ≡ true
 unfolding is_idle
 quiet_idle v k few counted full q = ap is_idle (own_act v k few counted full q.hand q.boxes ∙ q.own)
@@ -148,7 +149,7 @@ unfolding next_at next node_turn
 hand_act v k from hand = rw hand refl
 
 -- then a full mailbox, if there is only one
-pub look_act : (v : World) (k from : ℕ) → v.count ≤ 8 → (node_at v k).count ≡ v.count → from < v.count →
+pub look_act : (v : World) (k from : ℕ) → v.count ≤ node_limit → (node_at v k).count ≡ v.count → from < v.count →
     is_full (mail_at v (way v from k)) ≡ true →
     ((i : ℕ) → i < v.count → (i ≡ from → ⊥) → is_full (mail_at v (way v i k)) ≡ false) → (node_at v k).hand ≡ None →
     next_at v k ≡ acts.Look from
@@ -161,7 +162,7 @@ look_act v k from few counted l full others hand =
     rw (hand, sender) refl
 
 -- then a post, if there is mail for only one node
-pub post_act : (v : World) (k to : ℕ) → v.count ≤ 8 → (node_at v k).count ≡ v.count → to < v.count →
+pub post_act : (v : World) (k to : ℕ) → v.count ≤ node_limit → (node_at v k).count ≡ v.count → to < v.count →
     ((i : ℕ) → i < v.count → is_full (mail_at v (way v i k)) ≡ false) → (node_at v k).hand ≡ None →
     has_mail_for (node_at v k) to ≡ true → is_clear (mail_at v (way v k to)) ≡ true →
     ((i : ℕ) → (i ≡ to → ⊥) → has_mail_for (node_at v k) i ≡ false) → next_at v k ≡ acts.Post to

@@ -20,6 +20,7 @@ use Rattle.ipcz_node.proofs.LoneNodes.{first_freely, first_message, first_sent, 
 use Rattle.ipcz_node.proofs.Mailing.{empty_box}
 use Rattle.ipcz_world.proofs.Vocabulary.{Item, Node, Router, World, Message, Empty, bare_node, commit, current_item, outbox, opposite, router_in, with_router}
 use Rattle.ipcz_world.proofs.Vocabulary.{after_act, hand_message, mail_at, node_at, put_place, set_mail, set_node, way, LinkEnd}
+use Rattle.ipcz_world.specs.World.{node_limit}
 use Rattle.ipcz_world.specs.declared.mail.Mail.{Mail}
 use Rattle.ipcz_world.specs.declared.mail.Mail.TheVariants.{Full, Hand}
 use Rattle.ipcz_world.specs.Carrying.{IsLoneSender, IsPassing, lone_message, with_hand}
@@ -100,7 +101,7 @@ module _ (w : World) (n m : ℕ) (is : IsPassing w n m) (apart : n ≡ m → ⊥
   abbrev at : Node → Node → Mail → World
   at x y b = pair w n m x y b
 
-  few : w.count ≤ 8
+  few : w.count ≤ node_limit
   few = is.lengths.few
 
   -- each other node is idle

@@ -19,6 +19,7 @@ use Rattle.ipcz_node.specs.Lone.{RestsNext, SendsNext}
 use Rattle.ipcz_node.proofs.LoneNodes.{first_freely, first_sent, item_unheld}
 use Rattle.ipcz_world.proofs.Vocabulary.{Node, World, Message, Empty, bare_node, commit, opposite, outbox}
 use Rattle.ipcz_world.proofs.Vocabulary.{after_act, hand_message, mail_at, node_at, put_place, set_mail, set_node, way, LinkEnd}
+use Rattle.ipcz_world.specs.World.{node_limit}
 use Rattle.ipcz_world.specs.declared.mail.Mail.{Mail}
 use Rattle.ipcz_world.specs.declared.mail.Mail.TheVariants.{Full, Hand}
 use Rattle.ipcz_world.specs.Carrying.{IsPassing, with_hand}
@@ -99,7 +100,7 @@ module _ (w : World) (n serial : ℕ) (is : IsPassing w n n) (rests : RestsNext 
       Walk w0 w done from → Walk w0 (set_node w n x) (done + 1) (next_node w n)
   unfolding turn_lacks_serials is_idle
   rest-walk w0 done from allowed place walk =
-      let few : w.count ≤ 8 = is.lengths.few in
+      let few : w.count ≤ node_limit = is.lengths.few in
       let first : next_at w n ≡ acts.Router serial router_acts.Rest =
       own_act w n few (is.counts n is.here) (λ i li. is.mail (way w i n)) rests.hand rests.outboxes ∙ rests.first in
       let idle : (k : ℕ) → k < w.count → (k ≡ n → ⊥) → is_idle (next_at w k) ≡ true =
@@ -113,7 +114,7 @@ module _ (w : World) (n : ℕ) (is : IsPassing w n n) where
   abbrev at : Node → Mail → World
   at x b = single w n x b
 
-  few : w.count ≤ 8
+  few : w.count ≤ node_limit
   few = is.lengths.few
 
   module _ (x : Node) (b : Mail) where

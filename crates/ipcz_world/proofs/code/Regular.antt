@@ -1,6 +1,6 @@
 -- What the code needs of a world holds of each lawful one; and a step for a node that isn't there is refused.
 use Rattle.std.specs.Prelude.{◌≡◌, ◌≤◌, ℕ, false, nat_lt, Option, Some, None, option_map, List}
-use Rattle.std.proofs.Common.{arith, refl, inl}
+use Rattle.std.proofs.Common.{arith, ap, refl, inl}
 use Rattle.std.proofs.lemmas.Bool.Decides.{nat_tests}
 use Rattle.ipcz_base.specs.declared.profile.Profile.{Profile}
 use Rattle.ipcz_base.specs.declared.profile.Profile.TheVariants as profiles
@@ -13,9 +13,13 @@ use Rattle.ipcz_router.specs.Router.{source_of}
 use Rattle.ipcz_world.proofs.Vocabulary.{End, Reply, World, Router, LinkEnd, inward_edge, opposite, node_at, router_at, router_in}
 use Rattle.ipcz_world.specs.Turns.{next_at}
 use Rattle.ipcz_world.specs.Steps.{Effect, refuse, at_node, PutGives, put_of, put_step, StepFirst}
+use Rattle.ipcz_world.specs.World.{word_at}
+use Rattle.ipcz_world.specs.Records.{is_linked}
+use Rattle.ipcz_world.specs.Coding.{AreUnclaimedEmpty}
 use Rattle.ipcz_world.specs.Lawfulness.{IsLawful}
 use Rattle.ipcz_world.specs.Taking.{IsRegular, node_of}
-use Rattle.ipcz_world.proofs.Whole.{lists_have_lengths, nodes_are_sound}
+use Rattle.ipcz_world.proofs.Whole.{lists_have_lengths}
+use Rattle.ipcz_world.proofs.lawful.Soundness.{node_names_claimed}
 use Rattle.ipcz_world.proofs.runs.Choosing.{first_taken}
 
 -- the node across an inward primary link is one of the world, so it is among so few
@@ -34,11 +38,16 @@ sourced w law n serial r here = go (inward_edge r).primary refl
           (lists_have_lengths w law.books law.routes law.lawful).few,
         )
 
+-- in a lawful world the words from the claim count on are empty
+pub unclaimed-empty : (w : World) → IsLawful w → AreUnclaimedEmpty w.words w.claimed
+unfolding word_at is_linked
+unclaimed-empty w law i l = let words = law.lawful.word_law in words.unused i (ap is_linked (words.unclaimed i l))
+
 -- a lawful world is regular
 pub lawful-regular : (w : World) → IsLawful w → IsRegular w
 lawful-regular w law = record {
   lengths = lists_have_lengths w law.books law.routes law.lawful;
-  sound = λ n l. nodes_are_sound w law.books law.routes n law.lawful l;
+  sound = λ n l. node_names_claimed w law.books law.lawful.records law.lawful.inv n l;
   sourced = λ n serial r l here. sourced w law n serial r here;
   possible = λ n act l first. first_taken w law.books law.lawful.records law.lawful.inv n l act first;
 }

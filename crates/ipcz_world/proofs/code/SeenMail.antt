@@ -7,7 +7,7 @@ use Rattle.ipcz_base.specs.Indexed.{place_at}
 use Rattle.ipcz_node.specs.Acts.{first_number, has_mail_for, are_empty}
 use Rattle.ipcz_node.proofs.Turns.{first_step}
 use Rattle.ipcz_node.proofs.Mailing.{no_mail_for}
-use Rattle.ipcz_world.specs.World.{World, mail_at, node_at, way, numbers_from}
+use Rattle.ipcz_world.specs.World.{node_limit, World, mail_at, node_at, way, numbers_from}
 use Rattle.ipcz_world.specs.Turns.{is_full, is_clear, seen_at}
 
 -- what is said of a number in a list over so many numbers
@@ -22,20 +22,20 @@ both true b e = refl
 both false b e = cc
 
 -- the mailbox of a sender
-pub sees_full : (w : World) (n from : ℕ) → from < w.count → w.count ≤ 8 →
+pub sees_full : (w : World) (n from : ℕ) → from < w.count → w.count ≤ node_limit →
     place_at false (seen_at w n).full from ≡ is_full (mail_at w (way w from n))
 sees_full w n from l few =
     let here : nat_lt from w.count ≡ true = grind (arith, l, nat_tests) in
-    told (λ k. nat_lt k w.count && is_full (mail_at w (way w k n))) 0 8 from (omega (arith, l, few)) ∙
+    told (λ k. nat_lt k w.count && is_full (mail_at w (way w k n))) 0 node_limit from (omega (arith, l, few)) ∙
     ap (λ k. nat_lt k w.count && is_full (mail_at w (way w k n))) (let z : 0 + from ≡ from = omega arith in z) ∙
     both (nat_lt from w.count) (is_full (mail_at w (way w from n))) here
 
 -- the mailbox of a destination
-pub sees_empty : (w : World) (n to : ℕ) → to < w.count → w.count ≤ 8 →
+pub sees_empty : (w : World) (n to : ℕ) → to < w.count → w.count ≤ node_limit →
     place_at false (seen_at w n).empty to ≡ is_clear (mail_at w (way w n to))
 sees_empty w n to l few =
     let here : nat_lt to w.count ≡ true = grind (arith, l, nat_tests) in
-    told (λ k. nat_lt k w.count && is_clear (mail_at w (way w n k))) 0 8 to (omega (arith, l, few)) ∙
+    told (λ k. nat_lt k w.count && is_clear (mail_at w (way w n k))) 0 node_limit to (omega (arith, l, few)) ∙
     ap (λ k. nat_lt k w.count && is_clear (mail_at w (way w n k))) (let z : 0 + to ≡ to = omega arith in z) ∙
     both (nat_lt to w.count) (is_clear (mail_at w (way w n to))) here
 
@@ -59,14 +59,14 @@ no_number test from (suc left) fails =
     no_number test (from + 1) left (λ i l. fails i (omega (arith, l)))
 
 -- if no mailbox to a node is full, it sees none
-pub no_sender_to : (w : World) (n : ℕ) → w.count ≤ 8 → ((i : ℕ) → i < w.count → is_full (mail_at w (way w i n)) ≡ false) →
+pub no_sender_to : (w : World) (n : ℕ) → w.count ≤ node_limit → ((i : ℕ) → i < w.count → is_full (mail_at w (way w i n)) ≡ false) →
     first_number (λ i. place_at false (seen_at w n).full i) 0 w.count ≡ None
 no_sender_to w n few none =
     no_number (λ i. place_at false (seen_at w n).full i) 0 w.count
     (λ i l. sees_full w n i (omega (arith, l)) few ∙ none i (omega (arith, l)))
 
 -- if no mailbox is full, none to a node is
-pub no_sender : (w : World) (n : ℕ) → w.count ≤ 8 → ((k : ℕ) → is_full (mail_at w k) ≡ false) →
+pub no_sender : (w : World) (n : ℕ) → w.count ≤ node_limit → ((k : ℕ) → is_full (mail_at w k) ≡ false) →
     first_number (λ i. place_at false (seen_at w n).full i) 0 w.count ≡ None
 no_sender w n few none = no_sender_to w n few (λ i l. none (way w i n))
 

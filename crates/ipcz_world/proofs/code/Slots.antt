@@ -1,5 +1,5 @@
 -- Lists read and written by index, in this project's words and in std's.
-use Rattle.std.specs.Prelude.{◌≡◌, ◌<◌, ◌≤◌, ℕ, zero, suc, List, [], ◌∷◌, length, map}
+use Rattle.std.specs.Prelude.{◌≡◌, ◌<◌, ◌≤◌, ℕ, zero, suc, List, [], ◌∷◌, ◌++◌, length, map}
 use Rattle.std.proofs.Common.{arith, ap, sym, refl, get_or, set, ◌∙◌}
 use Rattle.ipcz_world.proofs.Vocabulary.{place_at, put_place}
 
@@ -30,6 +30,21 @@ unfolding put_place
 length-put d [] i y l = absurd (omega arith)
 length-put d (x ∷ xs) zero y l = refl
 length-put d (x ∷ xs) (suc i) y l = ap suc (length-put d xs i y (omega arith))
+
+-- an element of the first of two lists in a row
+pub place-front : {X : Type 0} (d : X) (xs ys : List X) (i : ℕ) → i < length xs → place_at d (xs ++ ys) i ≡ place_at d xs i
+unfolding place_at
+place-front d [] ys i l = absurd (omega arith)
+place-front d (x ∷ xs) ys zero l = refl
+place-front d (x ∷ xs) ys (suc i) l = place-front d xs ys i (omega arith)
+
+-- a write into the first of two lists in a row
+pub put-front : {X : Type 0} (d : X) (xs ys : List X) (i : ℕ) (y : X) → i < length xs →
+    put_place d (xs ++ ys) i y ≡ put_place d xs i y ++ ys
+unfolding put_place
+put-front d [] ys i y l = absurd (omega arith)
+put-front d (x ∷ xs) ys zero y l = refl
+put-front d (x ∷ xs) ys (suc i) y l = ap (λ zs. x ∷ zs) (put-front d xs ys i y (omega arith))
 
 -- an element of a list of images
 pub map-place : {X Y : Type 0} (f : X → Y) (d : X) (e : Y) (xs : List X) (i : ℕ) → i < length xs →

@@ -1,6 +1,6 @@
 -- What the parts of a world come to after a turn, as the world that the turn leads to.
 use Rattle.std.specs.Prelude.{◌≡◌, ◌<◌, ℕ, true, false, ◌&&◌, nat_lt, if◌then◌else◌, Option, Some, None, is_some, is_none}
-use Rattle.std.specs.Prelude.{IfSome, Ok, Err, length, List, [], ◌∷◌}
+use Rattle.std.specs.Prelude.{IfSome, Ok, Err, List, [], ◌∷◌}
 use Rattle.std.proofs.Common.{arith, ap, sym, subst, refl, ◌∙◌}
 use Rattle.std.proofs.lemmas.Bool.Decides.{nat_tests}
 use Rattle.ipcz_world.proofs.Vocabulary.{End, Message, Refusal, place_at, put_place, Side, Router, primary_word, RouterAct, Act, Close}
@@ -308,18 +308,22 @@ module _ (w : World) (n serial : ℕ) (act : RouterAct) (is : IsRegular w) (l : 
       f source link ≡ f (source_of r) (link_of r (primary_word r))
   asks X f r e = ap (λ o. f o link) (source-is r e) ∙ ap (f (source_of r)) (link-is r e)
 
-  bounded : (r : Router) → router_in (node_at w n) serial ≡ Some r → (p : Option ℕ) → primary_word r ≡ p → IfSome p (λ i. i < w.size)
+  bounded : (r : Router) → router_in (node_at w n) serial ≡ Some r → (p : Option ℕ) → primary_word r ≡ p → IfSome p (λ i. i < w.claimed)
   bounded r e None h = tt
   bounded r e (Some i) h = (is.sound n l).primary serial r i e h
 
-  linked : (r : Router) (p : Option ℕ) → IfSome p (λ i. i < w.size) → IfSome (link_of r p) (λ x. x.0 < length w.words)
-  linked r None h = tt
-  linked r (Some i) h = omega (arith, h, is.lengths.words)
+  sized : (p : Option ℕ) → IfSome p (λ i. i < w.claimed) → IfSome p (λ i. i < w.size)
+  sized None h = tt
+  sized (Some i) h = omega (arith, h, is.lengths.claimed)
 
-  -- its word is there
-  pub link-within : can_take w n (OfRouter serial act) ≡ true → IfSome link (λ x. x.0 < length w.words)
+  linked : (r : Router) (p : Option ℕ) → IfSome p (λ i. i < w.claimed) → IfSome (link_of r p) (λ x. x.0 < w.claimed)
+  linked r None h = tt
+  linked r (Some i) h = h
+
+  -- its word is claimed
+  pub link-within : can_take w n (OfRouter serial act) ≡ true → IfSome link (λ x. x.0 < w.claimed)
   link-within h = let t = router-stands h in
-      subst (λ o. IfSome o (λ x. x.0 < length w.words)) (sym (link-is t.0 t.1))
+      subst (λ o. IfSome o (λ x. x.0 < w.claimed)) (sym (link-is t.0 t.1))
       (linked t.0 (primary_word t.0) (bounded t.0 t.1 (primary_word t.0) refl))
 
   -- it may take the act
@@ -348,7 +352,7 @@ module _ (w : World) (n serial : ℕ) (act : RouterAct) (is : IsRegular w) (l : 
       sym (answers-as w s.0 act is.lengths) in
       let words : retabled w t ≡ touch w s.0 act =
       ap (retabled w) (is-t ∙ asks WordTable (λ o p. table_after (table_of w) o act p) s.0 s.1) ∙
-      sym (touches-as w s.0 act is.lengths (bounded s.0 s.1 (primary_word s.0) refl)) in
+      sym (touches-as w s.0 act is.lengths (sized (primary_word s.0) (bounded s.0 s.1 (primary_word s.0) refl))) in
       let made : x ≡ commit (node_at w n) (OfRouter serial act) (answer_of w s.0 act) =
       is-x ∙ ap (λ y. commit y (OfRouter serial act) a) e ∙ ap (commit (node_at w n) (OfRouter serial act)) answer in
       let same : w.nodes ≡ (touch w s.0 act).nodes = ap (λ (v : World). v.nodes) words in

@@ -16,7 +16,7 @@ use Rattle.ipcz_node.specs.Hands.{is_hand_of}
 use Rattle.ipcz_node.proofs.Turns.{first_number-tells}
 use Rattle.ipcz_node.proofs.Choosing.{next_may}
 use Rattle.ipcz_world.specs.declared.step.Step.TheVariants as steps
-use Rattle.ipcz_world.specs.World.{numbers_from}
+use Rattle.ipcz_world.specs.World.{node_limit, numbers_from}
 use Rattle.ipcz_world.specs.Turns.{is_full, is_clear, seen_at, next_at, may_act, is_first_pending, is_idle}
 use Rattle.ipcz_world.specs.Steps.{FirstAct}
 use Rattle.ipcz_world.specs.WorldLaws.{FirstIsPossible}
@@ -84,7 +84,7 @@ module _ (w : World) (b : Books) (g : Records) (law : Inv w b g) (n : ℕ) (here
       let z : 0 + to ≡ to = omega arith in
       let c = and_parts (nat_lt to w.count) (is_clear (mail_at w (way w n to)))
       (subst (λ i. (nat_lt i w.count && is_clear (mail_at w (way w n i))) ≡ true) z
-      (seen_is (λ to. nat_lt to w.count && is_clear (mail_at w (way w n to))) 0 8 to t.1)) in
+      (seen_is (λ to. nat_lt to w.count && is_clear (mail_at w (way w n to))) 0 node_limit to t.1)) in
       rw (t.0, c.0, c.1) refl
 
   look_case : (o : Option ℕ) → first_number (λ from. place_at false seen.full from) 0 node.count ≡ o → node.hand ≡ None →
@@ -96,7 +96,7 @@ module _ (w : World) (b : Books) (g : Records) (law : Inv w b g) (n : ℕ) (here
       let z : 0 + from ≡ from = omega arith in
       let c = and_parts (nat_lt from w.count) (is_full (mail_at w (way w from n)))
       (subst (λ i. (nat_lt i w.count && is_full (mail_at w (way w i n))) ≡ true) z
-      (seen_is (λ from. nat_lt from w.count && is_full (mail_at w (way w from n))) 0 8 from t)) in
+      (seen_is (λ from. nat_lt from w.count && is_full (mail_at w (way w from n))) 0 node_limit from t)) in
       rw (h, c.0, c.1) refl
 
   hand_case : (o : Option ℕ) → node.hand ≡ o → next_at w n ≡ node_turn Hand o of_look → can_take w n (node_turn Hand o of_look) ≡ true

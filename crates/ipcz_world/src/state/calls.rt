@@ -29,7 +29,7 @@ impl State {
     fn open_claimed(&mut self, n: u8, word: u32) -> Reply
         requires regular { IsRegular self.old }
         requires node { n < self.old.count }
-        requires word { word < self.old.size }
+        requires word { word < self.old.claimed }
         ensures { GivesOrNoMemory self.old (open_with self.old self.old n word) result self.new }
     {
         let node = self.nodes.node_mut(n);

@@ -16,5 +16,6 @@ returns-in-Ok c = record {
   answer = answer-value c.args.bytes.now _ c.script_of.result c.if-bytes-gt-MAX_BYTES.false c.in-Ok.ensures.ok.0 c.in-Ok.ensures.ok.1
       c.script_of.ensures.gives;
   limits = c.script_of.ensures.limits;
+  words = c.script_of.ensures.words;
   too_long = λ long. absurd (omega (arith, long, c.if-bytes-gt-MAX_BYTES.false));
 }

@@ -1,4 +1,4 @@
-use Rattle.std.proofs.Common.{◌<◌, subst, sym, ap, ◌∙◌, refl}
+use Rattle.std.proofs.Common.{◌<◌, arith, subst, sym, ap, ◌∙◌, refl}
 use Rattle.ipcz_world.proofs.Vocabulary.{End, World, node_at}
 use Rattle.ipcz_node.specs.Calls.{serials_refusal}
 use Rattle.ipcz_world.specs.declared.step.Reply.TheVariants.{Opened}
@@ -22,7 +22,8 @@ unfolding node_at
 returns c =
     let w : World = the_view c.self.inside in
     let has = subst HasLengths (sym c.self.view_is) c.requires.regular.lengths in
-    let within = subst (λ (w : World). c.args.word < w.size) (sym c.self.view_is) c.requires.word in
+    let claimed = subst (λ (w : World). c.args.word < w.claimed) (sym c.self.view_is) c.requires.word in
+    let within : c.args.word < w.size = omega (arith, claimed, has.claimed) in
     let reply = ap (λ (p : End × End). Opened p.0 p.1) c.open_commit.ensures.ends in
     rw (← c.self.view_is)
     (subst (λ v. GivesOrNoMemory w (open_with w w c.args.n c.args.word) (Opened c.open_commit.result.0 c.open_commit.result.1) v)

@@ -1,4 +1,4 @@
-use Rattle.std.proofs.Common.{◌<◌, length, subst, sym, ap, ◌∙◌}
+use Rattle.std.proofs.Common.{◌<◌, subst, sym, ap, ◌∙◌}
 use Rattle.std.specs.Prelude.{IfSome}
 use Rattle.ipcz_node.specs.declared.act.Act.TheVariants.{Router}
 use Rattle.ipcz_node.specs.Acts.{act_lacks_serials}
@@ -24,7 +24,7 @@ unfolding node_at
 answer-answer-requires-clause-within g c =
     let a = asked _ _ c.args.n (Router c.args.serial c.args.act) c.self.view_is c.requires.regular c.requires.node c.requires.possible in
     let is = c.word_of.ensures ∙ ap (λ y. word_side y c.args.serial) (c.in_default.ensures.node ∙ c.node_mut-node.ensures.value) in
-    subst (λ o. IfSome o (λ x. x.0 < length c.self.inside.words.words)) (sym is)
+    subst (λ o. IfSome o (λ x. x.0 < c.self.inside.words.claimed)) (sym is)
     (link-within _ c.args.n c.args.serial c.args.act a.regular a.here a.may)
 
 pub answer-answer-requires-clause-node : goal.answer-answer-requires-clause-node
