@@ -1,3 +1,4 @@
+/* SPDX-License-Identifier: BSD-3-Clause */
 /* ipcz_portals.h: nodes in one process, which exchange parcels through portals; all of them in one world, or each on a thread of its own.
  *
  * A pair of portals is a way for parcels. What is put at one portal of a pair is got at the other, each parcel once and in order, also
@@ -37,8 +38,18 @@
 #include <stddef.h>
 #include <stdint.h>
 
+/* The version of the library, as a text, and as a number: 10000 * major + 100 * minor + patch. CHANGELOG.md of the repository says what each
+ * has changed. Library and header are of one version: an archive of another one may link and do something else. */
+#define IPCZ_VERSION "0.2.0"
+#define IPCZ_VERSION_NUMBER 200
+
 #ifdef __cplusplus
+#define IPCZ_NULL_ nullptr
+#define IPCZ_BYTES_(at) static_cast<const uint8_t *>(at)
 extern "C" {
+#else
+#define IPCZ_NULL_ NULL
+#define IPCZ_BYTES_(at) ((const uint8_t *)(at))
 #endif
 
 /* A handle: of a world, or of none. Its fields are not for the caller. */
@@ -48,7 +59,7 @@ typedef struct ipcz_world {
 } ipcz_world;
 
 /* A handle of no world. Every call on such a handle is answered (IPCZ_NOT_CREATED, 0 or false), and does nothing. */
-#define IPCZ_WORLD_INIT { 0, false }
+#define IPCZ_WORLD_INIT { IPCZ_NULL_, false }
 
 /* A handle: of a node's cell, or of none. Its fields are not for the caller. */
 typedef struct ipcz_cell {
@@ -57,7 +68,7 @@ typedef struct ipcz_cell {
 } ipcz_cell;
 
 /* A handle of no cell. Every call on such a handle is answered (IPCZ_NOT_CREATED, 0 or false), and does nothing. */
-#define IPCZ_CELL_INIT { 0, false }
+#define IPCZ_CELL_INIT { IPCZ_NULL_, false }
 
 /* A portal: an end of a pair, of side A (side_b is false) or of side B. It is a name, and may be copied and compared. Which node may use
  * it is kept by the nodes. */
@@ -232,8 +243,8 @@ bool ipcz_cell_node(ipcz_cell *cell, uint8_t *node);
 static inline ipcz_status ipcz_put(ipcz_world *world, uint8_t node, ipcz_portal at, const void *bytes, size_t size,
                                    const ipcz_portal *portals, size_t count, uint64_t *number) {
     static const ipcz_portal nothing = { 0, false };
-    return ipcz_put_parcel(world, node, at, size ? (const uint8_t *)bytes : (const uint8_t *)&nothing, size,
-                           count ? portals : &nothing, count, number);
+    const void *given = size ? bytes : &nothing;
+    return ipcz_put_parcel(world, node, at, IPCZ_BYTES_(given), size, count ? portals : &nothing, count, number);
 }
 
 /* Puts a wide parcel: of up to IPCZ_MAX_WIDE_BYTES bytes of any value, so that IPCZ_BAD_DATA is never answered. All else is as for
@@ -241,8 +252,8 @@ static inline ipcz_status ipcz_put(ipcz_world *world, uint8_t node, ipcz_portal 
 static inline ipcz_status ipcz_put_wide(ipcz_world *world, uint8_t node, ipcz_portal at, const void *bytes, size_t size,
                                         const ipcz_portal *portals, size_t count, uint64_t *number) {
     static const ipcz_portal nothing = { 0, false };
-    return ipcz_put_wide_parcel(world, node, at, size ? (const uint8_t *)bytes : (const uint8_t *)&nothing, size,
-                                count ? portals : &nothing, count, number);
+    const void *given = size ? bytes : &nothing;
+    return ipcz_put_wide_parcel(world, node, at, IPCZ_BYTES_(given), size, count ? portals : &nothing, count, number);
 }
 
 /* Puts a parcel at a portal of the cell's node. The arguments are as for ipcz_put.
@@ -251,16 +262,16 @@ static inline ipcz_status ipcz_put_wide(ipcz_world *world, uint8_t node, ipcz_po
 static inline ipcz_status ipcz_cell_put(ipcz_cell *cell, ipcz_portal at, const void *bytes, size_t size,
                                         const ipcz_portal *portals, size_t count, uint64_t *number) {
     static const ipcz_portal nothing = { 0, false };
-    return ipcz_cell_put_parcel(cell, at, size ? (const uint8_t *)bytes : (const uint8_t *)&nothing, size,
-                                count ? portals : &nothing, count, number);
+    const void *given = size ? bytes : &nothing;
+    return ipcz_cell_put_parcel(cell, at, IPCZ_BYTES_(given), size, count ? portals : &nothing, count, number);
 }
 
 /* Puts a wide parcel at a portal of the cell's node, as ipcz_put_wide. */
 static inline ipcz_status ipcz_cell_put_wide(ipcz_cell *cell, ipcz_portal at, const void *bytes, size_t size,
                                              const ipcz_portal *portals, size_t count, uint64_t *number) {
     static const ipcz_portal nothing = { 0, false };
-    return ipcz_cell_put_wide_parcel(cell, at, size ? (const uint8_t *)bytes : (const uint8_t *)&nothing, size,
-                                     count ? portals : &nothing, count, number);
+    const void *given = size ? bytes : &nothing;
+    return ipcz_cell_put_wide_parcel(cell, at, IPCZ_BYTES_(given), size, count ? portals : &nothing, count, number);
 }
 
 /* The portal that a node has from the start of the pair that it shares with another; both are below nodes, and not the same. */

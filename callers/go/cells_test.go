@@ -150,4 +150,8 @@ func TestADestroyedCellRefuses(t *testing.T) {
 	if _, there := cell.Node(); there {
 		t.Fatal("there is a node")
 	}
+	cell.Destroy()
+	var none Cell
+	refused(t, none.Close(left), NotCreated)
+	none.Destroy()
 }

@@ -2,6 +2,7 @@ package portals
 
 import (
 	"bytes"
+	"reflect"
 	"strconv"
 	"sync"
 	"testing"
@@ -148,6 +149,24 @@ func TestADestroyedWorldRefuses(t *testing.T) {
 	if err.Error() != "NotCreated" || world.Claimed() != 0 {
 		t.Fatalf("%v, %d words", err, world.Claimed())
 	}
+	world.Destroy()
+	var none World
+	refused(t, none.Close(0, left), NotCreated)
+	none.Destroy()
+}
+
+func TestACopyIsTheSameWorld(t *testing.T) {
+	world := newWorld(t, 2, 1)
+	// (a plain copy is what go vet tells of)
+	copied := reflect.New(reflect.TypeOf(world).Elem())
+	copied.Elem().Set(reflect.ValueOf(world).Elem())
+	other := copied.Interface().(*World)
+	if word, used := other.Word(0); !used || word != 3 {
+		t.Fatalf("the first word is %d", word)
+	}
+	other.Destroy()
+	world.Destroy()
+	refused(t, world.Turn(0), NotCreated)
 }
 
 func TestAWorldIsSharedByAMutex(t *testing.T) {

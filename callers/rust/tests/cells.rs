@@ -97,6 +97,7 @@ fn calls_of_a_cell_are_refused() -> Result<(), Refused> {
         ),
         (true, false, 1, false)
     );
+    assert_eq!((cell.word(0), cell.word(1)), (Some(3), None));
     cell.close(left())?;
     assert_eq!(cell.close(left()), Err(Refused::Stranger));
     assert_eq!(cell.get(left()), Err(Refused::Stranger));

@@ -69,7 +69,10 @@ fn limits_are_refused() -> Result<(), Refused> {
         Err(Refused::PeerAttach)
     );
     assert_eq!(world.turn(2), Err(Refused::Stranger));
-    assert_eq!(world.claimed(), 1);
+    assert_eq!(
+        (world.claimed(), world.word(0), world.word(1)),
+        (1, Some(3), None)
+    );
     Ok(())
 }
 
