@@ -64,7 +64,7 @@ inline void check(ipcz_status status) {
 // What a call gets, which is given the room that it wants. If it is no parcel, or if this throws, the parcel is as it was.
 template <typename Get> Got got_by(Parcel &parcel, Get get) {
     Portal portals[IPCZ_MAX_PORTALS];
-    std::uint8_t few[IPCZ_MAX_BYTES];
+    std::uint8_t few[IPCZ_MAX_PRINTED_BYTES];
     std::string many;
     std::uint64_t number = 0;
     std::size_t size = 0, count = 0;
@@ -114,10 +114,10 @@ class World {
         return number;
     }
 
-    // Of a wide parcel: up to IPCZ_MAX_WIDE_BYTES bytes of any value.
-    std::uint64_t put_wide(std::uint8_t node, Portal at, const std::string &bytes, const std::vector<Portal> &portals = {}) {
+    // Of at most IPCZ_MAX_PRINTED_BYTES bytes, each from 0x20 to 0x7E.
+    std::uint64_t put_printed(std::uint8_t node, Portal at, const std::string &bytes, const std::vector<Portal> &portals = {}) {
         std::uint64_t number = 0;
-        check(::ipcz_put_wide(&world_, node, at, bytes.data(), bytes.size(), portals.data(), portals.size(), &number));
+        check(::ipcz_put_printed(&world_, node, at, bytes.data(), bytes.size(), portals.data(), portals.size(), &number));
         return number;
     }
 
@@ -199,10 +199,10 @@ class Cell {
         return number;
     }
 
-    // Of a wide parcel: up to IPCZ_MAX_WIDE_BYTES bytes of any value.
-    std::uint64_t put_wide(Portal at, const std::string &bytes, const std::vector<Portal> &portals = {}) {
+    // Of at most IPCZ_MAX_PRINTED_BYTES bytes, each from 0x20 to 0x7E.
+    std::uint64_t put_printed(Portal at, const std::string &bytes, const std::vector<Portal> &portals = {}) {
         std::uint64_t number = 0;
-        check(::ipcz_cell_put_wide(&cell_, at, bytes.data(), bytes.size(), portals.data(), portals.size(), &number));
+        check(::ipcz_cell_put_printed(&cell_, at, bytes.data(), bytes.size(), portals.data(), portals.size(), &number));
         return number;
     }
 
@@ -224,6 +224,7 @@ class Cell {
         return acts > 0;
     }
 
+    // Whether the node has nothing to do, nothing of it waits to be taken by another node, and no message to it was found.
     bool quiet() const { return ::ipcz_cell_quiet(&cell_); }
 
     std::uint32_t claimed() const { return ::ipcz_cell_claimed(&cell_); }

@@ -30,7 +30,7 @@ int main() {
     const auto sent = got.portals.at(0);
     if (sent == kept || !(sent != kept)) return 1;
     const std::string wide(1000, '\0');
-    world.put_wide(0, left, wide);
+    world.put(0, left, wide);
     world.put(0, kept, "over it");
     world.settle(1000);
     if (world.get(1, right, got) != ipcz::Got::parcel || got.bytes != wide) return 1;

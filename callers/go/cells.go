@@ -53,19 +53,19 @@ func (c *Cell) Open() (first, second Portal, err error) {
 	return fromC(a), fromC(b), answer(status)
 }
 
-// Put puts a parcel of at most 256 bytes, each from 0x20 to 0x7E, and answers how many were put at the portal before it.
+// Put puts a parcel of at most 65,536 bytes, with at most 8 portals of the node, and answers how many were put at the portal before it.
 func (c *Cell) Put(at Portal, bytes []byte, portals ...Portal) (uint64, error) {
 	var number C.uint64_t
 	it := give(bytes, portals)
-	status := C.ipcz_cell_put_parcel(c.c(), at.c(), (*C.uint8_t)(it.bytes), it.size, (*C.ipcz_portal)(it.portals), it.count, &number)
+	status := C.ipcz_cell_put_wide_parcel(c.c(), at.c(), (*C.uint8_t)(it.bytes), it.size, (*C.ipcz_portal)(it.portals), it.count, &number)
 	return uint64(number), answer(status)
 }
 
-// PutWide puts a parcel of up to 65,536 bytes of any value.
-func (c *Cell) PutWide(at Portal, bytes []byte, portals ...Portal) (uint64, error) {
+// PutPrinted puts a parcel of at most 256 bytes, each from 0x20 to 0x7E; of others it is refused TooMany or BadData.
+func (c *Cell) PutPrinted(at Portal, bytes []byte, portals ...Portal) (uint64, error) {
 	var number C.uint64_t
 	it := give(bytes, portals)
-	status := C.ipcz_cell_put_wide_parcel(c.c(), at.c(), (*C.uint8_t)(it.bytes), it.size, (*C.ipcz_portal)(it.portals), it.count, &number)
+	status := C.ipcz_cell_put_parcel(c.c(), at.c(), (*C.uint8_t)(it.bytes), it.size, (*C.ipcz_portal)(it.portals), it.count, &number)
 	return uint64(number), answer(status)
 }
 
@@ -88,7 +88,7 @@ func (c *Cell) Acts(limit uint64) (uint64, error) {
 	return uint64(acts), err
 }
 
-// Quiet tells whether the node has nothing to do, and no message to it was found.
+// Quiet tells whether the node has nothing to do, nothing of it waits to be taken by another node, and no message to it was found.
 func (c *Cell) Quiet() bool {
 	return bool(C.ipcz_cell_quiet(c.c()))
 }

@@ -109,7 +109,7 @@ func gotBy(get getter) (Parcel, error) {
 	var list [C.IPCZ_MAX_PORTALS]C.ipcz_portal
 	var size, count C.size_t
 	var number C.uint64_t
-	room := make([]byte, C.IPCZ_MAX_BYTES)
+	room := make([]byte, C.IPCZ_MAX_PRINTED_BYTES)
 	status := get((*C.uint8_t)(&room[0]), C.size_t(len(room)), &size, &list[0], &count, &number)
 	if status == C.IPCZ_TOO_SMALL {
 		room = make([]byte, size)

@@ -40,19 +40,19 @@ func (w *World) Open(node uint8) (first, second Portal, err error) {
 	return fromC(a), fromC(b), err
 }
 
-// Put puts a parcel of at most 256 bytes, each from 0x20 to 0x7E, and answers how many were put at the portal before it.
+// Put puts a parcel of at most 65,536 bytes, with at most 8 portals of the node, and answers how many were put at the portal before it.
 func (w *World) Put(node uint8, at Portal, bytes []byte, portals ...Portal) (uint64, error) {
 	var number C.uint64_t
 	it := give(bytes, portals)
-	status := C.ipcz_put_parcel(w.c(), C.uint8_t(node), at.c(), (*C.uint8_t)(it.bytes), it.size, (*C.ipcz_portal)(it.portals), it.count, &number)
+	status := C.ipcz_put_wide_parcel(w.c(), C.uint8_t(node), at.c(), (*C.uint8_t)(it.bytes), it.size, (*C.ipcz_portal)(it.portals), it.count, &number)
 	return uint64(number), answer(status)
 }
 
-// PutWide puts a parcel of up to 65,536 bytes of any value.
-func (w *World) PutWide(node uint8, at Portal, bytes []byte, portals ...Portal) (uint64, error) {
+// PutPrinted puts a parcel of at most 256 bytes, each from 0x20 to 0x7E; of others it is refused TooMany or BadData.
+func (w *World) PutPrinted(node uint8, at Portal, bytes []byte, portals ...Portal) (uint64, error) {
 	var number C.uint64_t
 	it := give(bytes, portals)
-	status := C.ipcz_put_wide_parcel(w.c(), C.uint8_t(node), at.c(), (*C.uint8_t)(it.bytes), it.size, (*C.ipcz_portal)(it.portals), it.count, &number)
+	status := C.ipcz_put_parcel(w.c(), C.uint8_t(node), at.c(), (*C.uint8_t)(it.bytes), it.size, (*C.ipcz_portal)(it.portals), it.count, &number)
 	return uint64(number), answer(status)
 }
 

@@ -98,9 +98,9 @@ func TestLimitsAreRefused(t *testing.T) {
 	world := newWorld(t, 2, 1)
 	_, _, err := world.Open(0)
 	refused(t, err, NoWord)
-	_, err = world.Put(0, left, make([]byte, 257))
+	_, err = world.PutPrinted(0, left, make([]byte, 257))
 	refused(t, err, TooMany)
-	_, err = world.Put(0, left, []byte("\n"))
+	_, err = world.PutPrinted(0, left, []byte("\n"))
 	refused(t, err, BadData)
 	_, err = world.Put(0, left, nil, left)
 	refused(t, err, SelfAttach)
@@ -112,15 +112,15 @@ func TestLimitsAreRefused(t *testing.T) {
 	}
 }
 
-func TestWideParcelsHaveAnyBytes(t *testing.T) {
+func TestParcelsHaveAnyBytes(t *testing.T) {
 	world := newWorld(t, 2, 1)
 	wide := make([]byte, 65_536)
 	for i := range wide {
 		wide[i] = byte(i)
 	}
-	_, err := world.PutWide(0, left, wide)
+	_, err := world.Put(0, left, wide)
 	must(t, err)
-	_, err = world.PutWide(0, left, append(wide, 0))
+	_, err = world.Put(0, left, append(wide, 0))
 	refused(t, err, TooMany)
 	settle(t, world)
 	got, err := world.Get(1, right)

@@ -32,19 +32,19 @@ impl Cell {
         }
     }
 
-    /// Puts a parcel of at most 256 bytes, each from 0x20 to 0x7E. Refused as [`crate::World::put`] is.
+    /// Puts a parcel of at most 65,536 bytes. Refused as [`crate::World::put`] is.
     pub fn put(&mut self, at: Portal, bytes: &[u8], portals: &[Portal]) -> Result<u64, Refused> {
-        self.put_by(raw::ipcz_cell_put_parcel, at, bytes, portals)
+        self.put_by(raw::ipcz_cell_put_wide_parcel, at, bytes, portals)
     }
 
-    /// Puts a parcel of up to 65,536 bytes of any value. Refused as [`crate::World::put_wide`] is.
-    pub fn put_wide(
+    /// Puts a parcel of at most 256 bytes, each from 0x20 to 0x7E. Refused as [`crate::World::put_printed`] is.
+    pub fn put_printed(
         &mut self,
         at: Portal,
         bytes: &[u8],
         portals: &[Portal],
     ) -> Result<u64, Refused> {
-        self.put_by(raw::ipcz_cell_put_wide_parcel, at, bytes, portals)
+        self.put_by(raw::ipcz_cell_put_parcel, at, bytes, portals)
     }
 
     fn put_by(
@@ -99,7 +99,7 @@ impl Cell {
         Ok(acts)
     }
 
-    /// Whether the node has nothing to do, and no message to it was found.
+    /// Whether the node has nothing to do, nothing of it waits to be taken by another node, and no message to it was found.
     pub fn quiet(&mut self) -> bool {
         unsafe { raw::ipcz_cell_quiet(&mut self.0) }
     }

@@ -16,7 +16,7 @@ use std::fmt;
 pub use cells::{cells, Cell};
 pub use raw::Portal;
 
-const MAX_BYTES: usize = 256;
+const MAX_PRINTED_BYTES: usize = 256;
 const TOO_SMALL: u32 = 100;
 const MAX_PORTALS: usize = 8;
 const NOWHERE: Portal = Portal {
@@ -44,7 +44,7 @@ pub enum Refused {
     Stranger,
     /// No number of 64 bits is left for a parcel or a router.
     NumbersEnd,
-    /// A byte isn't from 0x20 to 0x7E.
+    /// A byte isn't from 0x20 to 0x7E. Only puts of printed parcels answer it.
     BadData,
     /// Too many bytes, portals, nodes or words, or too few.
     TooMany,
@@ -122,7 +122,7 @@ pub fn first_portal(node: u8, other: u8, nodes: u8) -> Portal {
 fn got_by(
     mut call: impl FnMut(&mut [u8], &mut [Portal], &mut usize, &mut usize, &mut u64) -> u32,
 ) -> Result<Parcel, Refused> {
-    let mut bytes = vec![0; MAX_BYTES];
+    let mut bytes = vec![0; MAX_PRINTED_BYTES];
     let (mut portals, mut size, mut count, mut number) = ([NOWHERE; MAX_PORTALS], 0, 0, 0);
     loop {
         let status = call(&mut bytes, &mut portals, &mut size, &mut count, &mut number);
@@ -163,9 +163,10 @@ impl World {
         Ok((first, second))
     }
 
-    /// Puts a parcel of at most 256 bytes, each from 0x20 to 0x7E, with at most 8 portals of the node, and answers how many were put at the
-    /// portal before it. `OutOfMemory`, `Stranger`, `TooMany`, `BadData`, `SelfAttach`, `PeerAttach`, `PeerClosed` once the news has come,
-    /// `NumbersEnd`.
+    /// Puts a parcel of at most 65,536 bytes, with at most 8 portals of the node, and answers how many were put at the portal before it.
+    /// `OutOfMemory`, `Stranger`, `TooMany`, `SelfAttach`, `PeerAttach`, `PeerClosed` once the news has come, `NumbersEnd`.
+    ///
+    /// Portals that are sent to meet each other may travel for ever (`ipcz_portals.h`, "CIRCLES").
     pub fn put(
         &mut self,
         node: u8,
@@ -173,18 +174,18 @@ impl World {
         bytes: &[u8],
         portals: &[Portal],
     ) -> Result<u64, Refused> {
-        self.put_by(raw::ipcz_put_parcel, node, at, bytes, portals)
+        self.put_by(raw::ipcz_put_wide_parcel, node, at, bytes, portals)
     }
 
-    /// Puts a parcel of up to 65,536 bytes of any value. Refused as [`World::put`] is, but never `BadData`.
-    pub fn put_wide(
+    /// Puts a parcel of at most 256 bytes, each from 0x20 to 0x7E. Refused as [`World::put`] is, and `BadData`.
+    pub fn put_printed(
         &mut self,
         node: u8,
         at: Portal,
         bytes: &[u8],
         portals: &[Portal],
     ) -> Result<u64, Refused> {
-        self.put_by(raw::ipcz_put_wide_parcel, node, at, bytes, portals)
+        self.put_by(raw::ipcz_put_parcel, node, at, bytes, portals)
     }
 
     fn put_by(

@@ -85,8 +85,8 @@ fn calls_of_a_cell_are_refused() -> Result<(), Refused> {
     let cell = &mut both[0];
     assert_eq!(cell.open(), Err(Refused::NoWord));
     assert_eq!(cell.put(right(), b"x", &[]), Err(Refused::Stranger));
-    assert_eq!(cell.put(left(), b"\n", &[]), Err(Refused::BadData));
-    assert_eq!(cell.put_wide(left(), b"\n", &[]), Ok(0));
+    assert_eq!(cell.put_printed(left(), b"\n", &[]), Err(Refused::BadData));
+    assert_eq!(cell.put(left(), b"\n", &[]), Ok(0));
     assert_eq!(cell.put(left(), b"x", &[left()]), Err(Refused::SelfAttach));
     assert_eq!(
         (
