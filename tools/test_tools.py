@@ -88,13 +88,20 @@ def faults_of_the_model() -> list[str]:
     return faults
 
 
+def faults_of_readme() -> list[str]:
+    """README shows the example of the library, but for its main."""
+    shown = re.search(r"^```rust\n(.*?)^```$", (TOP / "README.md").read_text(), re.M | re.S)
+    source = (TOP / "crates/ipcz_example/src/main.rt").read_text()
+    return [] if shown and shown[1].strip() == source.partition("fn main(")[0].strip() else ["README.md doesn't show crates/ipcz_example but for its main"]
+
+
 def titles(page: pathlib.Path) -> list[str]:
     """What the parts of a page are called: its headings, and what stands in bold."""
     return [one or other for one, other in re.findall(r"^#+ (.*)$|\*\*(.+?)\.?\*\*", page.read_text(), re.MULTILINE)]
 
 
 def faults_of_links() -> list[str]:
-    pages = [TOP / "README.md", *sorted((TOP / "docs").glob("*.md"))]
+    pages = [*sorted(TOP.glob("*.md")), *sorted((TOP / "docs").glob("*.md"))]
     code = [path for folder in ("crates", "callers", "include", "tools") for path in (TOP / folder).rglob("*") if "out" not in path.parts and path.is_file()]
     named = {page.stem: titles(page) for page in pages}
     faults = []
@@ -112,7 +119,7 @@ def faults_of_links() -> list[str]:
 def main() -> None:
     asked.parser(__doc__).parse_args()
     tools = sorted(path.stem for path in HERE.glob("*.py") if path.stem not in SHARED)
-    faults = [fault for tool in tools for fault in faults_of(tool)] + faults_of_a_missing_program() + faults_of_ready() + faults_of_the_model() + faults_of_links()
+    faults = [fault for tool in tools for fault in faults_of(tool)] + faults_of_a_missing_program() + faults_of_ready() + faults_of_the_model() + faults_of_readme() + faults_of_links()
     if faults:
         sys.exit("\n".join(faults))
 
