@@ -182,8 +182,8 @@ def first_fault(checker: pathlib.Path, script: bytes) -> int | str | None:
     done = subprocess.run([checker], input=script, capture_output=True)
     if done.returncode == 0:
         return None
-    found = re.match(rb"line \d+, column \d+: (?:command (\d+): )?.*", done.stdout)
-    return int(found[1] or 0) if found and done.returncode == 2 else f"status {done.returncode}"
+    found = re.match(rb"line \d+, column \d+: (?:command (\d+): )?.*; expected .*\n", done.stdout)
+    return int(found[1] or 0) if found and done.returncode == 2 and done.stdout.isascii() else f"status {done.returncode}"
 
 
 def model_fault(text: str) -> int | None:
