@@ -1,3 +1,4 @@
+/* SPDX-License-Identifier: BSD-3-Clause */
 /* ipcz_portals.h: nodes in one process, which exchange parcels through portals; all of them in one world, or each on a thread of its own.
  *
  * A pair of portals is a way for parcels. What is put at one portal of a pair is got at the other, each parcel once and in order, also
@@ -37,8 +38,18 @@
 #include <stddef.h>
 #include <stdint.h>
 
+/* The version of the library, as a text, and as a number: 10000 * major + 100 * minor + patch. CHANGELOG.md of the repository says what each
+ * has changed. Library and header are of one version: an archive of another one may link and do something else. */
+#define IPCZ_VERSION "0.2.0"
+#define IPCZ_VERSION_NUMBER 200
+
 #ifdef __cplusplus
+#define IPCZ_NULL_ nullptr
+#define IPCZ_BYTES_(at) static_cast<const uint8_t *>(at)
 extern "C" {
+#else
+#define IPCZ_NULL_ NULL
+#define IPCZ_BYTES_(at) ((const uint8_t *)(at))
 #endif
 
 /* A handle: of a world, or of none. Its fields are not for the caller. */
@@ -48,7 +59,7 @@ typedef struct ipcz_world {
 } ipcz_world;
 
 /* A handle of no world. Every call on such a handle is answered (IPCZ_NOT_CREATED, 0 or false), and does nothing. */
-#define IPCZ_WORLD_INIT { 0, false }
+#define IPCZ_WORLD_INIT { IPCZ_NULL_, false }
 
 /* A handle: of a node's cell, or of none. Its fields are not for the caller. */
 typedef struct ipcz_cell {
@@ -57,10 +68,12 @@ typedef struct ipcz_cell {
 } ipcz_cell;
 
 /* A handle of no cell. Every call on such a handle is answered (IPCZ_NOT_CREATED, 0 or false), and does nothing. */
-#define IPCZ_CELL_INIT { 0, false }
+#define IPCZ_CELL_INIT { IPCZ_NULL_, false }
 
 /* A portal: an end of a pair, of side A (side_b is false) or of side B. It is a name, and may be copied and compared. Which node may use
- * it is kept by the nodes. */
+ * it is kept by the nodes. Pairs are numbered from 0 in each world, and in each table of cells; a number is below the number of link words,
+ * and never comes again. So a portal of one world names a portal of another one, too: a call can't tell that it was given the wrong
+ * world's, and uses the portal of that name, if the node has it. */
 typedef struct ipcz_portal {
     uint32_t pair;
     bool side_b;
@@ -79,7 +92,7 @@ enum {
     IPCZ_PEER_ATTACH = 6,   /* nor to the other portal of its pair */
     IPCZ_STRANGER = 7,      /* there is no such node, or the portal isn't this node's, or is named twice */
     IPCZ_NUMBERS_END = 8,   /* no number of 64 bits is left for a parcel or a router */
-    IPCZ_BAD_DATA = 9,      /* a byte isn't from 0x20 to 0x7E */
+    IPCZ_BAD_DATA = 9,      /* a byte isn't from 0x20 to 0x7E. Only ipcz_put_printed and ipcz_cell_put_printed answer it */
     IPCZ_TOO_MANY = 10,     /* too many bytes, portals, nodes or words, or too few */
     IPCZ_RACED = 11,        /* another node's thread was there first: call again. Only calls on cells answer it */
     IPCZ_OCCUPIED = 12,     /* 12 to 14 are between nodes: no call here answers them */
@@ -92,15 +105,18 @@ enum {
 
 #define IPCZ_MAX_NODES 8
 #define IPCZ_MAX_WORDS 4096
-#define IPCZ_MAX_BYTES 256  /* of a parcel, each from 0x20 to 0x7E */
-#define IPCZ_MAX_WIDE_BYTES 65536  /* of a wide parcel, each of any value */
+#define IPCZ_MAX_BYTES 65536  /* of a parcel */
+#define IPCZ_MAX_PRINTED_BYTES 256  /* of a parcel that ipcz_put_printed puts, each from 0x20 to 0x7E */
 #define IPCZ_MAX_PORTALS 8  /* of a parcel */
 
 /* Makes a world.
  *   nodes  how many nodes: 1 to IPCZ_MAX_NODES
  *   words  how many link words: at least nodes * (nodes - 1) / 2, at most IPCZ_MAX_WORDS. Each first pair has one from the start; each open
- *          takes one, and so does each bypass, which takes a node that a portal came through out of its way. A word isn't used again. Once
- *          all are used opens are refused, and portals that travel work as before, but parcels go round by the nodes they came through
+ *          takes one, and so does each bypass, which takes a node that a portal came through out of its way. A word isn't used again, so
+ *          this is a limit for the whole life of the world: with 4,096 words a request that carries a portal for its answer, which takes
+ *          one word for the open and one for the bypass, works some 2,048 times. (Whoever makes more requests opens pairs once and names
+ *          each request in its bytes.) Once all words are used opens are refused, and portals that travel work as before, but parcels go
+ *          round by the nodes they came through, and each further move makes that way longer
  *   world  a handle of no world; it has the new one if the status is IPCZ_OK, and else still none
  * IPCZ_ALREADY_CREATED, IPCZ_TOO_MANY, IPCZ_OUT_OF_MEMORY. */
 ipcz_status ipcz_create(uint8_t nodes, uint32_t words, ipcz_world *world);
@@ -113,18 +129,17 @@ void ipcz_destroy(ipcz_world *world);
  * IPCZ_STRANGER, IPCZ_NO_WORD, IPCZ_NUMBERS_END, IPCZ_OUT_OF_MEMORY. */
 ipcz_status ipcz_open(ipcz_world *world, uint8_t node, ipcz_portal *first, ipcz_portal *second);
 
-/* Puts a parcel, with pointers that are not null: what ipcz_put calls, and what other languages may call. */
+/* Puts a parcel, with pointers that are not null: what ipcz_put_printed calls, and what other languages may call. */
 ipcz_status ipcz_put_parcel(ipcz_world *world, uint8_t node, ipcz_portal at, const uint8_t *bytes, size_t size,
                             const ipcz_portal *portals, size_t count, uint64_t *number);
 
-/* The same of a wide parcel: what ipcz_put_wide calls. */
+/* The same of bytes of any value, and up to IPCZ_MAX_BYTES of them: what ipcz_put calls. */
 ipcz_status ipcz_put_wide_parcel(ipcz_world *world, uint8_t node, ipcz_portal at, const uint8_t *bytes, size_t size,
                                  const ipcz_portal *portals, size_t count, uint64_t *number);
 
 /* Gets the next parcel that has come to a portal.
  *   at           a portal of the node
- *   bytes, room  where the bytes are written, and how many may be: IPCZ_MAX_BYTES are enough for what
- *                ipcz_put puts, and IPCZ_MAX_WIDE_BYTES for all
+ *   bytes, room  where the bytes are written, and how many may be: IPCZ_MAX_BYTES are always enough
  *   size         how many bytes the parcel has
  *   portals, portal_room  where its portals are written, and how many may be: IPCZ_MAX_PORTALS are always enough. They are the node's now
  *   count        how many portals it has
@@ -142,7 +157,8 @@ ipcz_status ipcz_close(ipcz_world *world, uint8_t node, ipcz_portal at);
  * IPCZ_STRANGER, IPCZ_NUMBERS_END, IPCZ_OUT_OF_MEMORY. */
 ipcz_status ipcz_turn(ipcz_world *world, uint8_t node);
 
-/* Has the nodes take turns until none has an act, or limit acts were taken. With a limit of 0 it only looks.
+/* Has the nodes take turns until none has an act, or limit acts were taken. With a limit of 0 it only looks. Nodes come to rest unless
+ * unread parcels carry each other's portals in a circle: see ipcz_put.
  *   acts   how many acts were taken
  *   quiet  whether no node has an act any more: then all that was put has come to where it can be got
  * IPCZ_NUMBERS_END, IPCZ_OUT_OF_MEMORY: the turns before it stand; acts and quiet are not written. */
@@ -182,11 +198,11 @@ void ipcz_cell_destroy(ipcz_cell *cell);
  * IPCZ_NO_WORD, IPCZ_NUMBERS_END, IPCZ_OUT_OF_MEMORY, IPCZ_RACED. */
 ipcz_status ipcz_cell_open(ipcz_cell *cell, ipcz_portal *first, ipcz_portal *second);
 
-/* Puts a parcel, with pointers that are not null: what ipcz_cell_put calls, and what other languages may call. */
+/* Puts a parcel, with pointers that are not null: what ipcz_cell_put_printed calls, and what other languages may call. */
 ipcz_status ipcz_cell_put_parcel(ipcz_cell *cell, ipcz_portal at, const uint8_t *bytes, size_t size,
                                  const ipcz_portal *portals, size_t count, uint64_t *number);
 
-/* The same of a wide parcel: what ipcz_cell_put_wide calls. */
+/* The same of bytes of any value, and up to IPCZ_MAX_BYTES of them: what ipcz_cell_put calls. */
 ipcz_status ipcz_cell_put_wide_parcel(ipcz_cell *cell, ipcz_portal at, const uint8_t *bytes, size_t size,
                                       const ipcz_portal *portals, size_t count, uint64_t *number);
 
@@ -206,7 +222,9 @@ ipcz_status ipcz_cell_close(ipcz_cell *cell, ipcz_portal at);
  * IPCZ_NUMBERS_END, IPCZ_OUT_OF_MEMORY, IPCZ_RACED: the acts before it stand; acts is not written. */
 ipcz_status ipcz_cell_acts(ipcz_cell *cell, uint64_t limit, uint64_t *acts);
 
-/* Whether the node has nothing to do, and no message to it was found. Another node may send one meanwhile. */
+/* Whether the node has nothing to do, nothing of it waits to be taken by another node, and no message to it was found. It is false while another
+ * node hasn't taken what this one has sent, also when ipcz_cell_acts finds nothing to do: whoever waits for it takes turns of the others,
+ * too. Another node may send something meanwhile. */
 bool ipcz_cell_quiet(ipcz_cell *cell);
 
 /* How many link words of the table were used, when their count was read; later they may be more. */
@@ -223,44 +241,51 @@ bool ipcz_cell_node(ipcz_cell *cell, uint8_t *node);
 
 /* Puts a parcel.
  *   at             the portal of the node at which it is put
- *   bytes, size    its bytes, each from 0x20 to 0x7E, at most IPCZ_MAX_BYTES; they are copied. bytes may be null if size is 0
+ *   bytes, size    its bytes, at most IPCZ_MAX_BYTES; they are copied. bytes may be null if size is 0
  *   portals, count its portals, at most IPCZ_MAX_PORTALS, all of the node, none twice; with IPCZ_OK they are the node's no more. portals
  *                  may be null if count is 0
  *   number         how many parcels were put at this portal before it
- * IPCZ_OUT_OF_MEMORY, IPCZ_STRANGER, IPCZ_TOO_MANY, IPCZ_BAD_DATA, IPCZ_SELF_ATTACH, IPCZ_PEER_ATTACH, IPCZ_PEER_CLOSED (once
- * the news has come), IPCZ_NUMBERS_END. */
+ * IPCZ_OUT_OF_MEMORY, IPCZ_STRANGER, IPCZ_TOO_MANY, IPCZ_SELF_ATTACH, IPCZ_PEER_ATTACH, IPCZ_PEER_CLOSED (once the news has come),
+ * IPCZ_NUMBERS_END.
+ *
+ * CIRCLES. If parcels that nobody has got yet carry each other's portals in a circle (one on its way through pair 1 carries a portal of pair
+ * 2, one through pair 2 a portal of pair 3, and one through pair 3 a portal of pair 1), then these portals may follow each other from node
+ * to node for ever. Three puts are enough, on three nodes each of which sends its portal to one neighbour to the other one:
+ *     put 0>1 [0>2], put 1>2 [1>0], put 2>0 [2>1]      (i>j is what ipcz_first(i, j, 3) names)
+ * Then the nodes never come to rest, nothing of these pairs can be got, and link words are taken until none is left, so that each later
+ * open is IPCZ_NO_WORD. To close all portals doesn't end it; to destroy the world does. It is seen by ipcz_settle, which isn't quiet
+ * however high its limit. A program avoids it if each portal travels only through pairs of a lower number than its own (pair of
+ * ipcz_portal): then there is no circle. */
 static inline ipcz_status ipcz_put(ipcz_world *world, uint8_t node, ipcz_portal at, const void *bytes, size_t size,
                                    const ipcz_portal *portals, size_t count, uint64_t *number) {
     static const ipcz_portal nothing = { 0, false };
-    return ipcz_put_parcel(world, node, at, size ? (const uint8_t *)bytes : (const uint8_t *)&nothing, size,
-                           count ? portals : &nothing, count, number);
+    const void *given = size ? bytes : &nothing;
+    return ipcz_put_wide_parcel(world, node, at, IPCZ_BYTES_(given), size, count ? portals : &nothing, count, number);
 }
 
-/* Puts a wide parcel: of up to IPCZ_MAX_WIDE_BYTES bytes of any value, so that IPCZ_BAD_DATA is never answered. All else is as for
- * ipcz_put. */
-static inline ipcz_status ipcz_put_wide(ipcz_world *world, uint8_t node, ipcz_portal at, const void *bytes, size_t size,
-                                        const ipcz_portal *portals, size_t count, uint64_t *number) {
+/* Puts a parcel of at most IPCZ_MAX_PRINTED_BYTES bytes, each from 0x20 to 0x7E, as scripts of the repository do; of others it is
+ * IPCZ_TOO_MANY or IPCZ_BAD_DATA. All else is as for ipcz_put. */
+static inline ipcz_status ipcz_put_printed(ipcz_world *world, uint8_t node, ipcz_portal at, const void *bytes, size_t size,
+                                           const ipcz_portal *portals, size_t count, uint64_t *number) {
     static const ipcz_portal nothing = { 0, false };
-    return ipcz_put_wide_parcel(world, node, at, size ? (const uint8_t *)bytes : (const uint8_t *)&nothing, size,
-                                count ? portals : &nothing, count, number);
+    const void *given = size ? bytes : &nothing;
+    return ipcz_put_parcel(world, node, at, IPCZ_BYTES_(given), size, count ? portals : &nothing, count, number);
 }
 
-/* Puts a parcel at a portal of the cell's node. The arguments are as for ipcz_put.
- * IPCZ_OUT_OF_MEMORY, IPCZ_STRANGER, IPCZ_TOO_MANY, IPCZ_BAD_DATA, IPCZ_SELF_ATTACH, IPCZ_PEER_ATTACH, IPCZ_PEER_CLOSED (once
- * the news has come), IPCZ_NUMBERS_END. */
+/* Puts a parcel at a portal of the cell's node. The arguments and answers are as for ipcz_put. */
 static inline ipcz_status ipcz_cell_put(ipcz_cell *cell, ipcz_portal at, const void *bytes, size_t size,
                                         const ipcz_portal *portals, size_t count, uint64_t *number) {
     static const ipcz_portal nothing = { 0, false };
-    return ipcz_cell_put_parcel(cell, at, size ? (const uint8_t *)bytes : (const uint8_t *)&nothing, size,
-                                count ? portals : &nothing, count, number);
+    const void *given = size ? bytes : &nothing;
+    return ipcz_cell_put_wide_parcel(cell, at, IPCZ_BYTES_(given), size, count ? portals : &nothing, count, number);
 }
 
-/* Puts a wide parcel at a portal of the cell's node, as ipcz_put_wide. */
-static inline ipcz_status ipcz_cell_put_wide(ipcz_cell *cell, ipcz_portal at, const void *bytes, size_t size,
-                                             const ipcz_portal *portals, size_t count, uint64_t *number) {
+/* Puts a parcel at a portal of the cell's node, as ipcz_put_printed. */
+static inline ipcz_status ipcz_cell_put_printed(ipcz_cell *cell, ipcz_portal at, const void *bytes, size_t size,
+                                                const ipcz_portal *portals, size_t count, uint64_t *number) {
     static const ipcz_portal nothing = { 0, false };
-    return ipcz_cell_put_wide_parcel(cell, at, size ? (const uint8_t *)bytes : (const uint8_t *)&nothing, size,
-                                     count ? portals : &nothing, count, number);
+    const void *given = size ? bytes : &nothing;
+    return ipcz_cell_put_parcel(cell, at, IPCZ_BYTES_(given), size, count ? portals : &nothing, count, number);
 }
 
 /* The portal that a node has from the start of the pair that it shares with another; both are below nodes, and not the same. */

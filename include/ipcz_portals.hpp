@@ -1,14 +1,26 @@
+// SPDX-License-Identifier: BSD-3-Clause
 // ipcz_portals.hpp: ipcz_portals.h for C++11 and later, with worlds and cells that free themselves. What that header says holds here too.
+//
+// A call that is refused throws Refused. A program that is compiled without exceptions ends there (std::abort), after the refusal's name on
+// standard error; if it wants statuses instead, it makes the calls of the C header on handle().
+//
+// Calls that only read are const. Still calls on one world, and on one cell, come one at a time, const ones too.
 #ifndef IPCZ_PORTALS_HPP
 #define IPCZ_PORTALS_HPP
 
 #include "ipcz_portals.h"
 
+#include <cstddef>
 #include <cstdint>
+#include <cstdio>
+#include <cstdlib>
 #include <stdexcept>
 #include <string>
 #include <utility>
 #include <vector>
+
+inline bool operator==(const ::ipcz_portal &a, const ::ipcz_portal &b) noexcept { return a.pair == b.pair && a.side_b == b.side_b; }
+inline bool operator!=(const ::ipcz_portal &a, const ::ipcz_portal &b) noexcept { return !(a == b); }
 
 namespace ipcz {
 
@@ -31,32 +43,48 @@ struct Parcel {
     std::vector<Portal> portals;
 };
 
+// What a get came to: a parcel; none yet; or none any more, since the other portal of the pair is closed and what was put at it is got.
+enum class Got { parcel, nothing, closed };
+
 struct Settled {
     std::uint64_t acts;
     bool quiet;
 };
 
 inline void check(ipcz_status status) {
-    if (status != IPCZ_OK) throw Refused(status);
+    if (status == IPCZ_OK) return;
+#if defined(__cpp_exceptions) || defined(__EXCEPTIONS) || defined(_CPPUNWIND)
+    throw Refused(status);
+#else
+    std::fprintf(stderr, "ipcz: a call was refused: %s\n", ::ipcz_status_name(status));
+    std::abort();
+#endif
 }
 
-// Whether a call has got a parcel, which is given the room that it wants.
-template <typename Get> bool got_by(Parcel &parcel, Get get) {
+// What a call gets, which is given the room that it wants. If it is no parcel, or if this throws, the parcel is as it was.
+template <typename Get> Got got_by(Parcel &parcel, Get get) {
     Portal portals[IPCZ_MAX_PORTALS];
-    std::size_t size = IPCZ_MAX_BYTES, count = 0;
-    ipcz_status status;
-    do {
-        parcel.bytes.resize(size);
-        status = get(reinterpret_cast<std::uint8_t *>(&parcel.bytes[0]), parcel.bytes.size(), &size, portals, &count);
-    } while (status == IPCZ_TOO_SMALL);
-    if (status == IPCZ_EMPTY) return false;
+    std::uint8_t few[IPCZ_MAX_PRINTED_BYTES];
+    std::string many;
+    std::uint64_t number = 0;
+    std::size_t size = 0, count = 0;
+    ipcz_status status = get(few, sizeof few, &size, portals, &count, &number);
+    const bool is_many = status == IPCZ_TOO_SMALL;
+    if (is_many) {
+        many.resize(size);
+        status = get(reinterpret_cast<std::uint8_t *>(&many[0]), size, &size, portals, &count, &number);
+    }
+    if (status == IPCZ_EMPTY) return Got::nothing;
+    if (status == IPCZ_PEER_CLOSED) return Got::closed;
     check(status);
-    parcel.bytes.resize(size);
+    if (is_many) parcel.bytes = std::move(many);
+    else parcel.bytes.assign(reinterpret_cast<const char *>(few), size);
     parcel.portals.assign(portals, portals + count);
-    return true;
+    parcel.number = number;
+    return Got::parcel;
 }
 
-// A world, which is freed with it. It can be moved, and a world that was moved from refuses each call. A call that is refused throws Refused.
+// A world, which is freed with it. It can be moved, and a world that was moved from refuses each call.
 class World {
   public:
     World(std::uint8_t nodes, std::uint32_t words) { check(::ipcz_create(nodes, words, &world_)); }
@@ -64,7 +92,8 @@ class World {
     World(World &&other) noexcept { std::swap(world_, other.world_); }
 
     World &operator=(World &&other) noexcept {
-        std::swap(world_, other.world_);
+        World moved(std::move(other));
+        std::swap(world_, moved.world_);
         return *this;
     }
 
@@ -85,17 +114,17 @@ class World {
         return number;
     }
 
-    // Of a wide parcel.
-    std::uint64_t put_wide(std::uint8_t node, Portal at, const std::string &bytes, const std::vector<Portal> &portals = {}) {
+    // Of at most IPCZ_MAX_PRINTED_BYTES bytes, each from 0x20 to 0x7E.
+    std::uint64_t put_printed(std::uint8_t node, Portal at, const std::string &bytes, const std::vector<Portal> &portals = {}) {
         std::uint64_t number = 0;
-        check(::ipcz_put_wide(&world_, node, at, bytes.data(), bytes.size(), portals.data(), portals.size(), &number));
+        check(::ipcz_put_printed(&world_, node, at, bytes.data(), bytes.size(), portals.data(), portals.size(), &number));
         return number;
     }
 
-    // Whether a parcel had come.
-    bool get(std::uint8_t node, Portal at, Parcel &parcel) {
-        return got_by(parcel, [&](std::uint8_t *bytes, std::size_t room, std::size_t *size, Portal *portals, std::size_t *count) {
-            return ::ipcz_get(&world_, node, at, bytes, room, size, portals, IPCZ_MAX_PORTALS, count, &parcel.number);
+    // Gets the next parcel, if one has come.
+    Got get(std::uint8_t node, Portal at, Parcel &parcel) {
+        return got_by(parcel, [&](std::uint8_t *bytes, std::size_t room, std::size_t *size, Portal *portals, std::size_t *count, std::uint64_t *number) {
+            return ::ipcz_get(&world_, node, at, bytes, room, size, portals, IPCZ_MAX_PORTALS, count, number);
         });
     }
 
@@ -109,17 +138,24 @@ class World {
         return settled;
     }
 
-    std::uint32_t claimed() { return ::ipcz_claimed(&world_); }
+    // How many link words were used.
+    std::uint32_t claimed() const { return ::ipcz_claimed(&world_); }
+
+    // Whether a link word was used; then its number is written.
+    bool word(std::uint32_t i, std::uint64_t &word) const { return ::ipcz_word(&world_, i, &word); }
 
     // Whether some node may use the portal; then it is written.
-    bool holder(Portal portal, std::uint8_t &node) { return ::ipcz_holder(&world_, portal, &node); }
+    bool holder(Portal portal, std::uint8_t &node) const { return ::ipcz_holder(&world_, portal, &node); }
+
+    // The handle, for calls of the C header that have no name here; it stays this world's.
+    ::ipcz_world *handle() noexcept { return &world_; }
 
   private:
-    ::ipcz_world world_ = IPCZ_WORLD_INIT;
+    mutable ::ipcz_world world_ = IPCZ_WORLD_INIT;
 };
 
 // A node's cell, which is freed with it. A thread that has it calls it without a lock. It can be moved, also to another thread, and a cell
-// that was moved from refuses each call. A call that is refused throws Refused.
+// that was moved from refuses each call.
 class Cell {
   public:
     // The cells of a new table, by node.
@@ -136,7 +172,8 @@ class Cell {
     Cell(Cell &&other) noexcept { std::swap(cell_, other.cell_); }
 
     Cell &operator=(Cell &&other) noexcept {
-        std::swap(cell_, other.cell_);
+        Cell moved(std::move(other));
+        std::swap(cell_, moved.cell_);
         return *this;
     }
 
@@ -145,6 +182,7 @@ class Cell {
 
     ~Cell() { ::ipcz_cell_destroy(&cell_); }
 
+    // Opens a pair. It is tried again if another thread came between.
     std::pair<Portal, Portal> open() {
         std::pair<Portal, Portal> made{};
         ipcz_status status;
@@ -161,17 +199,17 @@ class Cell {
         return number;
     }
 
-    // Of a wide parcel.
-    std::uint64_t put_wide(Portal at, const std::string &bytes, const std::vector<Portal> &portals = {}) {
+    // Of at most IPCZ_MAX_PRINTED_BYTES bytes, each from 0x20 to 0x7E.
+    std::uint64_t put_printed(Portal at, const std::string &bytes, const std::vector<Portal> &portals = {}) {
         std::uint64_t number = 0;
-        check(::ipcz_cell_put_wide(&cell_, at, bytes.data(), bytes.size(), portals.data(), portals.size(), &number));
+        check(::ipcz_cell_put_printed(&cell_, at, bytes.data(), bytes.size(), portals.data(), portals.size(), &number));
         return number;
     }
 
-    // Whether a parcel had come.
-    bool get(Portal at, Parcel &parcel) {
-        return got_by(parcel, [&](std::uint8_t *bytes, std::size_t room, std::size_t *size, Portal *portals, std::size_t *count) {
-            return ::ipcz_cell_get(&cell_, at, bytes, room, size, portals, IPCZ_MAX_PORTALS, count, &parcel.number);
+    // Gets the next parcel, if one has come.
+    Got get(Portal at, Parcel &parcel) {
+        return got_by(parcel, [&](std::uint8_t *bytes, std::size_t room, std::size_t *size, Portal *portals, std::size_t *count, std::uint64_t *number) {
+            return ::ipcz_cell_get(&cell_, at, bytes, room, size, portals, IPCZ_MAX_PORTALS, count, number);
         });
     }
 
@@ -186,14 +224,24 @@ class Cell {
         return acts > 0;
     }
 
-    bool quiet() { return ::ipcz_cell_quiet(&cell_); }
+    // Whether the node has nothing to do, nothing of it waits to be taken by another node, and no message to it was found.
+    bool quiet() const { return ::ipcz_cell_quiet(&cell_); }
 
-    std::uint32_t claimed() { return ::ipcz_cell_claimed(&cell_); }
+    std::uint32_t claimed() const { return ::ipcz_cell_claimed(&cell_); }
 
-    bool holds(Portal portal) { return ::ipcz_cell_holds(&cell_, portal); }
+    // Whether a link word was used; then its number is written.
+    bool word(std::uint32_t i, std::uint64_t &word) const { return ::ipcz_cell_word(&cell_, i, &word); }
+
+    bool holds(Portal portal) const { return ::ipcz_cell_holds(&cell_, portal); }
+
+    // Whether there is a cell; then the number of its node is written.
+    bool node(std::uint8_t &node) const { return ::ipcz_cell_node(&cell_, &node); }
+
+    // The handle, for calls of the C header that have no name here; it stays this cell's.
+    ::ipcz_cell *handle() noexcept { return &cell_; }
 
   private:
-    ::ipcz_cell cell_ = IPCZ_CELL_INIT;
+    mutable ::ipcz_cell cell_ = IPCZ_CELL_INIT;
 };
 
 } // namespace ipcz

@@ -2,10 +2,10 @@
 
     python3 tools/compare_with_model.py PROGRAM [COUNT [FIRST]] [--counts] [--checker PROGRAM]
 
-COUNT scripts are drawn from the seeds FIRST and up, 1,000 from 0 if nothing is said. Of eight, six have any calls and turns, one is
-such a script but for one value, and one puts, settles and gets in rounds, and is run with the argument `threads`, too. `--counts` prints
-how many lines of each form were compared. With `--checker` ipcz_check must say of each script what the model says: that it is one, or
-which command is the first that is none.
+COUNT scripts are drawn from the seeds FIRST and up, 1,000 from 0 if nothing is said. Of eight, five have any calls and turns, one is
+such a script but for one value, one but for some bytes, and one puts, settles and gets in rounds, and is run with the argument
+`threads`, too. `--counts` prints how many lines of each form were compared. With `--checker` ipcz_check must say of each script what
+the model says: that it is one, that it is no JSON, or which command is the first that is none.
 """
 import collections
 import json
@@ -21,9 +21,14 @@ import model
 
 ROUNDS = 7
 SPOILED = 6
+BROKEN = 5
 DATA = ["", "a", "hello", ' "\\~', "x" * 256]
 BAD_DATA = ["x" * 257, "\t", "\x7f", "\u00e9", "\u0000"]
 SPOILS = [None, True, -1, 0, 9, 1.5, 1000001, 2**64, "", "a0", "0>1", "not a name", "a" * 17, [], ["x", 1], {}, ["fly"], ["show", 1], ["get"]]
+PIECES = [
+    b"[", b"]", b"{", b"}", b'"', b",", b":", b"0", b"-0", b"1.0", b"1e400", b"9" * 400, b"NaN", b"null", b"\\", rb"\ud800", rb"\u0041", b"\t", b"\n", b"\x00",
+    b"\xe9", b"\xc3\xa9", b"\xef\xbb\xbf", b"[" * 130,
+]
 
 
 class Drawing:
@@ -149,9 +154,19 @@ def spoiled(draw: random.Random) -> dict[str, Any]:
     return script
 
 
-def drawn(seed: int) -> dict[str, Any]:
-    kinds = {SPOILED: spoiled, ROUNDS: of_rounds}
-    return kinds.get(seed % 8, of_any_calls)(random.Random(seed))
+def broken(draw: random.Random) -> bytes:
+    """A script of which some bytes are others, are missing, stand twice, or have others before them."""
+    text = bytearray(json.dumps(of_any_calls(draw)).encode())
+    for _ in range(draw.choice([1, 1, 2])):
+        at, end = sorted(draw.choices(range(len(text)), k=2))
+        end = min(end, at + draw.choice([0, 1, 1, 2, 40]))
+        text[at:end] = draw.choice([*PIECES, b"", bytes(text[at:end]) * 2])
+    return bytes(text)
+
+
+def drawn(seed: int) -> bytes:
+    draw, kinds = random.Random(seed), {SPOILED: spoiled, ROUNDS: of_rounds}
+    return broken(draw) if seed % 8 == BROKEN else json.dumps(kinds.get(seed % 8, of_any_calls)(draw)).encode()
 
 
 def form(line: str) -> str:
@@ -162,16 +177,19 @@ def form(line: str) -> str:
     return f"{first} {words[-1]}" if words and words[-1].isalpha() else first
 
 
-def first_fault(checker: pathlib.Path, script: object) -> int | str | None:
+def first_fault(checker: pathlib.Path, script: bytes) -> int | str | None:
     """The number of the first fault that the checker tells, 0 for the script itself; None if it calls it a script, and a text if it fails."""
-    done = subprocess.run([checker], input=json.dumps(script).encode(), capture_output=True)
+    done = subprocess.run([checker], input=script, capture_output=True)
     if done.returncode == 0:
         return None
-    found = re.match(rb"line \d+, column \d+: (?:command (\d+): )?.*; expected ", done.stdout)
-    return int(found[1] or 0) if found and done.returncode == 2 else f"status {done.returncode}"
+    found = re.match(rb"line \d+, column \d+: (?:command (\d+): )?.*; expected .*\n", done.stdout)
+    return int(found[1] or 0) if found and done.returncode == 2 and done.stdout.isascii() else f"status {done.returncode}"
 
 
 def model_fault(text: str) -> int | None:
+    """Likewise by the model: what is no JSON is a fault of the script itself."""
+    if text == "refused NotJson\n":
+        return 0
     return int(text.split()[2]) if text.startswith("refused BadShape ") else None
 
 
@@ -187,13 +205,13 @@ def main() -> int:
     is_wrong = False
     for seed in range(given.first, given.first + given.count):
         script = drawn(seed)
-        text, status = model.transcript(script)
+        text, status, _ = model.answer(script)
         counts.update(form(line) for line in text.splitlines())
         if given.checker and first_fault(given.checker, script) != model_fault(text):
             is_wrong = True
             print(f"seed {seed}: the checker says {first_fault(given.checker, script)} and the model {model_fault(text)}")
         for arguments in [[], ["threads"]] if seed % 8 == ROUNDS else [[]]:
-            done = subprocess.run([given.program, *arguments], input=json.dumps(script).encode(), capture_output=True)
+            done = subprocess.run([given.program, *arguments], input=script, capture_output=True)
             if (done.stdout, done.stderr, done.returncode) != (text.encode(), b"", status):
                 is_wrong = True
                 print(f"seed {seed}: the program writes otherwise than the model", *arguments)

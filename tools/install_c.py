@@ -1,12 +1,15 @@
-"""Puts the static library for C, its headers and a file for pkg-config under a prefix.
+"""Puts the static library for C, its headers and files for pkg-config and CMake under a prefix.
 
     python3 tools/install_c.py PREFIX               builds the archive by `rt lib`, which first proves what isn't proved yet
     python3 tools/install_c.py --after-ci PREFIX    builds it over the libraries that `rt ci` left here, as .ci/run does
 
 Under the prefix then stand `lib/libipcz_portals.a`, which also has the kit's three functions for memory (over malloc, realloc and free),
-`include/ipcz_portals.h` and `.hpp`, and `lib/pkgconfig/ipcz_portals.pc`. A program is built with
+`include/ipcz_portals.h` and `.hpp`, `lib/pkgconfig/ipcz_portals.pc`, `lib/cmake/ipcz_portals` and the licence. The prefix may be moved
+later. A program is built with
 
     cc program.c $(PKG_CONFIG_PATH=PREFIX/lib/pkgconfig pkg-config --cflags --libs ipcz_portals)
+
+or, with CMake, by find_package(ipcz_portals) and the target ipcz::portals. From nothing the proofs take some 33 minutes of a processor.
 
 What `--after-ci` builds is kept for later runs on this machine, by the sums of all that it was made from.
 """
@@ -14,6 +17,7 @@ import argparse
 import hashlib
 import os
 import pathlib
+import re
 import shutil
 import subprocess
 import sys
@@ -27,14 +31,44 @@ except (OSError, subprocess.CalledProcessError):
 TOP = pathlib.Path(__file__).resolve().parent.parent
 CRATE = TOP / "crates" / "ipcz_c"
 KEPT = pathlib.Path(os.environ.get("XDG_CACHE_HOME") or pathlib.Path.home() / ".cache", "ipcz-archives")
-PKG_CONFIG = """prefix={prefix}
+# (the folder of the file itself is two below the prefix, wherever that is)
+PKG_CONFIG = """# SPDX-License-Identifier: BSD-3-Clause
+prefix=${{pcfiledir}}/../..
+libdir=${{prefix}}/lib
+includedir=${{prefix}}/include
 
 Name: ipcz_portals
 Description: Portals, and parcels between them, in one process; proved in Rattle
-Version: 0.1
-Cflags: -I${{prefix}}/include
-Libs: -L${{prefix}}/lib -lipcz_portals
+Version: {version}
+Cflags: -I${{includedir}}
+Libs: -L${{libdir}} -lipcz_portals
 """
+CMAKE_CONFIG = """# SPDX-License-Identifier: BSD-3-Clause
+get_filename_component(_ipcz "${{CMAKE_CURRENT_LIST_DIR}}/../../.." ABSOLUTE)
+if(NOT TARGET ipcz::portals)
+  add_library(ipcz::portals STATIC IMPORTED)
+  set_target_properties(ipcz::portals PROPERTIES
+    IMPORTED_LOCATION "${{_ipcz}}/lib/libipcz_portals.a" INTERFACE_INCLUDE_DIRECTORIES "${{_ipcz}}/include")
+endif()
+unset(_ipcz)
+"""
+# (before 1.0 each minor version may change calls)
+CMAKE_VERSION = """# SPDX-License-Identifier: BSD-3-Clause
+set(PACKAGE_VERSION "{version}")
+string(REGEX MATCH "^[0-9]+[.][0-9]+" _ipcz_here "${{PACKAGE_VERSION}}")
+string(REGEX MATCH "^[0-9]+[.][0-9]+" _ipcz_wanted "${{PACKAGE_FIND_VERSION}}")
+if(_ipcz_here STREQUAL _ipcz_wanted AND NOT PACKAGE_VERSION VERSION_LESS PACKAGE_FIND_VERSION)
+  set(PACKAGE_VERSION_COMPATIBLE TRUE)
+endif()
+if(PACKAGE_VERSION VERSION_EQUAL PACKAGE_FIND_VERSION)
+  set(PACKAGE_VERSION_EXACT TRUE)
+endif()
+"""
+INSTALLED = {
+    "lib/pkgconfig/ipcz_portals.pc": PKG_CONFIG,
+    "lib/cmake/ipcz_portals/ipcz_portalsConfig.cmake": CMAKE_CONFIG,
+    "lib/cmake/ipcz_portals/ipcz_portalsConfigVersion.cmake": CMAKE_VERSION,
+}
 
 
 class Fault(Exception):
@@ -53,8 +87,11 @@ def ran(command: list[str], why: str, **how: object) -> str:
 
 
 def built_by_rt() -> pathlib.Path:
-    """The archive, as `rt lib` builds it."""
-    ran(["rt", "lib"], "the archive isn't built", cwd=CRATE)
+    """The archive, as `rt lib` builds it, which says meanwhile what it does."""
+    print("install_c: rt proves and builds the library; from nothing that takes some 33 minutes of a processor", file=sys.stderr)
+    done = subprocess.run(["rt", "lib"], cwd=CRATE, stdin=subprocess.DEVNULL, stdout=sys.stderr)
+    if done.returncode:
+        raise Fault(f"the archive isn't built: rt ended with status {done.returncode}")
     return CRATE / "out" / "libipcz_c.a"
 
 
@@ -92,17 +129,24 @@ def joined(archive: pathlib.Path, to: pathlib.Path) -> None:
         shutil.copy(pathlib.Path(room, "all.a"), to)
 
 
+def version() -> str:
+    """The version of the library, which stands in its header."""
+    return re.search(r'^#define IPCZ_VERSION "(.*)"$', (TOP / "include/ipcz_portals.h").read_text(), re.M)[1]
+
+
 def install(prefix: pathlib.Path, after_ci: bool) -> None:
     """Puts the library under a prefix."""
     archive = built_after_ci() if after_ci else built_by_rt()
-    prefix = prefix.resolve()
+    prefix, licence = prefix.resolve(), pathlib.Path("share/licenses/ipcz_portals/LICENSE")
     try:
-        for folder in ("include", "lib/pkgconfig"):
-            (prefix / folder).mkdir(parents=True, exist_ok=True)
+        for path in ("include/ipcz_portals.h", licence, *INSTALLED):
+            (prefix / path).parent.mkdir(parents=True, exist_ok=True)
         for header in sorted((TOP / "include").glob("ipcz_portals.h*")):
             shutil.copy(header, prefix / "include")
         joined(archive, prefix / "lib" / "libipcz_portals.a")
-        (prefix / "lib" / "pkgconfig" / "ipcz_portals.pc").write_text(PKG_CONFIG.format(prefix=prefix))
+        shutil.copy(TOP / "LICENSE", prefix / licence)
+        for path, text in INSTALLED.items():
+            (prefix / path).write_text(text.format(version=version()))
     except OSError as error:
         raise Fault(f"nothing can be put under {prefix}: {error.strerror}") from error
 

@@ -2,11 +2,12 @@
 
     python3 tools/model.py < script.json     prints the transcript of a script, as `ipcz_run` does, with its status
 
-It holds the rules for scripts of trusted nodes: which messages would be strays it doesn't know, and fails if one doesn't fit.
+Of what is no JSON it says on standard error what is wrong, too. It holds the rules for scripts of trusted nodes: which messages would be strays it doesn't know, and fails if one doesn't fit.
 """
 from __future__ import annotations
 
 import json
+import math
 import re
 import sys
 from collections.abc import Callable
@@ -23,6 +24,11 @@ OPPOSITE = {"A": "B", "B": "A"}
 STABLE = {"A": 1, "B": 2}
 WAITING = {"A": 4, "B": 8}
 LOCKED = {"A": 16, "B": 32}
+
+
+MOST_BYTES = 1048576
+MOST_LEVELS = 127
+U64_DIGITS = 20
 
 
 class Refused(Exception):
@@ -522,6 +528,43 @@ HEARD: dict[str, Callable[..., None]] = {
 
 # Scripts
 
+def whole(digits: str) -> int | float:
+    """A number without point and exponent: -0, and what is too long for any u64, is no whole number."""
+    return int(digits) if digits != "-0" and len(digits) <= U64_DIGITS else fraction(digits)
+
+
+def fraction(text: str) -> float:
+    number = float(text)
+    if math.isinf(number):
+        raise ValueError(f"a number is too large: {text[:40]}")
+    return number
+
+
+def no_number(word: str) -> float:
+    raise ValueError(f"{word} is no number")
+
+
+def levels(text: str) -> int:
+    """How deep the values of a JSON text are nested."""
+    depth = deepest = 0
+    for bracket in re.findall(r"[][{}]", re.sub(r'"(?:[^"\\]|\\.)*"', "", text)):
+        depth += 1 if bracket in "[{" else -1
+        deepest = max(deepest, depth)
+    return deepest
+
+
+def read_json(text: str) -> Any:
+    """The value of a JSON text: a ValueError if it is none, or one that the rules don't take."""
+    if levels(text) > MOST_LEVELS:
+        raise ValueError(f"more than {MOST_LEVELS} levels deep")
+    value = json.loads(text, parse_int=whole, parse_float=fraction, parse_constant=no_number)
+    # (an escape is one of these, from left to right: a surrogate pair, half of one, any other)
+    for escape in re.finditer(r"\\(?:u[dD][89abAB]..\\u[dD][c-fC-F]..|(?P<half>u[dD][89a-fA-F]..)|.)", text):
+        if escape["half"]:
+            raise ValueError(f"half of a surrogate pair: {escape[0]}")
+    return value
+
+
 def is_number(value: Any, least: int, most: int) -> bool:
     return type(value) is int and least <= value <= most
 
@@ -645,15 +688,23 @@ def transcript(script: Any) -> tuple[str, int]:
     return "".join(line + "\n" for line in lines), 4 if run.is_unsettled else 0
 
 
+def answer(script: bytes) -> tuple[str, int, str]:
+    """What is written for the bytes of a script, the status, and what is wrong if they are no JSON."""
+    if len(script) > MOST_BYTES:
+        return "refused TooLong\n", 2, f"more than {MOST_BYTES} bytes"
+    try:
+        value = read_json(script.decode())
+    except ValueError as fault:
+        return "refused NotJson\n", 2, f"this is no JSON: {fault}"
+    return *transcript(value), ""
+
+
 def main() -> int:
     asked.parser(__doc__).parse_args()
-    try:
-        script = json.load(sys.stdin)
-    except ValueError as fault:
-        print(f"this is no JSON: {fault}", file=sys.stderr)
-        return 2
-    text, status = transcript(script)
+    text, status, fault = answer(sys.stdin.buffer.read(MOST_BYTES + 1))
     print(text, end="")
+    if fault:
+        print(fault, file=sys.stderr)
     return status
 
 

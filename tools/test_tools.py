@@ -11,6 +11,8 @@ import subprocess
 import sys
 
 import asked
+import model
+import ready
 from asked import TOP
 
 HERE = pathlib.Path(__file__).resolve().parent
@@ -20,6 +22,17 @@ SHARED = ("asked", "peers")
 NAMED = re.compile(r'([A-Z_]+)\.md\)?,\s+(?:(?://[/!]?|--|#)\s+)?"([^"]+)"(?: and "([^"]+)")?')
 # Tools that run a program which is given to them.
 OF_A_PROGRAM = ("benchmark", "compare_with_model", "refuse_growth", "soak")
+# What the model answers of bytes that are no script, or barely one, by docs/PROTOCOL.md, "The script".
+SCRIPT = b'{"nodes":1,"words":1,"commands":[["put","x",%s]]}'
+TEXTS = {
+    b"": "NotJson", b"[]": "BadShape 0", b"\xef\xbb\xbf" + SCRIPT % b'""': "NotJson", b" " * 1048577: "TooLong", b" " * 1048576: "NotJson",
+    SCRIPT % b'"\xe9"': "NotJson", SCRIPT % b'"\xc0\x80"': "NotJson", SCRIPT % rb'"\ud800"': "NotJson", SCRIPT % rb'"\ud83d\ude00"': None, SCRIPT % rb'"\\ud800"': None,
+    SCRIPT % b'"\t"': "NotJson", SCRIPT % b"NaN": "NotJson", SCRIPT % b"-Infinity": "NotJson", SCRIPT % b"1e400": "NotJson", SCRIPT % (b"9" * 400): "NotJson",
+    SCRIPT % (b"9" * 5000): "NotJson", SCRIPT % b"1e300": "BadShape 1", SCRIPT % (b"[" * 124 + b"]" * 124): "BadShape 1", SCRIPT % (b"[" * 125 + b"]" * 125): "NotJson",
+    b"[" * 5000: "NotJson", b'{"a\xff":1}': "NotJson",
+    b'{"nodes":1,"words":-0,"commands":[]}': "BadShape 0", b'{"nodes":1.0,"words":0,"commands":[]}': "BadShape 0", b'{"nodes":1,"words":0,"commands":[["settle",-0]]}': "BadShape 1",
+    b'{"nodes":9,"nodes":1,"words":18446744073709551616,"words":0,"commands":[]}': None,
+}
 
 
 def call(*words: str, given: str = "") -> subprocess.CompletedProcess:
@@ -50,15 +63,36 @@ def faults_of_a_missing_program() -> list[str]:
     return [f"{tool} of a program that isn't there: {it.stderr[-200:]}" for tool, it in ran.items() if it.returncode != 2 or "isn't built" not in it.stderr]
 
 
+def faults_of_ready() -> list[str]:
+    """Of a machine that has nothing each missing thing is named, and there is no traceback; and README names the kit that it wants."""
+    ran = subprocess.run([sys.executable, "ready.py"], cwd=HERE, env={"PATH": ""}, capture_output=True, text=True, timeout=20)
+    unnamed = [name for name in ("rt,", "cc isn't", "ar isn't", *(f"no {it}" for it in ready.LEFT_OUT)) if name not in ran.stdout]
+    faults = [f"ready without any program: status {ran.returncode}, {ran.stderr[-200:]}, not named: {unnamed}"] if ran.returncode != 1 or ran.stderr or unnamed else []
+    if f"`{ready.KIT}`" not in (TOP / "README.md").read_text():
+        faults.append("README names another kit than tools/ready.py wants")
+    return faults
+
+
 def faults_of_the_model() -> list[str]:
     faults = []
     crate = TOP / "crates/ipcz_run"
     if call("model.py", given=(crate / "stdin").read_text()).stdout != (crate / "stdout").read_text():
         faults.append("model: it doesn't write the stored transcript")
     broken = call("model.py", given='{"nodes":2,\n"words":}')
-    if (broken.returncode, broken.stdout) != (2, "") or "line 2 column 9" not in broken.stderr:
+    if (broken.returncode, broken.stdout) != (2, "refused NotJson\n") or "line 2 column 9" not in broken.stderr:
         faults.append(f"model of what is no JSON: status {broken.returncode}, {broken.stdout}{broken.stderr}")
+    for script, refusal in TEXTS.items():
+        text, status, _ = model.answer(script)
+        if (status == 2, text if status == 2 else "") != (refusal is not None, f"refused {refusal}\n" if refusal else ""):
+            faults.append(f"model of {script[:60]!r}: status {status}, {text[:60]!r}")
     return faults
+
+
+def faults_of_readme() -> list[str]:
+    """README shows the example of the library, but for its main."""
+    shown = re.search(r"^```rust\n(.*?)^```$", (TOP / "README.md").read_text(), re.M | re.S)
+    source = (TOP / "crates/ipcz_example/src/main.rt").read_text()
+    return [] if shown and shown[1].strip() == source.partition("fn main(")[0].strip() else ["README.md doesn't show crates/ipcz_example but for its main"]
 
 
 def titles(page: pathlib.Path) -> list[str]:
@@ -67,7 +101,7 @@ def titles(page: pathlib.Path) -> list[str]:
 
 
 def faults_of_links() -> list[str]:
-    pages = [TOP / "README.md", *sorted((TOP / "docs").glob("*.md"))]
+    pages = [*sorted(TOP.glob("*.md")), *sorted((TOP / "docs").glob("*.md"))]
     code = [path for folder in ("crates", "callers", "include", "tools") for path in (TOP / folder).rglob("*") if "out" not in path.parts and path.is_file()]
     named = {page.stem: titles(page) for page in pages}
     faults = []
@@ -85,7 +119,7 @@ def faults_of_links() -> list[str]:
 def main() -> None:
     asked.parser(__doc__).parse_args()
     tools = sorted(path.stem for path in HERE.glob("*.py") if path.stem not in SHARED)
-    faults = [fault for tool in tools for fault in faults_of(tool)] + faults_of_a_missing_program() + faults_of_the_model() + faults_of_links()
+    faults = [fault for tool in tools for fault in faults_of(tool)] + faults_of_a_missing_program() + faults_of_ready() + faults_of_the_model() + faults_of_readme() + faults_of_links()
     if faults:
         sys.exit("\n".join(faults))
 

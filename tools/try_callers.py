@@ -4,16 +4,18 @@
     python3 tools/try_callers.py --after-ci    over the libraries that `rt ci` left here, as .ci/run does
     python3 tools/try_callers.py --all         fails if a compiler or valgrind isn't on the machine
 
-The library is installed in a folder of its own by `tools/install_c.py`, and each caller is built from there, by the flags that pkg-config
-tells. What a caller of `callers/c` and `callers/cpp` prints is compared with the file beside it that ends in `.out`. It runs again under
+The library is installed in a folder of its own by `tools/install_c.py`, this is moved and has a name with a space, and each caller is built
+from there, by the flags that pkg-config tells; one in C by CMake, too, which finds the package. What a caller of `callers/c` and `callers/cpp` prints is compared with the file beside it that ends in `.out`. It runs again under
 valgrind, which must find no error, and no memory that isn't freed, and one with a mutex under helgrind, which must find no race (it takes no
 account of atomic steps, and only these order the calls on two cells). The tests of `callers/rust` and of `callers/go` are run. A caller whose
-compiler isn't on the machine is left out. The statuses of the header must be those of `Refusal`, and docs/C.md and README must show these callers.
+compiler isn't on the machine is left out. The statuses of the header must be those of `Refusal`, the crate and CHANGELOG.md must have the header's version, and docs/C.md and README must
+show these callers.
 """
 import argparse
 import os
 import pathlib
 import re
+import shlex
 import shutil
 import subprocess
 import sys
@@ -26,10 +28,24 @@ CALLERS = TOP / "callers"
 VALGRIND = ["valgrind", "--quiet", "--leak-check=full", "--show-leak-kinds=all", "--errors-for-leak-kinds=all", "--error-exitcode=99"]
 HELGRIND = ["valgrind", "--quiet", "--tool=helgrind", "--error-exitcode=99"]
 STRICT = ["-O2", "-Wall", "-Wextra", "-Wconversion", "-pedantic", "-Werror", "-pthread"]
+CMAKE_LISTS = """cmake_minimum_required(VERSION 3.10)
+project(hello C)
+find_package(ipcz_portals {version} REQUIRED)
+add_executable(hello "{source}")
+target_link_libraries(hello ipcz::portals)
+"""
 MOST_SECONDS = 600
 # Callers that are built and not run: what they print is times.
 MEASURES = {"measure", "measure_cells"}
-LINKED = {"no_memory": ["-Wl,--wrap=malloc,--wrap=realloc"]}
+# Flags of one caller, and of one language: the headers are read by pkg-config's -I, so that each warning of theirs fails.
+FLAGS = {"no_memory": ["-Wl,--wrap=malloc,--wrap=realloc"], "no_exceptions": ["-fno-exceptions"]}
+STRICTER = {"cpp": ["-Wold-style-cast", "-Wzero-as-null-pointer-constant", "-Wshadow"]}
+
+
+def tells_spaces() -> bool:
+    """Whether pkg-config tells a path with a space as a shell wants it: pkgconf does, whose versions begin at 1."""
+    told = shutil.which("pkg-config") and subprocess.run(["pkg-config", "--version"], stdout=subprocess.PIPE, text=True).stdout
+    return not told or not told.startswith("0.")
 
 
 class Callers:
@@ -68,7 +84,7 @@ class Callers:
         if not self.has("pkg-config"):
             return told
         text = self.run("pkg-config", ["pkg-config", "--cflags", "--libs", "ipcz_portals"], {"PKG_CONFIG_PATH": f"{self.prefix}/lib/pkgconfig"})
-        return told if text is None else text.split()
+        return told if text is None else shlex.split(text)
 
     def compare(self, what: str, said: str | None, stored: pathlib.Path) -> None:
         if said is not None and said != stored.read_text():
@@ -81,7 +97,7 @@ class Callers:
         flags = self.flags()
         for source in sorted((CALLERS / folder).glob(f"*{ending}")):
             what, program, stored = str(source.relative_to(TOP)), self.prefix / f"{folder}-{source.stem}", source.with_suffix(".out")
-            command = [compiler, f"-std={standard}", *STRICT, str(source), *flags, *LINKED.get(source.stem, []), "-o", str(program)]
+            command = [compiler, f"-std={standard}", *STRICT, *STRICTER.get(folder, []), str(source), *flags, *FLAGS.get(source.stem, []), "-o", str(program)]
             if self.run(f"{what}: {compiler}", command) is None:
                 continue
             if source.stem in MEASURES:
@@ -95,19 +111,39 @@ class Callers:
                 if "pthread_mutex_t" in source.read_text():
                     self.compare(f"{what} under helgrind", self.run(f"{what} under helgrind", [*HELGRIND, str(program)]), stored)
 
+    def cmake(self) -> None:
+        """Builds and runs a caller by CMake."""
+        if not self.has("cmake") or not self.has("cc"):
+            return
+        folder = self.prefix / "by-cmake"
+        folder.mkdir()
+        (folder / "CMakeLists.txt").write_text(CMAKE_LISTS.format(version=install_c.version(), source=CALLERS / "c/hello.c"))
+        if self.run("cmake", ["cmake", "-S", ".", "-B", "out", f"-DCMAKE_PREFIX_PATH={self.prefix}"], cwd=folder) is None:
+            return
+        if self.run("cmake --build", ["cmake", "--build", "out"], cwd=folder) is not None:
+            self.compare("callers/c/hello.c by cmake", self.run("callers/c/hello.c by cmake", ["out/hello"], cwd=folder), CALLERS / "c/hello.out")
+
     def rust(self) -> None:
-        """Runs the tests of the crate."""
+        """Runs the tests of the crate, over the archive that pkg-config tells of, if it is there; and what is said without an archive."""
         if not self.has("cargo"):
             return
-        env = {"IPCZ_LIB": f"{self.prefix}/lib", "CARGO_TARGET_DIR": f"{self.prefix}/cargo", "RUSTFLAGS": "-D warnings"}
-        self.run("callers/rust", ["cargo", "test", "--offline", "--quiet"], env, CALLERS / "rust")
+        env = {"CARGO_TARGET_DIR": f"{self.prefix}/cargo", "RUSTFLAGS": "-D warnings"}
+        folder = {"PKG_CONFIG_PATH": f"{self.prefix}/lib/pkgconfig"} if self.has("pkg-config") else {"IPCZ_LIB": f"{self.prefix}/lib"}
+        self.run("callers/rust", ["cargo", "test", "--offline", "--quiet"], {**env, **folder}, CALLERS / "rust")
+        nowhere = {**os.environ, **env, "IPCZ_LIB": f"{self.prefix}/nowhere"}
+        done = subprocess.run(["cargo", "build", "--offline", "--quiet"], env=nowhere, cwd=CALLERS / "rust", capture_output=True, text=True)
+        if done.returncode == 0 or "there is no libipcz_portals.a in" not in done.stderr:
+            self.wrong.append(f"callers/rust without an archive ended with status {done.returncode}:\n{done.stderr.strip()}")
 
     def go(self) -> None:
         """Runs the tests of the module; cgo tests each pointer that it passes."""
         if not self.has("go") or not self.has("pkg-config"):
             return
-        env = {"PKG_CONFIG_PATH": f"{self.prefix}/lib/pkgconfig", "GOCACHE": f"{self.prefix}/go", "GOFLAGS": "-mod=readonly", "GODEBUG": "cgocheck=2"}
+        # (cgo takes no path with a space from pkg-config)
+        prefix = self.prefix.resolve()
+        env = {"PKG_CONFIG_PATH": f"{prefix}/lib/pkgconfig", "GOCACHE": f"{prefix}/go", "GOFLAGS": "-mod=readonly", "GODEBUG": "cgocheck=2"}
         self.run("callers/go", ["go", "test", "./..."], env, CALLERS / "go")
+        self.run("callers/go", ["go", "vet", "./..."], env, CALLERS / "go")
 
     def statuses(self) -> None:
         """Compares the header's statuses and names with those of `Refusal`."""
@@ -117,6 +153,18 @@ class Callers:
         names = {name: codes.get(code) for code, name in re.findall(r'case (IPCZ_\w+): return "(\w+)"', header)}
         if not refusals or refusals != {name: code for name, code in names.items() if code is not None and 0 < int(code) < 100}:
             self.wrong.append("the statuses of include/ipcz_portals.h aren't those of crates/ipcz_base/src/refusal.rt")
+
+    def versions(self) -> None:
+        """Compares the versions with that of the header."""
+        version = install_c.version()
+        numbers = [int(part) for part in version.split(".")]
+        for path, line in {
+            "include/ipcz_portals.h": f"#define IPCZ_VERSION_NUMBER {10000 * numbers[0] + 100 * numbers[1] + numbers[2]}\n",
+            "callers/rust/Cargo.toml": f'version = "{version}"\n',
+            "CHANGELOG.md": f"## {version}\n",
+        }.items():
+            if f"\n{line}" not in (TOP / path).read_text():
+                self.wrong.append(f"{path} has no line {line.strip()}, which the version of include/ipcz_portals.h wants")
 
     def shown(self) -> None:
         """Compares what docs/C.md and README show with the programs that are run: one whole, and parts."""
@@ -136,15 +184,18 @@ def main() -> None:
     given.add_argument("--all", action="store_true", help="fail if a compiler or valgrind isn't on the machine")
     asked = given.parse_args()
     with tempfile.TemporaryDirectory(prefix="try-callers-") as room:
-        callers = Callers(pathlib.Path(room))
+        first, callers = pathlib.Path(room, "first"), Callers(pathlib.Path(room, "moved here" if tells_spaces() else "moved_here"))
         try:
-            install_c.install(callers.prefix, asked.after_ci)
+            install_c.install(first, asked.after_ci)
         except install_c.Fault as fault:
             sys.exit(f"try_callers: {fault}")
+        callers.prefix.symlink_to(first.rename(pathlib.Path(room, "moved")))
         callers.statuses()
+        callers.versions()
         callers.shown()
         callers.compiled("cc", "gnu11", "c", ".c")
         callers.compiled("c++", "c++11", "cpp", ".cc")
+        callers.cmake()
         callers.rust()
         callers.go()
     if asked.all and callers.lacking:

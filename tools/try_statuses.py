@@ -21,7 +21,7 @@ CHECK_USAGE = b"usage: ipcz_check [--help] < SCRIPT\n"
 EMPTY = b"line 1, column 1: the script is empty; expected an object with the members nodes, words and commands\n"
 NO_OBJECT = b"line 1, column 1: the script is no object; expected one with the members nodes, words and commands\n"
 TOO_LONG = b"line 1, column 1: the script is too long; expected at most 1048576 bytes\n"
-DRAW_USAGE = b"usage: ipcz_draw [FROM TO]\n"
+DRAW_USAGE = b"usage: ipcz_draw [--help] [FROM TO] < TRANSCRIPT\n"
 
 
 class Folder:
@@ -82,6 +82,10 @@ RUNS = [
     ("ipcz_draw", [], PUT + b"settled\n", bytes, 0, None),
     ("ipcz_draw", [], b"", bytes, 0, None),
     ("ipcz_draw", [], b"words\nsettle\n", bytes, 2, b"refused line 2: not a line of a transcript\n"),
+    ("ipcz_draw", ["--help"], Folder, bytes, 0, None),
+    ("ipcz_draw", ["-h"], PUT, bytes, 0, None),
+    ("ipcz_draw", ["--help"], PUT, Full, 1, b""),
+    ("ipcz_draw", ["--help", "x"], PUT, bytes, 2, DRAW_USAGE),
     ("ipcz_draw", ["run.svg"], PUT, bytes, 2, DRAW_USAGE),
     ("ipcz_draw", ["1", "2"], PUT, bytes, 0, None),
     ("ipcz_draw", ["2", "2"], PUT, bytes, 0, None),

@@ -33,8 +33,8 @@ int main(void) {
     print("open with no word left", ipcz_cell_open(&cells[1], &a, &b));
     printf("claimed %u, word 1 %d, word 2 %d\n", ipcz_cell_claimed(&cells[0]), ipcz_cell_word(&cells[0], 1, &word), ipcz_cell_word(&cells[0], 2, &word));
     print("put by a stranger", ipcz_cell_put(&cells[1], left, "x", 1, NULL, 0, &number));
-    print("put of a line feed", ipcz_cell_put(&cells[0], left, "\n", 1, NULL, 0, &number));
-    print("put of it as a wide parcel", ipcz_cell_put_wide(&cells[0], left, "\n", 1, NULL, 0, &number));
+    print("put of a line feed as printed", ipcz_cell_put_printed(&cells[0], left, "\n", 1, NULL, 0, &number));
+    print("put of it", ipcz_cell_put(&cells[0], left, "\n", 1, NULL, 0, &number));
     print("put with a portal", ipcz_cell_put(&cells[0], left, "take it", 7, &b, 1, &number));
     printf("number %u, holds it yet %d, quiet %d\n", (unsigned)number, ipcz_cell_holds(&cells[0], b), ipcz_cell_quiet(&cells[0]));
     print("get before a turn", ipcz_cell_get(&cells[1], right, bytes, sizeof bytes, &size, portals, IPCZ_MAX_PORTALS, &count, &number));

@@ -109,32 +109,32 @@ static bool small_rooms(ipcz_world *world) {
     return true;
 }
 
-/* A wide parcel has any bytes; what ipcz_put would refuse of them is put. */
-static bool wide_parcels(ipcz_world *world) {
-    static uint8_t sent[IPCZ_MAX_WIDE_BYTES + 1], bytes[IPCZ_MAX_WIDE_BYTES];
+/* A parcel has any bytes; what ipcz_put_printed would refuse of them is put. */
+static bool parcels_of_any_bytes(ipcz_world *world) {
+    static uint8_t sent[IPCZ_MAX_BYTES + 1], bytes[IPCZ_MAX_BYTES];
     ipcz_portal left = ipcz_first(0, 1, 2), right = ipcz_first(1, 0, 2), portals[1];
     uint64_t number, acts;
     size_t size, count;
     bool quiet;
     for (size_t i = 0; i < sizeof sent; i++) sent[i] = (uint8_t)(i % 251);
-    EXPECT(ipcz_put(world, 0, left, sent, 1, NULL, 0, &number), IPCZ_BAD_DATA);
-    EXPECT(ipcz_put_wide(world, 0, left, sent, sizeof sent, NULL, 0, &number), IPCZ_TOO_MANY);
-    EXPECT(ipcz_put_wide(world, 0, left, sent, sizeof bytes, NULL, 0, &number), IPCZ_OK);
+    EXPECT(ipcz_put_printed(world, 0, left, sent, 1, NULL, 0, &number), IPCZ_BAD_DATA);
+    EXPECT(ipcz_put(world, 0, left, sent, sizeof sent, NULL, 0, &number), IPCZ_TOO_MANY);
+    EXPECT(ipcz_put(world, 0, left, sent, sizeof bytes, NULL, 0, &number), IPCZ_OK);
     EXPECT(ipcz_settle(world, 1000, &acts, &quiet), IPCZ_OK);
-    EXPECT(ipcz_get(world, 1, right, bytes, IPCZ_MAX_BYTES, &size, portals, 1, &count, &number), IPCZ_TOO_SMALL);
-    HOLDS(size == IPCZ_MAX_WIDE_BYTES && count == 0);
+    EXPECT(ipcz_get(world, 1, right, bytes, IPCZ_MAX_BYTES - 1, &size, portals, 1, &count, &number), IPCZ_TOO_SMALL);
+    HOLDS(size == IPCZ_MAX_BYTES && count == 0);
     EXPECT(ipcz_get(world, 1, right, bytes, size, &size, portals, 0, &count, &number), IPCZ_OK);
-    HOLDS(size == IPCZ_MAX_WIDE_BYTES && memcmp(bytes, sent, size) == 0);
+    HOLDS(size == IPCZ_MAX_BYTES && memcmp(bytes, sent, size) == 0);
     return true;
 }
 
 static bool refusals(ipcz_world *world) {
-    static const uint8_t zeros[IPCZ_MAX_BYTES + 1];
+    static const uint8_t zeros[IPCZ_MAX_PRINTED_BYTES + 1];
     ipcz_portal left = ipcz_first(0, 1, 2), right = ipcz_first(1, 0, 2), twice[2] = { left, left }, first, second;
     uint64_t number, word;
     uint8_t node;
-    EXPECT(ipcz_put(world, 0, left, zeros, sizeof zeros, NULL, 0, &number), IPCZ_TOO_MANY);
-    EXPECT(ipcz_put(world, 0, left, zeros, 1, NULL, 0, &number), IPCZ_BAD_DATA);
+    EXPECT(ipcz_put_printed(world, 0, left, zeros, sizeof zeros, NULL, 0, &number), IPCZ_TOO_MANY);
+    EXPECT(ipcz_put_printed(world, 0, left, zeros, 1, NULL, 0, &number), IPCZ_BAD_DATA);
     EXPECT(ipcz_put(world, 1, left, NULL, 0, NULL, 0, &number), IPCZ_STRANGER);
     EXPECT(ipcz_put(world, 0, left, NULL, 0, &left, 1, &number), IPCZ_SELF_ATTACH);
     EXPECT(ipcz_put(world, 0, left, NULL, 0, &right, 1, &number), IPCZ_PEER_ATTACH);
@@ -176,7 +176,7 @@ static bool handles(void) {
 int main(void) {
     ipcz_world world = IPCZ_WORLD_INIT;
     if (ipcz_create(2, 8, &world)) return 1;
-    bool well = travels(&world) && small_rooms(&world) && wide_parcels(&world) && refusals(&world) && handles();
+    bool well = travels(&world) && small_rooms(&world) && parcels_of_any_bytes(&world) && refusals(&world) && handles();
     printf("%" PRIu32 " words used\n", ipcz_claimed(&world));
     ipcz_destroy(&world);
     for (ipcz_status status = 0; status <= 14; status++) printf("%" PRIu32 " %s\n", status, ipcz_status_name(status));

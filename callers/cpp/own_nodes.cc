@@ -13,7 +13,7 @@ const ipcz::Portal left = ipcz_first(0, 1, 2), right = ipcz_first(1, 0, 2);
 // Takes turns until a parcel has come.
 ipcz::Parcel get(ipcz::Cell &cell, ipcz::Portal at) {
     ipcz::Parcel parcel{};
-    while (!cell.get(at, parcel))
+    while (cell.get(at, parcel) != ipcz::Got::parcel)
         if (!cell.serve(64)) std::this_thread::yield();
     return parcel;
 }

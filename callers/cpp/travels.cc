@@ -22,28 +22,36 @@ int main() {
     ipcz::Portal kept{};
     ipcz::World world = with_sent(kept);
     ipcz::Parcel got{};
-    std::cout << "before: " << world.get(1, right, got) << '\n';
+    std::cout << "before: " << (world.get(1, right, got) == ipcz::Got::nothing ? "nothing" : "a parcel") << '\n';
     const auto settled = world.settle(1000);
     std::cout << "quiet " << settled.quiet << " after " << settled.acts << " acts\n";
-    if (!world.get(1, right, got)) return 1;
+    if (world.get(1, right, got) != ipcz::Got::parcel) return 1;
     std::cout << got.bytes << ", " << got.portals.size() << " with it\n";
     const auto sent = got.portals.at(0);
+    if (sent == kept || !(sent != kept)) return 1;
     const std::string wide(1000, '\0');
-    world.put_wide(0, left, wide);
+    world.put(0, left, wide);
     world.put(0, kept, "over it");
     world.settle(1000);
-    if (!world.get(1, right, got) || got.bytes != wide) return 1;
-    if (!world.get(1, sent, got)) return 1;
+    if (world.get(1, right, got) != ipcz::Got::parcel || got.bytes != wide) return 1;
+    if (world.get(1, sent, got) != ipcz::Got::parcel) return 1;
     std::cout << got.number << ": " << got.bytes << '\n';
+    world.close(0, kept);
+    world.settle(1000);
+    const bool is_closed = world.get(1, sent, got) == ipcz::Got::closed;
+    std::cout << "closed " << is_closed << ", and the parcel is still \"" << got.bytes << "\"\n";
     try {
-        world.put(0, sent, "");
+        world.put(1, sent, "");
     } catch (const ipcz::Refused &why) {
         std::cout << "refused " << why.status() << ", " << why.what() << '\n';
     }
-    ipcz::World other = std::move(world);
+    ipcz::World other(1, 0);
+    other = std::move(world);
+    const ipcz::World &seen = other;
     std::uint8_t node = 9;
-    std::cout << "moved: " << world.claimed() << " and " << other.claimed() << " words, held by node ";
-    std::cout << (other.holder(sent, node) ? int(node) : -1) << '\n';
+    std::uint64_t word = 9;
+    std::cout << "moved: " << world.claimed() << " and " << seen.claimed() << " words, held by node ";
+    std::cout << (seen.holder(sent, node) ? int(node) : -1) << ", first word " << (seen.word(0, word) ? word : 0) << '\n';
     try {
         ipcz::World none(9, 64);
     } catch (const ipcz::Refused &why) {

@@ -6,9 +6,17 @@ package portals
 import "C"
 
 // A Cell is a node behind a handle of its own. Calls on different cells, also of one table, may come from different goroutines at once. It
-// isn't copied.
+// isn't copied, as go vet tells; a copy is the same cell. The zero Cell has no node, and refuses each call.
 type Cell struct {
-	handle C.ipcz_cell
+	_      noCopy
+	handle *C.ipcz_cell
+}
+
+func (c *Cell) c() *C.ipcz_cell {
+	if c.handle == nil {
+		c.handle = new(C.ipcz_cell)
+	}
+	return c.handle
 }
 
 // NewCells makes the cells of a new table, by node: of 1 to 8 nodes, and of at least a link word for each two of them and at most 4096; else
@@ -23,80 +31,88 @@ func NewCells(nodes int, words uint32) ([]*Cell, error) {
 	}
 	cells := make([]*Cell, nodes)
 	for i := range cells {
-		cells[i] = &Cell{handles[i]}
+		cells[i] = new(Cell)
+		*cells[i].c() = handles[i]
 	}
 	return cells, nil
 }
 
 // Destroy frees what only this cell has, and with the last cell of the table, the table. Each later call is refused NotCreated, or answers 0
-// or false.
+// or false; a second Destroy does nothing.
 func (c *Cell) Destroy() {
-	C.ipcz_cell_destroy(&c.handle)
+	C.ipcz_cell_destroy(c.c())
 }
 
 // Open opens a pair, whose portals are both the node's at first. It is tried again if another thread came between.
 func (c *Cell) Open() (first, second Portal, err error) {
 	var a, b C.ipcz_portal
-	status := C.ipcz_cell_open(&c.handle, &a, &b)
+	status := C.ipcz_cell_open(c.c(), &a, &b)
 	for status == C.IPCZ_RACED {
-		status = C.ipcz_cell_open(&c.handle, &a, &b)
+		status = C.ipcz_cell_open(c.c(), &a, &b)
 	}
 	return fromC(a), fromC(b), answer(status)
 }
 
-// Put puts a parcel of at most 256 bytes, each from 0x20 to 0x7E, and answers how many were put at the portal before it.
+// Put puts a parcel of at most 65,536 bytes, with at most 8 portals of the node, and answers how many were put at the portal before it.
 func (c *Cell) Put(at Portal, bytes []byte, portals ...Portal) (uint64, error) {
 	var number C.uint64_t
 	it := give(bytes, portals)
-	status := C.ipcz_cell_put_parcel(&c.handle, at.c(), (*C.uint8_t)(it.bytes), it.size, (*C.ipcz_portal)(it.portals), it.count, &number)
+	status := C.ipcz_cell_put_wide_parcel(c.c(), at.c(), (*C.uint8_t)(it.bytes), it.size, (*C.ipcz_portal)(it.portals), it.count, &number)
 	return uint64(number), answer(status)
 }
 
-// PutWide puts a parcel of up to 65,536 bytes of any value.
-func (c *Cell) PutWide(at Portal, bytes []byte, portals ...Portal) (uint64, error) {
+// PutPrinted puts a parcel of at most 256 bytes, each from 0x20 to 0x7E; of others it is refused TooMany or BadData.
+func (c *Cell) PutPrinted(at Portal, bytes []byte, portals ...Portal) (uint64, error) {
 	var number C.uint64_t
 	it := give(bytes, portals)
-	status := C.ipcz_cell_put_wide_parcel(&c.handle, at.c(), (*C.uint8_t)(it.bytes), it.size, (*C.ipcz_portal)(it.portals), it.count, &number)
+	status := C.ipcz_cell_put_parcel(c.c(), at.c(), (*C.uint8_t)(it.bytes), it.size, (*C.ipcz_portal)(it.portals), it.count, &number)
 	return uint64(number), answer(status)
 }
 
 // Get gets the next parcel that has come to a portal of the node; Empty if none has.
 func (c *Cell) Get(at Portal) (Parcel, error) {
 	return gotBy(func(bytes *C.uint8_t, room C.size_t, size *C.size_t, portals *C.ipcz_portal, count *C.size_t, number *C.uint64_t) C.ipcz_status {
-		return C.ipcz_cell_get(&c.handle, at.c(), bytes, room, size, portals, C.IPCZ_MAX_PORTALS, count, number)
+		return C.ipcz_cell_get(c.c(), at.c(), bytes, room, size, portals, C.IPCZ_MAX_PORTALS, count, number)
 	})
 }
 
 // Close closes a portal of the node.
 func (c *Cell) Close(at Portal) error {
-	return answer(C.ipcz_cell_close(&c.handle, at.c()))
+	return answer(C.ipcz_cell_close(c.c(), at.c()))
 }
 
 // Acts takes turns of the node until it has no act, or limit acts were taken: how many. Raced: another thread was there first; call again.
 func (c *Cell) Acts(limit uint64) (uint64, error) {
 	var acts C.uint64_t
-	err := answer(C.ipcz_cell_acts(&c.handle, C.uint64_t(limit), &acts))
+	err := answer(C.ipcz_cell_acts(c.c(), C.uint64_t(limit), &acts))
 	return uint64(acts), err
 }
 
-// Quiet tells whether the node has nothing to do, and no message to it was found.
+// Quiet tells whether the node has nothing to do, nothing of it waits to be taken by another node, and no message to it was found.
 func (c *Cell) Quiet() bool {
-	return bool(C.ipcz_cell_quiet(&c.handle))
+	return bool(C.ipcz_cell_quiet(c.c()))
 }
 
 // Claimed tells how many link words of the table were used, when their count was read.
 func (c *Cell) Claimed() uint32 {
-	return uint32(C.ipcz_cell_claimed(&c.handle))
+	return uint32(C.ipcz_cell_claimed(c.c()))
+}
+
+// Word tells the number of a link word of the table, and whether it was used.
+func (c *Cell) Word(i uint32) (word uint64, used bool) {
+	var number C.uint64_t
+	used = bool(C.ipcz_cell_word(c.c(), C.uint32_t(i), &number))
+	return uint64(number), used
 }
 
 // Holds tells whether the node may use a portal now.
 func (c *Cell) Holds(portal Portal) bool {
-	return bool(C.ipcz_cell_holds(&c.handle, portal.c()))
+	return bool(C.ipcz_cell_holds(c.c(), portal.c()))
 }
 
 // Node tells the number of the node, and whether the cell wasn't destroyed.
 func (c *Cell) Node() (node uint8, there bool) {
 	var number C.uint8_t
-	there = bool(C.ipcz_cell_node(&c.handle, &number))
+	there = bool(C.ipcz_cell_node(c.c(), &number))
 	return uint8(number), there
 }

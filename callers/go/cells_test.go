@@ -127,9 +127,9 @@ func TestCallsOfACellAreRefused(t *testing.T) {
 	refused(t, err, NoWord)
 	_, err = cell.Put(right, []byte("x"))
 	refused(t, err, Stranger)
-	_, err = cell.Put(left, []byte("\n"))
+	_, err = cell.PutPrinted(left, []byte("\n"))
 	refused(t, err, BadData)
-	_, err = cell.PutWide(left, []byte("\n"))
+	_, err = cell.Put(left, []byte("\n"))
 	must(t, err)
 	_, err = cell.Put(left, []byte("x"), left)
 	refused(t, err, SelfAttach)
@@ -150,4 +150,8 @@ func TestADestroyedCellRefuses(t *testing.T) {
 	if _, there := cell.Node(); there {
 		t.Fatal("there is a node")
 	}
+	cell.Destroy()
+	var none Cell
+	refused(t, none.Close(left), NotCreated)
+	none.Destroy()
 }

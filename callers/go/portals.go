@@ -1,8 +1,10 @@
+// SPDX-License-Identifier: BSD-3-Clause
+
 // Package portals is Go over the static library ipcz_portals, by cgo: nodes that exchange parcels through portals, all of them in a World,
 // or each in a Cell of its own, which a goroutine that owns it calls without a lock.
 //
-// Some of what the library asks of its callers (ipcz_portals.h, "What the caller upholds") is kept here: handles aren't copied, no pointer
-// is null, and slices have their lengths. The rest is the program's: calls on one World, and on one Cell, come one at a time, in an order
+// Some of what the library asks of its callers (ipcz_portals.h, "What the caller upholds") is kept here: there is one handle of a world or a
+// cell, which is never copied, no pointer is null, and slices have their lengths. The rest is the program's: calls on one World, and on one Cell, come one at a time, in an order
 // that a mutex, a channel or a sequentially consistent atomic gives them.
 package portals
 
@@ -13,6 +15,15 @@ package portals
 import "C"
 
 import "unsafe"
+
+// Version is the library's, by its header.
+const Version = C.IPCZ_VERSION
+
+// By its methods go vet tells where a value that has one is copied.
+type noCopy struct{}
+
+func (*noCopy) Lock()   {}
+func (*noCopy) Unlock() {}
 
 // Status tells why a call was refused. A call that is refused changes nothing, but for a Settle or Acts: the acts before the refused one
 // stand.
@@ -98,7 +109,7 @@ func gotBy(get getter) (Parcel, error) {
 	var list [C.IPCZ_MAX_PORTALS]C.ipcz_portal
 	var size, count C.size_t
 	var number C.uint64_t
-	room := make([]byte, C.IPCZ_MAX_BYTES)
+	room := make([]byte, C.IPCZ_MAX_PRINTED_BYTES)
 	status := get((*C.uint8_t)(&room[0]), C.size_t(len(room)), &size, &list[0], &count, &number)
 	if status == C.IPCZ_TOO_SMALL {
 		room = make([]byte, size)

@@ -2,6 +2,7 @@ package portals
 
 import (
 	"bytes"
+	"reflect"
 	"strconv"
 	"sync"
 	"testing"
@@ -97,9 +98,9 @@ func TestLimitsAreRefused(t *testing.T) {
 	world := newWorld(t, 2, 1)
 	_, _, err := world.Open(0)
 	refused(t, err, NoWord)
-	_, err = world.Put(0, left, make([]byte, 257))
+	_, err = world.PutPrinted(0, left, make([]byte, 257))
 	refused(t, err, TooMany)
-	_, err = world.Put(0, left, []byte("\n"))
+	_, err = world.PutPrinted(0, left, []byte("\n"))
 	refused(t, err, BadData)
 	_, err = world.Put(0, left, nil, left)
 	refused(t, err, SelfAttach)
@@ -111,15 +112,15 @@ func TestLimitsAreRefused(t *testing.T) {
 	}
 }
 
-func TestWideParcelsHaveAnyBytes(t *testing.T) {
+func TestParcelsHaveAnyBytes(t *testing.T) {
 	world := newWorld(t, 2, 1)
 	wide := make([]byte, 65_536)
 	for i := range wide {
 		wide[i] = byte(i)
 	}
-	_, err := world.PutWide(0, left, wide)
+	_, err := world.Put(0, left, wide)
 	must(t, err)
-	_, err = world.PutWide(0, left, append(wide, 0))
+	_, err = world.Put(0, left, append(wide, 0))
 	refused(t, err, TooMany)
 	settle(t, world)
 	got, err := world.Get(1, right)
@@ -148,6 +149,24 @@ func TestADestroyedWorldRefuses(t *testing.T) {
 	if err.Error() != "NotCreated" || world.Claimed() != 0 {
 		t.Fatalf("%v, %d words", err, world.Claimed())
 	}
+	world.Destroy()
+	var none World
+	refused(t, none.Close(0, left), NotCreated)
+	none.Destroy()
+}
+
+func TestACopyIsTheSameWorld(t *testing.T) {
+	world := newWorld(t, 2, 1)
+	// (a plain copy is what go vet tells of)
+	copied := reflect.New(reflect.TypeOf(world).Elem())
+	copied.Elem().Set(reflect.ValueOf(world).Elem())
+	other := copied.Interface().(*World)
+	if word, used := other.Word(0); !used || word != 3 {
+		t.Fatalf("the first word is %d", word)
+	}
+	other.Destroy()
+	world.Destroy()
+	refused(t, world.Turn(0), NotCreated)
 }
 
 func TestAWorldIsSharedByAMutex(t *testing.T) {

@@ -1,3 +1,4 @@
+// SPDX-License-Identifier: BSD-3-Clause
 //! Nodes that each have a handle of their own.
 
 use crate::{answer, got_by, raw, Parcel, Portal, Refused, NOWHERE};
@@ -19,25 +20,31 @@ pub fn cells(nodes: usize, words: u32) -> Result<Vec<Cell>, Refused> {
 
 // SAFETY, of each call below: as for `World`.
 impl Cell {
+    /// Opens a pair, whose portals are both the node's at first. It is tried again if another thread came between. `NoWord`, `NumbersEnd`,
+    /// `OutOfMemory`.
     pub fn open(&mut self) -> Result<(Portal, Portal), Refused> {
         let (mut first, mut second) = (NOWHERE, NOWHERE);
-        answer(unsafe { raw::ipcz_cell_open(&mut self.0, &mut first, &mut second) })?;
-        Ok((first, second))
+        loop {
+            match answer(unsafe { raw::ipcz_cell_open(&mut self.0, &mut first, &mut second) }) {
+                Err(Refused::Raced) => {}
+                other => return other.map(|()| (first, second)),
+            }
+        }
     }
 
-    /// Puts a parcel of at most 256 bytes, each from 0x20 to 0x7E.
+    /// Puts a parcel of at most 65,536 bytes. Refused as [`crate::World::put`] is.
     pub fn put(&mut self, at: Portal, bytes: &[u8], portals: &[Portal]) -> Result<u64, Refused> {
-        self.put_by(raw::ipcz_cell_put_parcel, at, bytes, portals)
+        self.put_by(raw::ipcz_cell_put_wide_parcel, at, bytes, portals)
     }
 
-    /// Puts a parcel of up to 65,536 bytes of any value.
-    pub fn put_wide(
+    /// Puts a parcel of at most 256 bytes, each from 0x20 to 0x7E. Refused as [`crate::World::put_printed`] is.
+    pub fn put_printed(
         &mut self,
         at: Portal,
         bytes: &[u8],
         portals: &[Portal],
     ) -> Result<u64, Refused> {
-        self.put_by(raw::ipcz_cell_put_wide_parcel, at, bytes, portals)
+        self.put_by(raw::ipcz_cell_put_parcel, at, bytes, portals)
     }
 
     fn put_by(
@@ -62,6 +69,7 @@ impl Cell {
         Ok(number)
     }
 
+    /// Gets the next parcel that has come to a portal of the node: `Empty` if none has, `PeerClosed` if none will, `Stranger`.
     pub fn get(&mut self, at: Portal) -> Result<Parcel, Refused> {
         got_by(|bytes, portals, size, count, number| unsafe {
             raw::ipcz_cell_get(
@@ -78,18 +86,20 @@ impl Cell {
         })
     }
 
+    /// Closes a portal of the node. What was put at it still comes to the other one; what comes to it is discarded. `Stranger`, `OutOfMemory`.
     pub fn close(&mut self, at: Portal) -> Result<(), Refused> {
         answer(unsafe { raw::ipcz_cell_close(&mut self.0, at) })
     }
 
-    /// Takes turns of the node until it has no act, or `limit` acts were taken: how many.
+    /// Takes turns of the node until it has no act, or `limit` acts were taken: how many. `Raced`: another thread was there first, call again; so
+    /// too `NumbersEnd` and `OutOfMemory`: the acts before it stand.
     pub fn acts(&mut self, limit: u64) -> Result<u64, Refused> {
         let mut acts = 0;
         answer(unsafe { raw::ipcz_cell_acts(&mut self.0, limit, &mut acts) })?;
         Ok(acts)
     }
 
-    /// Whether the node has nothing to do, and no message to it was found.
+    /// Whether the node has nothing to do, nothing of it waits to be taken by another node, and no message to it was found.
     pub fn quiet(&mut self) -> bool {
         unsafe { raw::ipcz_cell_quiet(&mut self.0) }
     }
@@ -97,6 +107,12 @@ impl Cell {
     /// How many link words of the table were used, when their count was read.
     pub fn claimed(&mut self) -> u32 {
         unsafe { raw::ipcz_cell_claimed(&mut self.0) }
+    }
+
+    /// The number of link word `i`, if it was used; as of [`crate::World::word`].
+    pub fn word(&mut self, i: u32) -> Option<u64> {
+        let mut word = 0;
+        unsafe { raw::ipcz_cell_word(&mut self.0, i, &mut word) }.then_some(word)
     }
 
     /// Whether the node may use a portal now.

@@ -1,8 +1,12 @@
+// SPDX-License-Identifier: BSD-3-Clause
 //! Safe Rust over the static library `ipcz_portals`: nodes that exchange parcels through portals, all of them in a `World`, or each in a
 //! `Cell` of its own, which a thread that owns it calls without a lock.
 //!
 //! What the library asks of its callers (`ipcz_portals.h`, "What the caller upholds") is kept here by types: a `World` or a `Cell` has a
 //! handle that no other one has, each call takes `&mut self`, references aren't null, and slices have their lengths.
+//!
+//! A portal of one world is a name in another one, too, and means a portal there: which world it came from is the program's to know.
+#![warn(missing_docs)]
 
 mod cells;
 mod raw;
@@ -12,7 +16,7 @@ use std::fmt;
 pub use cells::{cells, Cell};
 pub use raw::Portal;
 
-const MAX_BYTES: usize = 256;
+const MAX_PRINTED_BYTES: usize = 256;
 const TOO_SMALL: u32 = 100;
 const MAX_PORTALS: usize = 8;
 const NOWHERE: Portal = Portal {
@@ -24,17 +28,27 @@ const NOWHERE: Portal = Portal {
 #[derive(Clone, Copy, Debug, PartialEq, Eq)]
 #[non_exhaustive]
 pub enum Refused {
+    /// No memory was found.
     OutOfMemory,
+    /// No parcel has come yet.
     Empty,
+    /// The other portal of the pair is closed, and what was put at it before is got.
     PeerClosed,
+    /// Each link word is used, so no pair can be opened.
     NoWord,
+    /// A portal can't travel through itself.
     SelfAttach,
+    /// Nor to the other portal of its pair.
     PeerAttach,
+    /// There is no such node, or the portal isn't this node's, or is named twice.
     Stranger,
+    /// No number of 64 bits is left for a parcel or a router.
     NumbersEnd,
+    /// A byte isn't from 0x20 to 0x7E. Only puts of printed parcels answer it.
     BadData,
+    /// Too many bytes, portals, nodes or words, or too few.
     TooMany,
-    /// Another node's thread was there first: call again. Only calls on cells answer it.
+    /// Another node's thread was there first: call again. Only [`Cell::acts`] answers it.
     Raced,
     /// A status that these calls don't answer.
     Other(u32),
@@ -70,15 +84,20 @@ impl std::error::Error for Refused {}
 /// A parcel that was got.
 #[derive(Clone, Debug, PartialEq, Eq)]
 pub struct Parcel {
+    /// How many parcels were got at this portal before it.
     pub number: u64,
+    /// Its bytes.
     pub bytes: Vec<u8>,
+    /// The portals that came with it, which are the node's now.
     pub portals: Vec<Portal>,
 }
 
 /// What a settle came to.
 #[derive(Clone, Copy, Debug, PartialEq, Eq)]
 pub struct Settled {
+    /// How many acts were taken.
     pub acts: u64,
+    /// Whether no node has an act any more: then all that was put has come to where it can be got.
     pub quiet: bool,
 }
 
@@ -103,7 +122,7 @@ pub fn first_portal(node: u8, other: u8, nodes: u8) -> Portal {
 fn got_by(
     mut call: impl FnMut(&mut [u8], &mut [Portal], &mut usize, &mut usize, &mut u64) -> u32,
 ) -> Result<Parcel, Refused> {
-    let mut bytes = vec![0; MAX_BYTES];
+    let mut bytes = vec![0; MAX_PRINTED_BYTES];
     let (mut portals, mut size, mut count, mut number) = ([NOWHERE; MAX_PORTALS], 0, 0, 0);
     loop {
         let status = call(&mut bytes, &mut portals, &mut size, &mut count, &mut number);
@@ -137,13 +156,17 @@ impl World {
         Ok(world)
     }
 
+    /// Opens a pair, whose portals are both the node's at first: `Stranger` for a node that isn't there, `NoWord`, `NumbersEnd`, `OutOfMemory`.
     pub fn open(&mut self, node: u8) -> Result<(Portal, Portal), Refused> {
         let (mut first, mut second) = (NOWHERE, NOWHERE);
         answer(unsafe { raw::ipcz_open(&mut self.0, node, &mut first, &mut second) })?;
         Ok((first, second))
     }
 
-    /// Puts a parcel of at most 256 bytes, each from 0x20 to 0x7E.
+    /// Puts a parcel of at most 65,536 bytes, with at most 8 portals of the node, and answers how many were put at the portal before it.
+    /// `OutOfMemory`, `Stranger`, `TooMany`, `SelfAttach`, `PeerAttach`, `PeerClosed` once the news has come, `NumbersEnd`.
+    ///
+    /// Portals that are sent to meet each other may travel for ever (`ipcz_portals.h`, "CIRCLES").
     pub fn put(
         &mut self,
         node: u8,
@@ -151,18 +174,18 @@ impl World {
         bytes: &[u8],
         portals: &[Portal],
     ) -> Result<u64, Refused> {
-        self.put_by(raw::ipcz_put_parcel, node, at, bytes, portals)
+        self.put_by(raw::ipcz_put_wide_parcel, node, at, bytes, portals)
     }
 
-    /// Puts a parcel of up to 65,536 bytes of any value.
-    pub fn put_wide(
+    /// Puts a parcel of at most 256 bytes, each from 0x20 to 0x7E. Refused as [`World::put`] is, and `BadData`.
+    pub fn put_printed(
         &mut self,
         node: u8,
         at: Portal,
         bytes: &[u8],
         portals: &[Portal],
     ) -> Result<u64, Refused> {
-        self.put_by(raw::ipcz_put_wide_parcel, node, at, bytes, portals)
+        self.put_by(raw::ipcz_put_parcel, node, at, bytes, portals)
     }
 
     fn put_by(
@@ -189,6 +212,7 @@ impl World {
         Ok(number)
     }
 
+    /// Gets the next parcel that has come to a portal of the node: `Empty` if none has, `PeerClosed` if none will, `Stranger`.
     pub fn get(&mut self, node: u8, at: Portal) -> Result<Parcel, Refused> {
         got_by(|bytes, portals, size, count, number| unsafe {
             raw::ipcz_get(
@@ -206,15 +230,18 @@ impl World {
         })
     }
 
+    /// Closes a portal of the node. What was put at it still comes to the other one; what comes to it is discarded. `Stranger`, `OutOfMemory`.
     pub fn close(&mut self, node: u8, at: Portal) -> Result<(), Refused> {
         answer(unsafe { raw::ipcz_close(&mut self.0, node, at) })
     }
 
+    /// Takes the node's first act that is possible, if there is one. `Stranger`, `NumbersEnd`, `OutOfMemory`.
     pub fn turn(&mut self, node: u8) -> Result<(), Refused> {
         answer(unsafe { raw::ipcz_turn(&mut self.0, node) })
     }
 
-    /// Has the nodes take turns until none has an act, or `limit` acts were taken.
+    /// Has the nodes take turns until none has an act, or `limit` acts were taken. With a limit of 0 it only looks. `NumbersEnd`, `OutOfMemory`: the
+    /// turns before it stand.
     pub fn settle(&mut self, limit: u64) -> Result<Settled, Refused> {
         let (mut acts, mut quiet) = (0, false);
         answer(unsafe { raw::ipcz_settle(&mut self.0, limit, &mut acts, &mut quiet) })?;
@@ -226,7 +253,13 @@ impl World {
         unsafe { raw::ipcz_claimed(&mut self.0) }
     }
 
-    /// The node that may use a portal now.
+    /// The number of link word `i`, if it was used; docs/PROTOCOL.md, "Link words", reads it.
+    pub fn word(&mut self, i: u32) -> Option<u64> {
+        let mut word = 0;
+        unsafe { raw::ipcz_word(&mut self.0, i, &mut word) }.then_some(word)
+    }
+
+    /// The node that may use a portal now. While it travels, and once it is closed, none may.
     pub fn holder_of(&mut self, portal: Portal) -> Option<u8> {
         let mut node = 0;
         unsafe { raw::ipcz_holder(&mut self.0, portal, &mut node) }.then_some(node)

@@ -85,8 +85,8 @@ fn calls_of_a_cell_are_refused() -> Result<(), Refused> {
     let cell = &mut both[0];
     assert_eq!(cell.open(), Err(Refused::NoWord));
     assert_eq!(cell.put(right(), b"x", &[]), Err(Refused::Stranger));
-    assert_eq!(cell.put(left(), b"\n", &[]), Err(Refused::BadData));
-    assert_eq!(cell.put_wide(left(), b"\n", &[]), Ok(0));
+    assert_eq!(cell.put_printed(left(), b"\n", &[]), Err(Refused::BadData));
+    assert_eq!(cell.put(left(), b"\n", &[]), Ok(0));
     assert_eq!(cell.put(left(), b"x", &[left()]), Err(Refused::SelfAttach));
     assert_eq!(
         (
@@ -97,6 +97,7 @@ fn calls_of_a_cell_are_refused() -> Result<(), Refused> {
         ),
         (true, false, 1, false)
     );
+    assert_eq!((cell.word(0), cell.word(1)), (Some(3), None));
     cell.close(left())?;
     assert_eq!(cell.close(left()), Err(Refused::Stranger));
     assert_eq!(cell.get(left()), Err(Refused::Stranger));

@@ -56,10 +56,13 @@ fn limits_are_refused() -> Result<(), Refused> {
     let mut world = World::new(2, 1)?;
     assert_eq!(world.open(0), Err(Refused::NoWord));
     assert_eq!(
-        world.put(0, left(), &[b'x'; 257], &[]),
+        world.put_printed(0, left(), &[b'x'; 257], &[]),
         Err(Refused::TooMany)
     );
-    assert_eq!(world.put(0, left(), b"\n", &[]), Err(Refused::BadData));
+    assert_eq!(
+        world.put_printed(0, left(), b"\n", &[]),
+        Err(Refused::BadData)
+    );
     assert_eq!(
         world.put(0, left(), &[], &[left()]),
         Err(Refused::SelfAttach)
@@ -69,17 +72,20 @@ fn limits_are_refused() -> Result<(), Refused> {
         Err(Refused::PeerAttach)
     );
     assert_eq!(world.turn(2), Err(Refused::Stranger));
-    assert_eq!(world.claimed(), 1);
+    assert_eq!(
+        (world.claimed(), world.word(0), world.word(1)),
+        (1, Some(3), None)
+    );
     Ok(())
 }
 
 #[test]
-fn wide_parcels_have_any_bytes() -> Result<(), Refused> {
+fn parcels_have_any_bytes() -> Result<(), Refused> {
     let mut world = World::new(2, 1)?;
     let bytes: Vec<u8> = (0..65_536_u32).map(|i| (i % 256) as u8).collect();
-    assert_eq!(world.put_wide(0, left(), &bytes, &[]), Ok(0));
+    assert_eq!(world.put(0, left(), &bytes, &[]), Ok(0));
     assert_eq!(
-        world.put_wide(0, left(), &[0; 65_537], &[]),
+        world.put(0, left(), &[0; 65_537], &[]),
         Err(Refused::TooMany)
     );
     world.settle(1000)?;

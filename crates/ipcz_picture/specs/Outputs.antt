@@ -62,12 +62,17 @@ status (Err faults.OutOfMemory) = 3
 
 -- the line that arguments print which ask for no part
 abbrev pub usage : List ℕ
-usage = codes "usage: ipcz_draw [FROM TO]" ++ 10 ∷ []
+usage = codes "usage: ipcz_draw [--help] [FROM TO] < TRANSCRIPT" ++ 10 ∷ []
 
--- the usage line was written, with the status 2, or after a failed write some front of it, with the status 1
-abbrev pub WritesUsage : Option (List ℕ) → Option (List ℕ) → Bool → ℕ → Type 0
-WritesUsage old new false status = (status ≡ 2) × Appends old new usage
-WritesUsage old new true status = (status ≡ 1) × AppendsFront old new usage
+-- what the program is for
+abbrev pub help : List ℕ
+help = usage ++ 10 ∷ codes "Reads a transcript of ipcz_run from standard input, and writes a picture of it, an SVG, to standard output: of all its lines, or of" ++ 10 ∷
+    codes "those from line FROM to line TO, which are counted from 1. Ends with status 2, and names the line, if one is none of a transcript." ++ 10 ∷ []
+
+-- a text was written, with this status, or after a failed write some front of it, with the status 1
+abbrev pub Writes : List ℕ → ℕ → Option (List ℕ) → Option (List ℕ) → Bool → ℕ → Type 0
+Writes text wanted old new false status = (status ≡ wanted) × Appends old new text
+Writes text wanted old new true status = (status ≡ 1) × AppendsFront old new text
 
 -- a part of a transcript was drawn or not, and the status is that of its ending: what was read and written, and which device has failed, are as the
 -- ending says

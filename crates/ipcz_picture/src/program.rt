@@ -1,7 +1,7 @@
 //! The program, but for its arguments and devices.
 
 ghost use Rattle.std.specs.Prelude.{◌≡◌, false, Ok, OnErr, Option};
-ghost use Rattle.ipcz_picture.specs.Outputs.{status, usage, Draws, WritesUsage};
+ghost use Rattle.ipcz_picture.specs.Outputs.{help, status, usage, Draws, Writes};
 
 use crate::ending::Ending;
 use crate::output::draw;
@@ -12,15 +12,28 @@ use std::env;
 use std::env::Env;
 use std::io::{ErrorKind, Read, Write};
 
-const USAGE: &[u8] = b"usage: ipcz_draw [FROM TO]\n";
+const USAGE: &[u8] = b"usage: ipcz_draw [--help] [FROM TO] < TRANSCRIPT\n";
+
+const HELP: &[u8] =
+    b"usage: ipcz_draw [--help] [FROM TO] < TRANSCRIPT\n\nReads a transcript of ipcz_run from standard input, and writes a picture of it, an SVG, to standard output: of all its lines, or of\nthose from line FROM to line TO, which are counted from 1. Ends with status 2, and names the line, if one is none of a transcript.\n";
 
 /// What the arguments of the program ask for.
 #[derive(Clone, Copy, Debug, PartialEq, Eq)]
 pub enum Asked {
     /// A picture of a part, or of all if there are no arguments.
     Picture(Option<Part>),
+    /// There is the one word `--help` or `-h`: what the program does.
+    Help,
     /// How the program is called.
     Usage,
+}
+
+// What two words ask for: a part, if they are the numbers of its first line and its last one.
+fn asked_part(from: &[u8], to: &[u8]) -> Asked {
+    match part_of(from, to) {
+        Some(part) => Asked::Picture(Some(part)),
+        None => Asked::Usage,
+    }
 }
 
 /// What the arguments of the program after its name ask for, or that no memory was found to look at them.
@@ -36,12 +49,10 @@ pub fn asked_for(rt: &(impl Env + Alloc)) -> Result<Asked, AllocError> {
     let Some(from) = arguments.next() else {
         return Ok(Asked::Picture(None));
     };
-    let (Some(to), None) = (arguments.next(), arguments.next()) else {
-        return Ok(Asked::Usage);
-    };
-    match part_of(from.as_bytes(), to.as_bytes()) {
-        Some(part) => Ok(Asked::Picture(Some(part))),
-        None => Ok(Asked::Usage),
+    match (arguments.next(), arguments.next()) {
+        (None, _) if from.as_str() == "--help" || from.as_str() == "-h" => Ok(Asked::Help),
+        (Some(to), None) => Ok(asked_part(from.as_bytes(), to.as_bytes())),
+        _ => Ok(Asked::Usage),
     }
 }
 
@@ -58,13 +69,13 @@ fn status_of(ending: Result<Ending, Fault>) -> u8
     }
 }
 
-// Writes the usage line, and gives the status: 2, or 1 if a write failed.
-fn write_usage<W: Write>(writer: &mut Device<W>) -> u8
+// Writes a text, and gives the status, or 1 if a write failed.
+fn write_text<W: Write>(writer: &mut Device<W>, text: &[u8], status: u8) -> u8
     requires { writer.old.failed ≡ false }
-    ensures { WritesUsage (W.contents writer.old.inner) (W.contents writer.new.inner) writer.new.failed result }
+    ensures { Writes text.now status (W.contents writer.old.inner) (W.contents writer.new.inner) writer.new.failed result }
 {
-    match write_whole(writer, USAGE) {
-        Ok(()) => 2,
+    match write_whole(writer, text) {
+        Ok(()) => status,
         Err(_) => 1,
     }
 }
@@ -87,8 +98,8 @@ fn draw_to_status<R: Read, W: Write>(
 /// The program but for its arguments and devices, which it is given: it draws the transcript that the reader gives, and
 /// answers the status.
 ///
-/// `asked` is what `asked_for` answered. If the usage is asked for, its line is written, nothing is read, and the status is
-/// 2, or 1 if a write failed. If no memory was found to look at the arguments, nothing is read or written, and the
+/// `asked` is what `asked_for` answered. If the help is asked for, it is written, nothing is read, and the status is 0; if the usage is, its line
+/// is written, nothing is read, and the status is 2; and 1 if a write failed. If no memory was found to look at the arguments, nothing is read or written, and the
 /// status is 3. Else the status is 0 if the transcript, or the part that is asked for, was drawn, 1 if a read or a write
 /// failed, 2 if a line was refused, and 3 if no memory was found.
 pub fn run_program<R: Read, W: Write>(
@@ -101,14 +112,18 @@ pub fn run_program<R: Read, W: Write>(
     requires writer_works { writer.old.failed ≡ false }
     ensures picture { (part : Option Part) → asked ≡ Ok (Asked.Picture part) → Draws part (R.remaining reader.old.inner) (R.remaining reader.new.inner)
         (W.contents writer.old.inner) (W.contents writer.new.inner) reader.new.failed writer.new.failed result }
+    ensures help { asked ≡ Ok Asked.Help →
+        Writes help 0 (W.contents writer.old.inner) (W.contents writer.new.inner) writer.new.failed result }
     ensures usage { asked ≡ Ok Asked.Usage →
-        WritesUsage (W.contents writer.old.inner) (W.contents writer.new.inner) writer.new.failed result }
+        Writes usage 2 (W.contents writer.old.inner) (W.contents writer.new.inner) writer.new.failed result }
+    ensures unread_help { asked ≡ Ok Asked.Help → reader.new ≡ reader.old }
     ensures unread { asked ≡ Ok Asked.Usage → reader.new ≡ reader.old }
     ensures no_memory { OnErr asked ((result ≡ 3) × (reader.new ≡ reader.old) × (writer.new ≡ writer.old)) }
 {
     match asked {
         Ok(Asked::Picture(part)) => draw_to_status(alloc, part, reader, writer),
-        Ok(Asked::Usage) => write_usage(writer),
+        Ok(Asked::Help) => write_text(writer, HELP, 0),
+        Ok(Asked::Usage) => write_text(writer, USAGE, 2),
         Err(AllocError) => 3,
     }
 }

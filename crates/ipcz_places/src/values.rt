@@ -20,7 +20,7 @@ fn is_space(byte: u8) -> bool
 }
 
 // The first offset from one on at which no space stands, or the text's end.
-fn behind_spaces(text: &[u8], from: usize) -> usize
+pub(crate) fn behind_spaces(text: &[u8], from: usize) -> usize
     requires { from ≤ length text.now }
     ensures forward { (from ≤ result) × (result ≤ length text.now) }
     ensures begins { result < length text.now → BeginsIn text.now result }

@@ -1,5 +1,5 @@
 -- What is written of some bytes.
-use Rattle.std.specs.Prelude.{ℕ, ◌≡◌, ◌+◌, List, [], ◌∷◌, ◌++◌, codes, map, length, Some}
+use Rattle.std.specs.Prelude.{ℕ, ◌≡◌, ◌≤◌, ◌+◌, List, [], ◌∷◌, ◌++◌, codes, map, length, Some}
 use Rattle.std.specs.Prelude.{Ok, Err}
 use Rattle.std.specs.Fmt.{decimal}
 use Rattle.serde_json.specs.Data.{Data}
@@ -13,7 +13,7 @@ use Rattle.ipcz_report.specs.declared.verdict.Verdict.{Verdict}
 use Rattle.ipcz_report.specs.declared.verdict.Verdict.TheVariants as verdicts
 use Rattle.ipcz_report.specs.declared.wrong.Fault.{Fault}
 use Rattle.ipcz_report.specs.Faults.{AreFaultsOf}
-use Rattle.ipcz_report.specs.Remarks.{place_text, remarks_text}
+use Rattle.ipcz_report.specs.Remarks.{remarks_text}
 
 -- ---- a script
 
@@ -38,9 +38,9 @@ IsValidText input script text = (remarks : List Remark) × (map (λ r. r.number)
 abbrev pub long_text : List ℕ
 long_text = line (codes "line 1, column 1: the script is too long; expected at most 1048576 bytes")
 
--- a line with the place at which the bytes are no JSON text
-abbrev pub IsJsonText : List ℕ → Type 0
-IsJsonText text = (row : ℕ) × (column : ℕ) × (words : List ℕ) × (text ≡ place_text row column 0 words)
+-- a line with the place, within the bytes or at their end, at which they are no JSON text
+abbrev pub IsJsonText : List ℕ → List ℕ → Type 0
+IsJsonText input text = (remark : Remark) × (remark.number ≡ 0) × (remark.offset ≤ length input) × (text ≡ remarks_text input (remark ∷ []))
 
 -- a line for each fault, with its number
 abbrev pub TellsAll : List Fault → List Remark → Type 0
@@ -54,7 +54,7 @@ IsShapeText input first text = (d : Data) × IsJson input (Some d) × (f : Fault
 -- what is written of bytes that are no script, by why they are none
 abbrev pub IsRefusedText : List ℕ → ScriptFault → List ℕ → Type 0
 IsRefusedText input TooLong text = text ≡ long_text
-IsRefusedText input NotJson text = IsJsonText text
+IsRefusedText input NotJson text = IsJsonText input text
 IsRefusedText input (BadShape n) text = IsShapeText input n text
 IsRefusedText input OutOfMemory text = ⊥
 

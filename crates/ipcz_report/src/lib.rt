@@ -4,6 +4,7 @@
 
 mod faults;
 mod judging;
+mod no_json;
 mod outline;
 pub mod program;
 mod remark;

@@ -26,8 +26,8 @@ fn push_number(out: &mut Vec<u8>, number: usize) -> io::Result<()>
     write!(out, "command {number}: ")
 }
 
-/// Adds a line with its place, and the number of a command.
-pub fn push_line(
+// Adds a line with its place, and the number of a command.
+fn push_line(
     out: &mut Vec<u8>,
     line: usize,
     column: usize,

@@ -6,13 +6,14 @@ ghost use Rattle.ipcz_script.specs.declared.script_fault.ScriptFault.TheVariants
 ghost use Rattle.ipcz_report.specs.Reports.{long_text, numbers, valid_line, IsJsonText, IsRefusedText, IsReport, IsShapeText, IsValidText, TellsAll};
 
 use crate::faults::{faults_of, least_words, nodes_in};
+use crate::no_json::json_remark;
 use crate::outline::{Outline, outline_of};
-use crate::remark::{Remark, push_line, push_remarks};
+use crate::remark::{Remark, push_remarks};
 use crate::telling::push_command;
 use crate::verdict::Verdict;
 use crate::words::{Bounds, push_wrong};
 use crate::wrong::Fault;
-use ipcz_places::excerpt;
+use ipcz_places::push_excerpt;
 use ipcz_script::{Command, OpenedNames, Script, ScriptFault, read_script};
 use serde_json::Value;
 use std::alloc::{AllocError, Global};
@@ -106,66 +107,13 @@ fn long_text(alloc: Global) -> Result<Vec<u8>, AllocError>
     Ok(text)
 }
 
-// The offset of a line and a column, or the text's end.
-fn offset_at(text: &[u8], line: usize, column: usize) -> usize {
-    let mut lines_left = line;
-    for i in 0..text.len() {
-        if lines_left <= 1 {
-            return i.saturating_add(column.saturating_sub(1));
-        }
-        if text[i] == b'\n' {
-            lines_left -= 1;
-        }
-    }
-    text.len()
-}
-
-// Writes what is said of bytes that are no JSON text, by what stands at the place and whether they end too early.
-fn push_json(out: &mut Vec<u8>, input: &[u8], shown: &[u8], is_cut: bool) -> io::Result<()> {
-    if input.is_empty() {
-        return write!(
-            out,
-            "the script is empty; expected an object with the members nodes, words and commands"
-        );
-    }
-    if is_cut {
-        return write!(
-            out,
-            "the script ends too early; expected what is still open"
-        );
-    }
-    out.write_all(shown)?;
-    write!(
-        out,
-        " is no JSON here; expected a value, a comma or a bracket that fits"
-    )
-}
-
-// The line and the column at which some bytes are no JSON text, and what is said of it.
-fn json_fault(alloc: Global, input: &[u8]) -> Result<(usize, usize, Vec<u8>), AllocError> {
-    let Err(error) = Value::from_slice(alloc, input) else {
-        return Err(AllocError);
-    };
-    if error.is_memory() {
-        return Err(AllocError);
-    }
-    let (line, column) = (error.line().max(1), error.column().max(1));
-    let shown = excerpt(input, offset_at(input, line, column));
-    let mut words = Vec::new(alloc);
-    let Ok(()) = push_json(&mut words, input, shown, error.is_eof()) else {
-        return Err(AllocError);
-    };
-    Ok((line, column, words))
-}
-
 fn json_text(alloc: Global, input: &[u8]) -> Result<Vec<u8>, AllocError>
-    ensures { IfOk result (λ text. IsJsonText text.items) }
+    ensures { IfOk result (λ text. IsJsonText input.now text.items) }
 {
-    let (line, column, words) = json_fault(alloc, input)?;
+    let mut remarks = Vec::new(alloc);
+    remarks.push(json_remark(alloc, input)?)?;
     let mut text = Vec::new(alloc);
-    let Ok(()) = push_line(&mut text, line, column, 0, &words) else {
-        return Err(AllocError);
-    };
+    push_remarks(&mut text, input, &remarks)?;
     Ok(text)
 }
 
@@ -180,8 +128,10 @@ fn told_fault(
     ensures { IfOk result (λ remark. remark.number ≡ fault.number) }
 {
     let offset = parts.offset_of(alloc, input, fault)?;
+    let mut shown = Vec::new(alloc);
+    push_excerpt(&mut shown, input, offset)?;
     let mut words = Vec::new(alloc);
-    let Ok(()) = push_wrong(&mut words, bounds, excerpt(input, offset), fault.wrong) else {
+    let Ok(()) = push_wrong(&mut words, bounds, &shown, fault.wrong) else {
         return Err(AllocError);
     };
     Ok(Remark {

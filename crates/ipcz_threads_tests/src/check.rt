@@ -68,48 +68,99 @@ fn first_other(alloc: Global, rows: &[(&str, &str)], status: u8) -> Option<usize
     None
 }
 
-const NO_JSON: [(&str, &str); 9] = [
+const NO_JSON: [(&str, &str); 21] = [
     (
         "",
         "line 1, column 1: the script is empty; expected an object with the members nodes, words and commands\n",
     ),
     (
         "{\"nodes\":2,\n\"words\":4",
-        "line 2, column 9: the script ends too early; expected what is still open\n",
+        "line 2, column 10: the script ends too early; expected }, which closes the { of line 1, column 1\n",
     ),
     (
         "// why\n{}",
-        "line 1, column 1: // is no JSON here; expected a value, a comma or a bracket that fits\n",
+        "line 1, column 1: // is no JSON here; expected a value\n",
     ),
     (
         "{'nodes':2}",
-        "line 1, column 2: 'nodes' is no JSON here; expected a value, a comma or a bracket that fits\n",
+        "line 1, column 2: 'nodes' is no JSON here; expected the name of a member in quotes\n",
     ),
     (
         "{\"nodes\":2 \"words\":4}",
-        "line 1, column 12: \"words\" is no JSON here; expected a value, a comma or a bracket that fits\n",
+        "line 1, column 12: \"words\" is no JSON here; expected a comma, or }, which closes the { of line 1, column 1\n",
     ),
     (
         "[1,]",
-        "line 1, column 4: ] is no JSON here; expected a value, a comma or a bracket that fits\n",
+        "line 1, column 4: ] is no JSON here; expected a value\n",
     ),
     (
         "{}\n{}",
-        "line 2, column 1: {} is no JSON here; expected a value, a comma or a bracket that fits\n",
+        "line 2, column 1: {} stands behind the script; expected its end\n",
     ),
     (
         "\n\n[nul]",
-        "line 3, column 2: nul is no JSON here; expected a value, a comma or a bracket that fits\n",
+        "line 3, column 2: nul is no JSON here; expected a value\n",
     ),
     (
         "[\"a\",\n \"\\ud800\"]",
-        "line 2, column 2: \"\\ud800\" is no JSON here; expected a value, a comma or a bracket that fits\n",
+        "line 2, column 3: \\ud800 is half of a surrogate pair; expected both halves\n",
+    ),
+    (
+        "{\"commands\":[[\"show\"]\n}\n",
+        "line 2, column 1: } doesn't fit; expected ], which closes the [ of line 1, column 13\n",
+    ),
+    (
+        "{\"a\" 1}",
+        "line 1, column 6: 1 is no JSON here; expected a colon\n",
+    ),
+    (
+        "[[\"settle\",1e400]]",
+        "line 1, column 12: 1e400 is too large a number; expected one below 1e308\n",
+    ),
+    (
+        "[\"a\tb\"]",
+        "line 1, column 4: \\x09 stands in a text; expected an escape such as \\u0009\n",
+    ),
+    (
+        "[\"a\nb\"]",
+        "line 1, column 2: \"a.. has no quotation mark at its end; expected one on this line\n",
+    ),
+    (
+        "[\"abc",
+        "line 1, column 2: \"abc has no quotation mark at its end; expected one\n",
+    ),
+    (
+        "[\"\\q\"]",
+        "line 1, column 3: \\q has no meaning in a text; expected \\ and one of \" \\ / b f n r t u\n",
+    ),
+    (
+        "[\"\\u12\"]",
+        "line 1, column 3: \\u has no four hex digits; expected some such as \\u0041\n",
+    ),
+    (
+        "\u{feff}{}",
+        "line 1, column 1: \\ufeff is a byte order mark; expected a script without one\n",
+    ),
+    (
+        "[\u{202e},\u{1f600}]",
+        "line 1, column 2: \\u202e is no JSON here; expected a value\n",
+    ),
+    (
+        "[\u{1f600}]",
+        "line 1, column 2: \\ud83d\\ude00 is no JSON here; expected a value\n",
+    ),
+    (
+        "[[[[[[[[[[[[[[[[[[[[[[[[[[[[[[[[[[[[[[[[[[[[[[[[[[[[[[[[[[[[[[[[[[[[[[[[[[[[[[[[[[[[[[[[[[[[[[[[[[[[[[[[[[[[[[[[[[[[[[[[[[[[[[[[",
+        "line 1, column 128: [ is more than 127 levels deep; expected fewer\n",
     ),
 ];
 
 #[test]
 fn tells_where_bytes_are_no_json(rt: HostRuntime) {
     assert_eq!(rt; first_other(rt.alloc(), &NO_JSON, 2), None);
+    let no_character = b"[\"\xe9\"]";
+    let words = "line 1, column 3: \\xe9 is no character in UTF-8; expected one\n";
+    assert!(rt; says(rt.alloc(), no_character, 2, words));
 }
 
 const NO_HEAD: [(&str, &str); 8] = [
@@ -131,7 +182,7 @@ const NO_HEAD: [(&str, &str); 8] = [
     ),
     (
         "{\"nodes\":2,\"words\":4,\"commands\":{\"a\":\n1}}",
-        "line 1, column 33: commands is {\"a\":; expected a list of commands\n",
+        "line 1, column 33: commands is {\"a\":..; expected a list of commands\n",
     ),
     (
         "{\"nodes\":2,\"words\":4,\"comands\":[]}",
@@ -187,11 +238,11 @@ const NO_COMMANDS: [(&str, &str); 10] = [
     ),
     (
         "{\"nodes\":2,\"words\":4,\"commands\":[[\"put\",\"0>1\",[\"01234567890123456789012345678901234567890123456789\"]]]}",
-        "line 1, column 47: command 1: [\"01234567890123456789012345678901234567 is no data; expected a text in quotes\n",
+        "line 1, column 47: command 1: [\"01234567890123456789012345678901234567.. is no data; expected a text in quotes\n",
     ),
     (
         "{\"nodes\":2,\"words\":4,\"commands\":[[\"get\",\"01234567890123456789012345678901234567éé\"]]}",
-        "line 1, column 41: command 1: \"01234567890123456789012345678901234567 is no name; expected 1 to 16 letters, digits, _ or > in quotes\n",
+        "line 1, column 41: command 1: \"01234567890123456789012345678901234567.. is no name; expected 1 to 16 letters, digits, _ or > in quotes\n",
     ),
 ];
 

@@ -568,8 +568,9 @@ fn reads_nothing(
 
 #[test]
 fn reads_nothing_where_the_usage_is_asked_for(rt: HostRuntime) {
-    let usage = b"usage: ipcz_draw [FROM TO]\n";
-    assert!(rt; reads_nothing(rt.alloc(), Ok(Asked::Usage), 9, 2, usage));
+    let usage = b"usage: ipcz_draw [--help] [FROM TO] < TRANSCRIPT\n";
+    assert!(rt; reads_nothing(rt.alloc(), Ok(Asked::Usage), 20, 2, usage));
+    assert!(rt; reads_nothing(rt.alloc(), Ok(Asked::Help), 2, 1, b"usage:"));
     assert!(rt; reads_nothing(rt.alloc(), Ok(Asked::Usage), 2, 1, b"usage:"));
     assert!(rt; reads_nothing(rt.alloc(), Err(AllocError), 9, 3, b""));
 }
