@@ -86,7 +86,7 @@ settle-quiet limit w v (Err why) ok acts e = cc
 
 -- a get at rest
 pub empty-delivered : (w v : World) (n : ℕ) (at : End) (reply : Reply) → StepFirst w (Get n at) reply v → (a : Account) → Keeps w a →
-    IsQuiet w → w.claimed < w.size → reply ≡ Refused refusals.Empty → IsDelivered a at
+    IsQuiet w → w.claimed < a.words → reply ≡ Refused refusals.Empty → IsDelivered a at
 empty-delivered w v n at reply s a k quiet left e =
     a_rest_delivers w v a n at k quiet left (subst (λ r. StepFirst w (Get n at) r v) e s)
 
@@ -95,8 +95,8 @@ get-quiet w v n at reply s quiet = each_get_stays_quiet w v n at reply quiet s
 
 -- the same of results
 pub made-promised : (nodes words : ℕ) → IsWithinLimits nodes words → (r : Result World Refusal) → IfOk r (λ w. w ≡ new_world nodes words) →
-    IfOk r (λ w. Keeps w (start nodes))
-made-promised nodes words limits (Ok w) is = subst (λ u. Keeps u (start nodes)) (sym is) (starts_promised nodes words limits)
+    IfOk r (λ w. Keeps w (start nodes words))
+made-promised nodes words limits (Ok w) is = subst (λ u. Keeps u (start nodes words)) (sym is) (starts_promised nodes words limits)
 made-promised nodes words limits (Err e) is = tt
 
 pub result-promised : {V : Type 0} (w v : World) (steps : List Step) (items : V → List Reply) (r : Result V Refusal) →
@@ -108,10 +108,10 @@ result-promised w v steps items (Err e) is = tt
 -- a world that was made, and a run in it
 module _ (nodes words : ℕ) (limits : IsWithinLimits nodes words) (w v : World) (steps : List Step) (replies : List Reply)
     (made : w ≡ new_world nodes words) (taken : AreSteps w steps replies v) where
-  pub play-promised : (c : Account) × MayRun (start nodes) steps replies c × IsInOrder c × Keeps v c
+  pub play-promised : (c : Account) × MayRun (start nodes words) steps replies c × IsInOrder c × Keeps v c
   play-promised =
-      let first : Keeps w (start nodes) = subst (λ u. Keeps u (start nodes)) (sym made) (starts_promised nodes words limits) in
-      let (c, may, kept) = run-promised w v steps replies taken (start nodes) first in
+      let first : Keeps w (start nodes words) = subst (λ u. Keeps u (start nodes words)) (sym made) (starts_promised nodes words limits) in
+      let (c, may, kept) = run-promised w v steps replies taken (start nodes words) first in
       (c, may, in-order v c kept, kept)
 
   pub play-theorem : HasTheorem steps replies v

@@ -14,3 +14,4 @@ mod Start
 mod Tests
 mod WetCalls
 mod WetSteps
+mod WordCount

@@ -198,7 +198,7 @@ module _ (nodes words : ℕ) (limits : IsWithinLimits nodes words) where
       go (Some p) A q f = let is = proper e.pair p q in let same : p.0 ≡ n = cc in omega (arith, is.less, is.below, same)
       go (Some p) B q f = let is = proper e.pair p q in let same : p.1 ≡ n = cc in omega (arith, is.below, same)
 
-  pub starts_standing : Stands (new_world nodes words) (start nodes)
+  pub starts_standing : Stands (new_world nodes words) (start nodes words)
   unfolding new_world
   starts_standing = record {
     books = no_books;

@@ -116,7 +116,7 @@ no-order = λ c (a1, (h, e1), e2). neither h
         memory : SelfAttach ≡ OutOfMemory → ⊥
         memory q = cc
 
-no-waiting : (c : Account) → MayRun (start 2) (Put 0 left (97 ∷ []) [] ∷ []) (replies.Put 0 ∷ []) c → IsDelivered c right → ⊥
+no-waiting : (c : Account) → MayRun (start 2 8) (Put 0 left (97 ∷ []) [] ∷ []) (replies.Put 0 ∷ []) c → IsDelivered c right → ⊥
 no-waiting = λ c (a1, (p1, e1), e2) (all, o).
     empty (sym (ap (λ (a : Account). a.got right) e2 ∙ ap (λ (a : Account). a.got right) e1) ∙ all
     ∙ ap (λ (a : Account). a.put left) e2 ∙ ap (λ (a : Account). a.put left) e1)

@@ -70,6 +70,7 @@ IsWetWhileWordsLast w = w.claimed < w.size → IsWet w
 pub record Keeps (w : World) (a : Account) : Type 0 where
   pub stands : Stands w a
   pub wet : IsWetWhileWordsLast w
+  pub words : a.words ≡ w.size
 
 -- a step gets a reply that the plain machine may give, and the accounts go on as it says
 abbrev pub IsPromised : World → Account → Step → Reply → World → Type 0
@@ -83,7 +84,7 @@ StepsKeepThePromise =
 -- law: if nothing waits and words are left, a get is Empty only if all that the peer has put was got, and the peer isn't closed
 abbrev pub RestDelivers : Type 0
 RestDelivers =
-    (w v : World) (a : Account) (n : ℕ) (at : End) → Keeps w a → IsQuiet w → w.claimed < w.size → StepAny w (Get n at) (Refused Empty) v →
+    (w v : World) (a : Account) (n : ℕ) (at : End) → Keeps w a → IsQuiet w → w.claimed < a.words → StepAny w (Get n at) (Refused Empty) v →
     IsDelivered a at
 
 -- law: and then each portal that was dropped is closed

@@ -37,6 +37,8 @@ use Rattle.ipcz_world.specs.declared.step.Settled.TheVariants as settles
 pub record Account : Type 0 where
   -- how many nodes there are: they have the numbers below it
   pub nodes : ℕ
+  -- how many words it was made with: each pair takes one, and nodes take more for themselves
+  pub words : ℕ
   -- which pairs of portals there are, by their numbers
   pub opened : ℕ → Bool
   -- the node whose callers hold the portal: one at most. Nobody holds one that is closed, or that travels in a parcel
@@ -72,9 +74,10 @@ first_holder (Some (i, j)) A = Some i
 first_holder (Some (i, j)) B = Some j
 
 -- the accounts at the start
-abbrev pub start : ℕ → Account
-start nodes = record {
+abbrev pub start : ℕ → ℕ → Account
+start nodes words = record {
   nodes = nodes;
+  words = words;
   opened = λ pair. nat_lt pair (length (first_pairs nodes));
   holder = λ e. first_holder (slice_get (first_pairs nodes) e.pair) e.side;
   put = λ e. [];
@@ -227,8 +230,8 @@ abbrev pub IsInOrder : Account → Type 0
 IsInOrder a = (e : End) → take (length (a.got e)) (a.put (peer e)) ≡ a.got e
 
 -- Rest. A settle that answers Settled tells that nothing waits (`ensures quiet`); it stays so while there are only gets. Then, and while words are
--- left, a get is Empty only if this is so (`ensures delivered`): all that was put at the peer was got, and the peer isn't closed. So at rest gets
--- give all that was put, and then Empty, or PeerClosed if the peer is closed
+-- left (`World::claimed` is below `words`), a get is Empty only if this is so (`ensures delivered`): all that was put at the peer was got, and the
+-- peer isn't closed. So at rest gets give all that was put, and then Empty, or PeerClosed if the peer is closed
 abbrev pub IsDelivered : Account → End → Type 0
 IsDelivered a at = (a.got at ≡ a.put (peer at)) × (a.closed (peer at) ≡ false)
 

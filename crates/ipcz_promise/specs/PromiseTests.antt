@@ -31,7 +31,7 @@ parcel bytes ends = record { bytes = bytes; ends = ends }
 
 -- these steps never get these replies
 abbrev pub Refuses : List Step → List Reply → Type 0
-Refuses steps replies = (c : Account) → MayRun (start 2) steps replies c → ⊥
+Refuses steps replies = (c : Account) → MayRun (start 2 8) steps replies c → ⊥
 
 pub record PromiseRefuses : Type 0 where
   -- the first parcel is lost or overtaken: the get gives the second one
@@ -69,10 +69,10 @@ pub record PromiseRefuses : Type 0 where
   -- a stranger is told what else is wrong with its put
   pub order : Refuses (Put 1 left (97 ∷ []) (left ∷ []) ∷ []) (replies.Refused SelfAttach ∷ [])
   -- at rest, Empty though a parcel waits
-  pub waiting : (c : Account) → MayRun (start 2) (Put 0 left (97 ∷ []) [] ∷ []) (replies.Put 0 ∷ []) c → IsDelivered c right → ⊥
+  pub waiting : (c : Account) → MayRun (start 2 8) (Put 0 left (97 ∷ []) [] ∷ []) (replies.Put 0 ∷ []) c → IsDelivered c right → ⊥
 
 -- and what it allows: a parcel is got, and then nothing is left
 abbrev pub PromiseAllows : Type 0
 PromiseAllows =
-    (c : Account) × MayRun (start 2) (Put 0 left (97 ∷ []) [] ∷ Get 1 right ∷ Get 1 right ∷ [])
+    (c : Account) × MayRun (start 2 8) (Put 0 left (97 ∷ []) [] ∷ Get 1 right ∷ Get 1 right ∷ [])
     (replies.Put 0 ∷ replies.Got 0 (parcel (97 ∷ []) []) ∷ replies.Refused Empty ∷ []) c

@@ -22,7 +22,7 @@ use std::alloc::Global;
 /// `new_world(alloc, 2, 8)` has the pair 0: node 0 holds its portal `A`, node 1 its portal `B`.
 pub fn new_world(alloc: Global, nodes: u8, words: u32) -> Result<World, Refusal>
     requires limits { IsWithinLimits nodes words }
-    ensures promise { IfOk result (λ w. Keeps w (start nodes)) }
+    ensures promise { IfOk result (λ w. Keeps w (start nodes words)) }
     ensures why { IfErr result (λ e. e ≡ Refusal.OutOfMemory) }
 {
     World::new(alloc, nodes, words)
@@ -91,14 +91,14 @@ pub fn put_wide(
 /// Gets the next parcel at a portal: the reply is `Got` with its number and the parcel. The caller then holds the portals in it.
 ///
 /// Refused `Stranger` if the node's callers don't hold the portal; `PeerClosed` if the peer is closed and all that it put was got; and `Empty`
-/// if none has come yet. If nothing waits, as after a settle that answered `Settled`, and words are left, `Empty` says that all was got and that
-/// the peer isn't closed; and a get leaves it so that nothing waits.
+/// if none has come yet. If nothing waits, as after a settle that answered `Settled`, and words are left (`World::claimed` is below the `words` that
+/// the world was made with), `Empty` says that all was got and that the peer isn't closed; and a get leaves it so that nothing waits.
 ///
 /// After `put(&mut world, 0, left, bytes, ends)` and a settle, `get(&mut world, 1, right)` gives `Got` with number 0 and those lists, if `right` is the
 /// peer of `left`.
 pub fn get(world: &mut World, node: u8, at: End) -> Reply
     ensures promise { (a : Account) → Keeps world.old a → (c : Account) × May a (Step.Get node at) result c × Keeps world.new c }
-    ensures delivered { (a : Account) → Keeps world.old a → IsQuiet world.old → world.old.claimed < world.old.size →
+    ensures delivered { (a : Account) → Keeps world.old a → IsQuiet world.old → world.old.claimed < a.words →
         result ≡ Reply.Refused Refusal.Empty → IsDelivered a at }
     ensures quiet { IsQuiet world.old → IsQuiet world.new }
 {
@@ -173,7 +173,7 @@ pub fn play(
     steps: &[Step],
 ) -> Result<(Vec<Reply>, World), Refusal>
     requires limits { IsWithinLimits nodes words }
-    ensures promise { IfOk result (λ played. (c : Account) × MayRun (start nodes) steps.now played.0.items c × IsInOrder c × Keeps played.1 c) }
+    ensures promise { IfOk result (λ played. (c : Account) × MayRun (start nodes words) steps.now played.0.items c × IsInOrder c × Keeps played.1 c) }
     ensures theorem { IfOk result (λ played. HasTheorem steps.now played.0.items played.1) }
     ensures why { IfErr result (λ e. e ≡ Refusal.OutOfMemory) }
 {

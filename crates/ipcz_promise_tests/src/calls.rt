@@ -54,7 +54,7 @@ fn is_refused(reply: &Reply, want: Refusal) -> bool {
     matches!(reply, Reply::Refused(why) if *why == want)
 }
 
-// Whether what is put at a portal is got at its peer, after the six acts of a lone parcel, with the portal in it; and then nothing is left.
+// Whether what is put at a portal is got at its peer, after the six acts of a lone parcel; and then a get is Empty, while words are left.
 fn carries(alloc: Global) -> Result<bool, Refusal> {
     let mut world = new_world(alloc, 2, 8)?;
     let opened = open(&mut world, 0);
@@ -72,6 +72,7 @@ fn carries(alloc: Global) -> Result<bool, Refusal> {
         matches!(opened, Reply::Opened(a, b) if a == THIRD && b == FOURTH)
             && number == 0
             && settled == Settled::Settled { after: 6 }
+            && world.claimed() == 2
             && is_got(&got, 0, b"hello", &[])
             && is_refused(&empty, Refusal::Empty),
     )
