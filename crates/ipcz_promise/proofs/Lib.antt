@@ -1,6 +1,8 @@
 -- Each step keeps the promise (specs/Promise): what books, holders and words tell of the accounts; and what a caller's own calls come to.
-mod CallRuns
 mod CallPromises
+mod CallRuns
+mod DroppedParcels
+mod GoingOn
 mod HolderOf
 mod Holders
 mod Inverting

@@ -1,12 +1,12 @@
 -- Each step keeps it that the ends whose closes are pending lie in items that were put for closed ends, and that these never got.
-use Rattle.std.specs.Prelude.{◌≡◌, ◌⊎◌, ◌≤◌, ◌<◌, ◌+◌, ℕ, zero, suc, Bool, true, false, cond, nat_eq, nat_lt, Option, Some, None, List, [], ◌∷◌, ◌++◌}
+use Rattle.std.specs.Prelude.{◌≡◌, ◌⊎◌, ◌≤◌, ◌<◌, ◌+◌, ℕ, Bool, true, false, cond, nat_eq, nat_lt, Option, Some, None, List, [], ◌∷◌, ◌++◌}
 use Rattle.std.specs.Prelude.{length, slice_get, refl}
 use Rattle.std.proofs.Common.{arith, ap, subst, ◌∙◌, sym, inl, inr}
 use Rattle.std.proofs.lemmas.Bool.{or_left}
 use Rattle.std.proofs.lemmas.Bool.Decides.{nat_tests}
-use Rattle.std.proofs.lemmas.Option.{same_Some, slice_get_within}
+use Rattle.std.proofs.lemmas.Option.{same_Some}
 use Rattle.ipcz_base.specs.declared.parcel.Parcel as parcels
-use Rattle.ipcz_base.specs.declared.item.Item.TheVariants.{Parcel, Mark, Gone}
+use Rattle.ipcz_base.specs.declared.item.Item.TheVariants.{Mark, Gone}
 use Rattle.ipcz_base.specs.Items.{ends_in}
 use Rattle.ipcz_router.specs.ActTable.{is_rest}
 use Rattle.ipcz_router.specs.declared.act.RouterAct.TheVariants as acts
@@ -17,7 +17,7 @@ use Rattle.ipcz_node.specs.Calls.{close_node, get_at_router, get_node, put_at_ro
 use Rattle.ipcz_node.specs.Events.{event_of, hand_event, router_event}
 use Rattle.ipcz_node.specs.Node.{on_found}
 use Rattle.ipcz_world.specs.WordAnswers.{source_for}
-use Rattle.ipcz_world.specs.Books.{add_gone, add_got, add_put, after_discard, after_retire, after_turn, has_gone, has_mark, is_retired}
+use Rattle.ipcz_world.specs.Books.{add_gone, after_discard, after_retire, after_turn, has_mark}
 use Rattle.ipcz_world.specs.Lawful.{Lawful}
 use Rattle.ipcz_world.specs.Routes.{Routes}
 use Rattle.ipcz_world.specs.Turns.{hand_seen, is_first_pending, may_act, message_in_hand, router_of, router_seen, turn_event}
@@ -25,147 +25,15 @@ use Rattle.ipcz_world.proofs.Vocabulary.{Act, Books, Close, End, Found, Hand, It
 use Rattle.ipcz_world.proofs.Vocabulary.{can_take, current_item, has_end, is_closed, is_possible, is_terminal, node_at, opposite_end, read, same_end, set_node}
 use Rattle.ipcz_world.proofs.Vocabulary.{terminal_of}
 use Rattle.ipcz_world.proofs.acts.Seeing.{kind, router_kind, seen_event, taken_possible}
-use Rattle.ipcz_world.proofs.facts.LinkTests.{opposite_end-twice, same_end-itself, same_end-tells}
+use Rattle.ipcz_world.proofs.facts.LinkTests.{same_end-itself, same_end-tells}
 use Rattle.ipcz_world.proofs.facts.NodeCount.{count-after_act}
-use Rattle.ipcz_world.proofs.facts.Tests.{nat_eq-is, not_both}
+use Rattle.ipcz_world.proofs.facts.Tests.{nat_eq-is}
 use Rattle.ipcz_world.proofs.frames.Frames.{count-set_node, node-set_node}
 use Rattle.ipcz_world.proofs.lawful.EachOnce.{in_queue-put}
-use Rattle.ipcz_promise.specs.Accounting.{IsPending, IsUngotAt, PendingFits, Stands, parcels_in}
-use Rattle.ipcz_promise.specs.Promise.{Account, IsDropped}
+use Rattle.ipcz_promise.specs.Accounting.{IsPending, IsUngotAt, PendingFits}
+use Rattle.ipcz_promise.proofs.GoingOn.{GoesOn, GoesBack, back-put, back-same, goes-turn, goes-ungot}
 use Rattle.ipcz_promise.proofs.Parcels.{mark-put}
 use Rattle.ipcz_promise.proofs.Pending.{CameWith, pending-acted, pending-close_end, pending-dropped, pending-stays}
-
--- the books go on: what was put stays put, what was closed stays closed, and a closed end gets nothing more
-pub record GoesOn (b c : Books) : Type 0 where
-  pub closed : (d : End) → is_closed b d ≡ true → is_closed c d ≡ true
-  pub put : (d : End) (i : ℕ) (item : Item) → slice_get (b.put d) i ≡ Some item → slice_get (c.put d) i ≡ Some item
-  pub got : (d : End) → is_closed b d ≡ true → c.got d ≡ b.got d
-
--- and back: what was dropped after it was dropped before it
-abbrev pub GoesBack : Books → Books → Type 0
-GoesBack b c = (e : End) (is : IsUngotAt c e) → is.number < read c is.at → (was : IsUngotAt b e) × (was.number < read b was.at)
-
-goes-ungot : (b c : Books) (e : End) → GoesOn b c → IsUngotAt b e → IsUngotAt c e
-goes-ungot b c e on is = record {
-  at = is.at;
-  closed = on.closed is.at is.closed;
-  number = is.number;
-  item = is.item;
-  put = on.put (opposite_end is.at) is.number is.item is.put;
-  ungot = omega (arith, is.ungot, ap length (on.got is.at is.closed));
-  carried = is.carried;
-}
-
-slice-more : (xs : List Item) (y x : Item) (i : ℕ) → slice_get xs i ≡ Some x → slice_get (xs ++ y ∷ []) i ≡ Some x
-slice-more [] y x i h = cc
-slice-more (z ∷ xs) y x zero h = h
-slice-more (z ∷ xs) y x (suc i) h = slice-more xs y x i h
-
-mark-stays : (xs : List Item) (y : Item) → has_mark xs ≡ true → has_mark (xs ++ y ∷ []) ≡ true
-mark-stays [] y h = cc
-mark-stays (Parcel p ∷ xs) y h = mark-stays xs y h
-mark-stays (Mark ∷ xs) y h = refl
-mark-stays (Gone ∷ xs) y h = mark-stays xs y h
-
-pub goes-same : (b : Books) → GoesOn b b
-goes-same b = record { closed = λ d h. h; put = λ d i x h. h; got = λ d h. refl }
-
-pub goes-put : (b : Books) (e : End) (x : Item) → GoesOn b (add_put b e x)
-goes-put b e x = record { closed = λ d h. marks d (same_end d e) refl h; put = λ d i y h. puts d i y (same_end d e) refl h; got = λ d h. refl }
-  where
-    marks : (d : End) (c : Bool) → same_end d e ≡ c → is_closed b d ≡ true → has_mark (cond c (b.put e ++ x ∷ []) (b.put d)) ≡ true
-    marks d true q h = mark-stays (b.put e) x (ap (is_closed b) (sym (same_end-tells d e q)) ∙ h)
-    marks d false q h = h
-
-    puts : (d : End) (i : ℕ) (y : Item) (c : Bool) → same_end d e ≡ c → slice_get (b.put d) i ≡ Some y →
-        slice_get (cond c (b.put e ++ x ∷ []) (b.put d)) i ≡ Some y
-    puts d i y true q h = slice-more (b.put e) x y i (ap (λ z. slice_get (b.put z) i) (sym (same_end-tells d e q)) ∙ h)
-    puts d i y false q h = h
-
-pub goes-got : (b : Books) (at : End) (p : parcels.Parcel) → is_closed b at ≡ false → GoesOn b (add_got b at p)
-goes-got b at p open_ = record { closed = λ d h. h; put = λ d i x h. h; got = λ d h. gots d (same_end d at) refl h }
-  where
-    gots : (d : End) (c : Bool) → same_end d at ≡ c → is_closed b d ≡ true → cond c (b.got at ++ p ∷ []) (b.got d) ≡ b.got d
-    gots d true q h = absurd (not_both (is_closed b at) (ap (is_closed b) (sym (same_end-tells d at q)) ∙ h) open_)
-    gots d false q h = refl
-
-goes-gone : (b : Books) (e : End) → GoesOn b (add_gone b e)
-goes-gone b e = record { closed = λ d h. h; put = λ d i x h. h; got = λ d h. refl }
-
-goes-discard : (b : Books) (o : Option Router) → GoesOn b (after_discard b o)
-unfolding after_discard
-goes-discard b None = goes-same b
-goes-discard b (Some r) = goes-gone b r.end
-
-goes-retire : (b : Books) (o : Option Router) → GoesOn b (after_retire b o)
-unfolding after_retire
-goes-retire b None = goes-same b
-goes-retire b (Some r) = goes-put b r.end Gone
-
-goes-turn : (w : World) (b : Books) (n : ℕ) (event : Happened) → GoesOn b (after_turn w b n event)
-unfolding after_turn
-goes-turn w b n (events.Close e) = goes-put b e Mark
-goes-turn w b n (events.Discard s m) = goes-discard b (router_of w n s)
-goes-turn w b n (events.DiscardLeave s m) = goes-discard b (router_of w n s)
-goes-turn w b n (events.Retire s m link) = goes-retire b (router_of w n s)
-goes-turn w b n other = goes-same b
-
-pub back-same : (b : Books) → GoesBack b b
-back-same b e is l = (is, l)
-
-slice-less : (xs : List Item) (y x : Item) (i : ℕ) → i < length xs → slice_get (xs ++ y ∷ []) i ≡ Some x → slice_get xs i ≡ Some x
-slice-less [] y x i l h = absurd (omega (arith, l))
-slice-less (z ∷ xs) y x zero l h = h
-slice-less (z ∷ xs) y x (suc i) l h = slice-less xs y x i (omega (arith, l)) h
-
--- who has just closed an end has dropped nothing there
-pub back-put : (w : World) (b : Books) (g : Routes) → Lawful w b g → (d : End) (x : Item) → GoesBack b (add_put b d x)
-back-put w b g law d x e is l = (
-  record {
-    at = is.at;
-    closed = closed (is_closed b is.at) refl;
-    number = is.number;
-    item = is.item;
-    put = puts (same_end (opposite_end is.at) d) refl is.put;
-    ungot = is.ungot;
-    carried = is.carried;
-  },
-  l,
-)
-  where
-    closed : (c : Bool) → is_closed b is.at ≡ c → is_closed b is.at ≡ true
-    closed true q = q
-    closed false q = absurd (omega (arith, l, is.ungot, law.conserved.gone_closed is.at q))
-
-    within : is.number < length (b.put (opposite_end is.at))
-    within = omega (arith, l, law.conserved.read_put (opposite_end is.at), ap (read b) (opposite_end-twice is.at))
-
-    puts : (c : Bool) → same_end (opposite_end is.at) d ≡ c →
-        slice_get (cond c (b.put d ++ x ∷ []) (b.put (opposite_end is.at))) is.number ≡ Some is.item →
-        slice_get (b.put (opposite_end is.at)) is.number ≡ Some is.item
-    puts true q h = ap (λ z. slice_get (b.put z) is.number) same
-        ∙ slice-less (b.put d) x is.item is.number (omega (arith, within, ap (λ z. length (b.put z)) same)) h
-      where
-        same : opposite_end is.at ≡ d
-        same = same_end-tells (opposite_end is.at) d q
-    puts false q h = h
-
-pub back-got : (b : Books) (at : End) (p : parcels.Parcel) → is_closed b at ≡ false → GoesBack b (add_got b at p)
-back-got b at p open_ e is l = (
-  record {
-    at = is.at;
-    closed = is.closed;
-    number = is.number;
-    item = is.item;
-    put = is.put;
-    ungot = omega (arith, is.ungot, same);
-    carried = is.carried;
-  },
-  omega (arith, l, same),
-)
-  where
-    same : length ((add_got b at p).got is.at) ≡ length (b.got is.at)
-    same = ap length ((goes-got b at p open_).got is.at is.closed)
 
 -- calls leave what is pending
 pub pending-put : (n : Node) (at : End) (p : parcels.Parcel) → (put_node n at p).pending ≡ n.pending
@@ -496,103 +364,3 @@ closes-pending w n (OfRouter s act) e can h = absurd (go (router_of w n s) refl 
     go None q h = cc
     go (Some r) q h = seen r (sym (seen_event w n s act r q) ∙ ap (router_seen w n s act) q ∙ h)
 closes-pending w n Idle e can h = cc
-
--- a parcel in front of the mark and of Gone has its number among the parcels, too
-parcel-at : (xs : List Item) (i : ℕ) (p : parcels.Parcel) → slice_get xs i ≡ Some (Parcel p) →
-    ((n : ℕ) → slice_get xs n ≡ Some Mark → i ≤ n) → ((n : ℕ) → slice_get xs n ≡ Some Gone → i ≤ n) → slice_get (parcels_in xs) i ≡ Some p
-parcel-at [] i p h marks gones = cc
-parcel-at (Parcel q ∷ xs) zero p h marks gones = let same : q ≡ p = cc in ap Some same
-parcel-at (Parcel q ∷ xs) (suc i) p h marks gones =
-    parcel-at xs i p h (λ n e. omega (arith, marks (suc n) e)) (λ n e. omega (arith, gones (suc n) e))
-parcel-at (Mark ∷ xs) zero p h marks gones = cc
-parcel-at (Mark ∷ xs) (suc i) p h marks gones = absurd (omega (arith, marks 0 refl))
-parcel-at (Gone ∷ xs) zero p h marks gones = cc
-parcel-at (Gone ∷ xs) (suc i) p h marks gones = absurd (omega (arith, gones 0 refl))
-
-gone-found : (xs : List Item) → has_gone xs ≡ true → (n : ℕ) × (slice_get xs n ≡ Some Gone)
-gone-found [] h = cc
-gone-found (Parcel p ∷ xs) h = let t = gone-found xs h in (suc t.0, t.1)
-gone-found (Mark ∷ xs) h = let t = gone-found xs h in (suc t.0, t.1)
-gone-found (Gone ∷ xs) h = (0, refl)
-
--- no parcel stands behind the mark or Gone
-abbrev pub IsLast : List Item → Type 0
-IsLast xs = (m n : ℕ) (p : parcels.Parcel) → slice_get xs m ≡ Some (Parcel p) → (slice_get xs n ≡ Some Mark) ⊎ (slice_get xs n ≡ Some Gone) → m ≤ n
-
-pub marks-last : (w : World) (b : Books) (g : Routes) → Lawful w b g → (d : End) → IsLast (b.put d)
-marks-last w b g law d m n p there (inr gone) =
-    let within : m < length (b.put d) = slice_get_within _ _ _ there in omega (arith, within, law.inv.books_kept.gone_last d n gone)
-marks-last w b g law d m n p there (inl mark) = go (is_retired b d) refl (law.inv.books_kept.mark_last d n mark)
-  where
-    within : m < length (b.put d)
-    within = slice_get_within _ _ _ there
-
-    go : (c : Bool) → is_retired b d ≡ c → suc n + cond c 1 0 ≡ length (b.put d) → m ≤ n
-    go false r last = omega (arith, within, last)
-    go true r last = let t = gone-found (b.put d) r in apart t.0 (nat_eq m t.0) refl t.1 (law.inv.books_kept.gone_last d t.0 t.1) last
-      where
-        apart : (i : ℕ) (c : Bool) → nat_eq m i ≡ c → slice_get (b.put d) i ≡ Some Gone → suc i ≡ length (b.put d) →
-            suc n + 1 ≡ length (b.put d) → m ≤ n
-        apart i true q gone end last = absurd (differ (sym there ∙ ap (slice_get (b.put d)) (nat_eq-is m i q) ∙ gone))
-          where
-            differ : Some (Parcel p) ≡ Some Gone → ⊥
-            differ q = cc
-        apart i false q gone end last = grind (arith, nat_tests, q, end, last, within)
-
--- what the books tell of a dropped end the accounts tell
-pub ungot-dropped : (w : World) (a : Account) (k : Stands w a) (e : End) → IsUngotAt k.books e → IsDropped a e
-ungot-dropped w a k e is = go is.item is.put is.carried
-  where
-    d : End
-    d = opposite_end is.at
-
-    go : (item : Item) → slice_get (k.books.put d) is.number ≡ Some item → has_end e (ends_in item) ≡ true → IsDropped a e
-    go (Parcel p) there carried =
-        let last : IsLast (k.books.put d) = marks-last w k.books k.routes k.lawful d in
-        record {
-          at = is.at;
-          closed = k.closed is.at ∙ is.closed;
-          number = is.number;
-          parcel = p;
-          put = ap (λ xs. slice_get xs is.number) (k.put d) ∙ parcel-at (k.books.put d) is.number p there
-              (λ n q. last is.number n p there (inl q)) (λ n q. last is.number n p there (inr q));
-          ungot = omega (arith, is.ungot, ap length (k.got is.at));
-          carried = carried;
-        }
-    go Mark there carried = cc
-    go Gone there carried = cc
-
--- and back
-parcel-found : (xs : List Item) (i : ℕ) (p : parcels.Parcel) → slice_get (parcels_in xs) i ≡ Some p → (m : ℕ) × (slice_get xs m ≡ Some (Parcel p))
-parcel-found [] i p h = cc
-parcel-found (Parcel q ∷ xs) zero p h = (0, let same : q ≡ p = cc in ap (λ z. Some (Parcel z)) same)
-parcel-found (Parcel q ∷ xs) (suc i) p h = let t = parcel-found xs i p h in (suc t.0, t.1)
-parcel-found (Mark ∷ xs) i p h = let t = parcel-found xs i p h in (suc t.0, t.1)
-parcel-found (Gone ∷ xs) i p h = let t = parcel-found xs i p h in (suc t.0, t.1)
-
-parcel-from : (xs : List Item) (i : ℕ) (p : parcels.Parcel) → slice_get (parcels_in xs) i ≡ Some p → IsLast xs → slice_get xs i ≡ Some (Parcel p)
-parcel-from [] i p h last = cc
-parcel-from (Parcel q ∷ xs) zero p h last = let same : q ≡ p = cc in ap (λ z. Some (Parcel z)) same
-parcel-from (Parcel q ∷ xs) (suc i) p h last = parcel-from xs i p h (λ m n y there q. omega (arith, last (suc m) (suc n) y there q))
-parcel-from (Mark ∷ xs) i p h last = let t = parcel-found xs i p h in absurd (omega (arith, last (suc t.0) 0 p t.1 (inl refl)))
-parcel-from (Gone ∷ xs) i p h last = let t = parcel-found xs i p h in absurd (omega (arith, last (suc t.0) 0 p t.1 (inr refl)))
-
-pub dropped-ungot-at : (w : World) (a : Account) (k : Stands w a) (e : End) (is : IsDropped a e) →
-    (was : IsUngotAt k.books e) × (was.number < length (k.books.put (opposite_end was.at)))
-dropped-ungot-at w a k e is = (
-  record {
-    at = is.at;
-    closed = sym (k.closed is.at) ∙ is.closed;
-    number = is.number;
-    item = Parcel is.parcel;
-    put = there;
-    ungot = omega (arith, is.ungot, ap length (k.got is.at));
-    carried = is.carried;
-  },
-  slice_get_within _ _ _ there,
-)
-  where
-    there : slice_get (k.books.put (opposite_end is.at)) is.number ≡ Some (Parcel is.parcel)
-    there = parcel-from (k.books.put (opposite_end is.at)) is.number is.parcel
-        (ap (λ xs. slice_get xs is.number) (sym (k.put (opposite_end is.at))) ∙ is.put)
-        (marks-last w k.books k.routes k.lawful (opposite_end is.at))

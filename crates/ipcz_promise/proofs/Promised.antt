@@ -48,8 +48,10 @@ use Rattle.ipcz_world.proofs.frames.Booking.{flag}
 use Rattle.ipcz_world.proofs.frames.Holding.{same_end-turned}
 use Rattle.ipcz_world.proofs.frames.RecordRules.{unclaimed-is}
 use Rattle.ipcz_promise.proofs.Holders.{held-acted, held-close_end}
-use Rattle.ipcz_promise.proofs.PendingSteps.{back-got, back-put, back-same, closes-pending, goes-got, goes-put, goes-same, pending-at, pending-close, pending-get, pending-put}
-use Rattle.ipcz_promise.proofs.PendingSteps.{still-pending, turn-pending, ungot-dropped}
+use Rattle.ipcz_promise.proofs.GoingOn.{back-got, back-put, back-same, goes-got, goes-put, goes-same}
+use Rattle.ipcz_promise.proofs.PendingSteps.{closes-pending, pending-at, pending-close, pending-get, pending-put}
+use Rattle.ipcz_promise.proofs.DroppedParcels.{ungot-dropped}
+use Rattle.ipcz_promise.proofs.PendingSteps.{still-pending, turn-pending}
 use Rattle.ipcz_promise.proofs.Inverting.{call-cases, unrefused-inside, unrefused-call}
 use Rattle.ipcz_promise.proofs.Parcels.{parcels-more, parcels-marked, parcels-left, mark-more, mark-left, mark-put, all-parcels, mark-found}
 use Rattle.ipcz_promise.proofs.Parcels.{next-parcel, all-got, no-second}

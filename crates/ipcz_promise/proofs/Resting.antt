@@ -21,7 +21,7 @@ use Rattle.ipcz_world.proofs.frames.Holding.{times_held-at}
 use Rattle.ipcz_promise.proofs.Inverting.{call-cases}
 use Rattle.ipcz_promise.proofs.Promised.{get-holds, open-held}
 use Rattle.ipcz_promise.proofs.Parcels.{each-got}
-use Rattle.ipcz_promise.proofs.PendingSteps.{dropped-ungot-at}
+use Rattle.ipcz_promise.proofs.DroppedParcels.{dropped-ungot-at}
 use Rattle.ipcz_node.specs.Acts.{are_empty, is_quiet}
 use Rattle.ipcz_world.specs.Books.{read}
 use Rattle.ipcz_world.proofs.facts.Tests.{and_first, and_second, nat_eq-is}
