@@ -24,7 +24,7 @@ use Rattle.ipcz_promise.specs.CallRuns.{HasTheorem}
 use Rattle.ipcz_promise.proofs.CallRuns.{played-theorem}
 use Rattle.ipcz_world.proofs.Whole.{first_acts_are_possible, each_get_stays_quiet}
 use Rattle.ipcz_promise.proofs.Kept.{steps_keep_the_promise, a_rest_delivers, starts_promised}
-use Rattle.ipcz_promise.proofs.Promised.{prefix-at}
+use Rattle.ipcz_promise.proofs.Refusals.{prefix-at}
 use Rattle.ipcz_promise.proofs.Parcels.{first-parcels}
 
 -- a step that the code takes

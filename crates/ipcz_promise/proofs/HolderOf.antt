@@ -7,7 +7,7 @@ use Rattle.ipcz_world.proofs.Vocabulary.{End, World, node_at}
 use Rattle.ipcz_world.specs.Holding.{holder_of}
 use Rattle.ipcz_promise.specs.Promise.{Account, is_holder}
 use Rattle.ipcz_promise.specs.Accounting.{Keeps}
-use Rattle.ipcz_promise.proofs.Promised.{holder-is, is-holder}
+use Rattle.ipcz_promise.proofs.Refusals.{holder-is, is-holder}
 
 first-holder : (test : ℕ → Bool) (from left : ℕ) (o : Option ℕ) → ((n : ℕ) → from ≤ n → n < from + left → test n ≡ is_holder o n) →
     ((n : ℕ) → o ≡ Some n → (from ≤ n) × (n < from + left)) → first_number test from left ≡ o

@@ -11,6 +11,7 @@ mod Parcels
 mod Pending
 mod PendingSteps
 mod Promised
+mod Refusals
 mod Resting
 mod Start
 mod Tests

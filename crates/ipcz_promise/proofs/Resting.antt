@@ -19,7 +19,7 @@ use Rattle.ipcz_world.proofs.frames.OfRecords.{holds_times}
 use Rattle.ipcz_world.proofs.frames.Booking.{flag}
 use Rattle.ipcz_world.proofs.frames.Holding.{times_held-at}
 use Rattle.ipcz_promise.proofs.Inverting.{call-cases}
-use Rattle.ipcz_promise.proofs.Promised.{get-holds, open-held}
+use Rattle.ipcz_promise.proofs.Refusals.{get-holds, open-held}
 use Rattle.ipcz_promise.proofs.Parcels.{each-got}
 use Rattle.ipcz_promise.proofs.DroppedParcels.{dropped-ungot-at}
 use Rattle.ipcz_node.specs.Acts.{are_empty, is_quiet}
