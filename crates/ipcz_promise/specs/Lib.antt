@@ -1,0 +1,4 @@
+pub mod Accounting
+pub mod CallRuns
+pub mod Promise
+pub mod PromiseTests

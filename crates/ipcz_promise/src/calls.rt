@@ -1,0 +1,183 @@
+//! Calls on a world that carry the promise: `Keeps` ties the world to accounts, and each call hands it on with what the plain machine says of its
+//! reply (specs/Promise).
+
+ghost use Rattle.std.specs.Prelude.{◌≡◌, ◌<◌, ℕ, Ok, IfOk, IfErr};
+ghost use Rattle.ipcz_world.specs.Lawful.{IsWithinLimits};
+ghost use Rattle.ipcz_world.specs.Settling.{IsQuiet};
+ghost use Rattle.ipcz_world.specs.Steps.{put_reply};
+ghost use Rattle.ipcz_promise.specs.Promise.{Account, HasClosedDropped, IsDelivered, IsInOrder, May, MayRun, MaySettle, start};
+ghost use Rattle.ipcz_promise.specs.Accounting.{Keeps};
+ghost use Rattle.ipcz_promise.specs.CallRuns.{HasTheorem};
+
+use ipcz_base::{Bytes, End, Ends, Profile, Refusal};
+use ipcz_node::PutRefused;
+use ipcz_world::{Reply, Settled, Step, World};
+use std::alloc::Global;
+
+/// A world at the start, whose accounts are `start`: between each two nodes there is one pair, and each of its portals is held at its own node.
+///
+/// `nodes` is 1 to 8; `words`, how many pairs and links there can be in all, is from `nodes * (nodes - 1) / 2` to 2^32 - 1. Its only refusal is
+/// `OutOfMemory`.
+///
+/// `new_world(alloc, 2, 8)` has the pair 0: node 0 holds its portal `A`, node 1 its portal `B`.
+pub fn new_world(alloc: Global, nodes: u8, words: u32) -> Result<World, Refusal>
+    requires limits { IsWithinLimits nodes words }
+    ensures promise { IfOk result (λ w. Keeps w (start nodes words)) }
+    ensures why { IfErr result (λ e. e ≡ Refusal.OutOfMemory) }
+{
+    World::new(alloc, nodes, words)
+}
+
+/// Takes a step and gives its reply, which is one of those that the machine allows. A refusal changes nothing.
+///
+/// `step(&mut world, &Step::Get { node: 1, at })` is `get(&mut world, 1, at)`. A step keeps its own lists: a put by it copies them, and
+/// is refused `OutOfMemory`, if there is no room for that, before all else but a node that isn't there.
+pub fn step(world: &mut World, step: &Step) -> Reply
+    ensures promise { (a : Account) → Keeps world.old a → (c : Account) × May a step.now result c × Keeps world.new c }
+{
+    world.step(step)
+}
+
+/// Opens a new pair, both of whose portals the node's callers then hold: the reply is `Opened` with the portal of side A and that of side B.
+///
+/// Refused `Stranger` if there is no such node, then `NoWord` if all words are used up, `NumbersEnd` if the node's serials are, and
+/// `OutOfMemory`.
+///
+/// In the world `new_world(alloc, 2, 8)` the first `open(&mut world, 0)` makes the pair 1.
+pub fn open(world: &mut World, node: u8) -> Reply
+    ensures promise { (a : Account) → Keeps world.old a → (c : Account) × May a (Step.Open node) result c × Keeps world.new c }
+{
+    step(world, &Step::Open(node))
+}
+
+/// Puts a parcel of printed bytes, with portals in it, at a portal, and gives its number: how many were put there before. The caller doesn't hold
+/// the portals in the parcel any more.
+///
+/// Refused as `first_refusal` finds: `Stranger` if the node's callers don't hold the portal, `TooMany` for more than 256 bytes or 8 portals,
+/// `BadData` for a byte that isn't printed (32 to 126), `SelfAttach` and `PeerAttach` if the portal or its peer is in the parcel, `Stranger` if
+/// they don't hold each of those, or one stands there twice. Then `PeerClosed`, once the portal's node has heard that the peer is closed;
+/// `NumbersEnd` after 2^64 - 3 parcels; and `OutOfMemory`. A refused put gives both lists back.
+///
+/// At a portal at which nothing was put yet, `put(&mut world, 0, at, bytes, ends)` gives `Ok(0)`.
+pub fn put(
+    world: &mut World,
+    node: u8,
+    at: End,
+    bytes: Bytes,
+    ends: Ends,
+) -> Result<u64, PutRefused>
+    ensures promise { (a : Account) → Keeps world.old a →
+        (c : Account) × May a (Step.Put node at bytes ends) (put_reply result) c × Keeps world.new c }
+    ensures back { IfErr result (λ e. (e.bytes ≡ bytes) × (e.ends ≡ ends)) }
+{
+    world.put(node, at, bytes, ends)
+}
+
+/// Puts a parcel as [`put`] does, but of any bytes, up to 65536 of them: it is never refused `BadData`.
+pub fn put_wide(
+    world: &mut World,
+    node: u8,
+    at: End,
+    bytes: Bytes,
+    ends: Ends,
+) -> Result<u64, PutRefused>
+    ensures promise { (a : Account) → Keeps world.old a →
+        (c : Account) × May a (Step.PutWide node at bytes ends) (put_reply result) c × Keeps world.new c }
+    ensures back { IfErr result (λ e. (e.bytes ≡ bytes) × (e.ends ≡ ends)) }
+{
+    world.put_as(Profile::Wide, node, at, bytes, ends)
+}
+
+/// Gets the next parcel at a portal: the reply is `Got` with its number and the parcel. The caller then holds the portals in it.
+///
+/// Refused `Stranger` if the node's callers don't hold the portal; `PeerClosed` if the peer is closed and all that it put was got; and `Empty`
+/// if none has come yet. If nothing waits, as after a settle that answered `Settled`, and words are left (`World::claimed` is below the `words` that
+/// the world was made with), `Empty` says that all was got and that the peer isn't closed; and a get leaves it so that nothing waits.
+///
+/// After `put(&mut world, 0, left, bytes, ends)` and a settle, `get(&mut world, 1, right)` gives `Got` with number 0 and those lists, if `right` is the
+/// peer of `left`.
+pub fn get(world: &mut World, node: u8, at: End) -> Reply
+    ensures promise { (a : Account) → Keeps world.old a → (c : Account) × May a (Step.Get node at) result c × Keeps world.new c }
+    ensures delivered { (a : Account) → Keeps world.old a → IsQuiet world.old → world.old.claimed < a.words →
+        result ≡ Reply.Refused Refusal.Empty → IsDelivered a at }
+    ensures quiet { IsQuiet world.old → IsQuiet world.new }
+{
+    world.get(node, at)
+}
+
+/// Closes a portal for good: the reply is `Closed` with how many parcels were put there. Its peer still gets those, and then `PeerClosed`.
+///
+/// Refused `Stranger` if the node's callers don't hold the portal, and `OutOfMemory`.
+///
+/// At a portal at which one parcel was put `close(&mut world, 0, at)` gives `Closed` with number 1.
+pub fn close(world: &mut World, node: u8, at: End) -> Reply
+    ensures promise { (a : Account) → Keeps world.old a → (c : Account) × May a (Step.Close node at) result c × Keeps world.new c }
+{
+    step(world, &Step::Close { node, at })
+}
+
+/// Lets a node take one act: the reply is `Turned` with what it was seen to do, which may be that it is idle.
+///
+/// Refused `Stranger` if there is no such node, `NumbersEnd` if its serials are used up, and `OutOfMemory`.
+///
+/// In the world `new_world(alloc, 2, 8)` each `turn(&mut world, 0)` gives `Turned(Idle)`: nothing waits there.
+pub fn turn(world: &mut World, node: u8) -> Reply
+    ensures promise { (a : Account) → Keeps world.old a → (c : Account) × May a (Step.Turn node) result c × Keeps world.new c }
+{
+    step(world, &Step::Turn(node))
+}
+
+/// Takes each of these steps, in their order, and gives their replies. A step that is refused has a reply like any other, and the steps after it are
+/// taken.
+///
+/// Refused `OutOfMemory` if there is no room for the replies: then no step is taken.
+pub fn run(world: &mut World, alloc: Global, steps: &[Step]) -> Result<Vec<Reply>, Refusal>
+    ensures promise { IfOk result (λ replies. (a : Account) → Keeps world.old a → (c : Account) × MayRun a steps.now replies.items c × Keeps world.new c) }
+    ensures kept { IfErr result (λ e. (e ≡ Refusal.OutOfMemory) × (world.new ≡ world.old)) }
+{
+    world.run(alloc, steps)
+}
+
+/// Lets the nodes take turns, `limit` of them at most, until nothing waits: `Settled` with how many turns that took, or `Unsettled` if all were
+/// taken and something still waits. After `Settled` a get tells by `Empty` that all was got, if words are left ([`get`]); and each portal in a
+/// parcel that a closed portal never got is closed.
+///
+/// Refused `NumbersEnd` or `OutOfMemory` as the first turn that is refused: the turns before it stand, and that one changes nothing.
+///
+/// In the world `new_world(alloc, 2, 8)` nothing waits: `settle(&mut world, 0)` gives `Settled { after: 0 }`.
+pub fn settle(world: &mut World, limit: u64) -> Result<Settled, Refusal>
+    ensures promise { (a : Account) → Keeps world.old a → (c : Account) × MaySettle a limit result c × Keeps world.new c }
+    ensures quiet { (turns : ℕ) → result ≡ Ok (Settled.Settled turns) → IsQuiet world.new }
+    ensures closes { (turns : ℕ) → result ≡ Ok (Settled.Settled turns) → (a : Account) → Keeps world.new a → HasClosedDropped a }
+{
+    world.settle(limit)
+}
+
+/// The node whose callers hold a portal, if some do.
+///
+/// In the world `new_world(alloc, 2, 8)` the holder of the portal `B` of pair 0 is node 1; that of a portal of pair 1 is none.
+pub fn holder_of(world: &World, portal: End) -> Option<u8>
+    ensures promise { (a : Account) → Keeps world.now a → result ≡ a.holder portal }
+{
+    world.holder_of(portal)
+}
+
+/// Makes a world, as [`new_world`] does, takes these steps in it, as [`run`] does, and gives their replies and the world. Nothing else has to be believed
+/// of them than the machine's run from `start`. The theorem (specs/Theorem of `ipcz_world`) holds of them, too.
+///
+/// Refused `OutOfMemory` only.
+pub fn play(
+    alloc: Global,
+    nodes: u8,
+    words: u32,
+    steps: &[Step],
+) -> Result<(Vec<Reply>, World), Refusal>
+    requires limits { IsWithinLimits nodes words }
+    ensures promise { IfOk result (λ played. (c : Account) × MayRun (start nodes words) steps.now played.0.items c × IsInOrder c × Keeps played.1 c) }
+    ensures theorem { IfOk result (λ played. HasTheorem steps.now played.0.items played.1) }
+    ensures why { IfErr result (λ e. e ≡ Refusal.OutOfMemory) }
+{
+    let mut world = World::new(alloc, nodes, words)?;
+    let replies = world.run(alloc, steps)?;
+    Ok((replies, world))
+}

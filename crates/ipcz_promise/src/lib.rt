@@ -1,0 +1,9 @@
+//! The promise of the portals, one page (specs/Promise), carried by calls on a world.
+#![tactic(auto)]
+
+mod calls;
+pub mod laws;
+
+pub use calls::{
+    close, get, holder_of, new_world, open, play, put, put_wide, run, settle, step, turn,
+};

@@ -1,0 +1,186 @@
+use ipcz_base::{Bytes, End, Ends, Refusal, Sequence, Side};
+use ipcz_node::Happened;
+use ipcz_promise::{
+    close, get, holder_of, new_world, open, play, put, put_wide, run, settle, step, turn,
+};
+use ipcz_world::{Reply, Settled, Step, World};
+use std::alloc::{AllocError, Global};
+
+// The portals of the first pair, at nodes 0 and 1, and those of the pair that an open makes.
+const LEFT: End = End {
+    pair: 0,
+    side: Side::A,
+};
+
+const RIGHT: End = End {
+    pair: 0,
+    side: Side::B,
+};
+
+const THIRD: End = End {
+    pair: 1,
+    side: Side::A,
+};
+
+const FOURTH: End = End {
+    pair: 1,
+    side: Side::B,
+};
+
+fn bytes(alloc: Global, data: &[u8]) -> Result<Bytes, AllocError> {
+    Ok(Sequence::from_vec(Vec::from_slice(alloc, data)?))
+}
+
+fn ends(alloc: Global, portals: &[End]) -> Result<Ends, AllocError> {
+    let mut list = Vec::new(alloc);
+    list.extend_from_slice(portals)?;
+    Ok(Sequence::from_vec(list))
+}
+
+fn is_put(reply: &Reply, number: u64) -> bool {
+    matches!(reply, Reply::Put(n) if *n == number)
+}
+
+fn is_got(reply: &Reply, number: u64, data: &[u8], portals: &[End]) -> bool {
+    match reply {
+        Reply::Got(n, parcel) => *n == number
+            && parcel.bytes.as_slice() == data
+            && parcel.ends.as_slice() == portals,
+        _ => false,
+    }
+}
+
+fn is_refused(reply: &Reply, want: Refusal) -> bool {
+    matches!(reply, Reply::Refused(why) if *why == want)
+}
+
+// Whether what is put at a portal is got at its peer, after the six acts of a lone parcel; and then a get is Empty, while words are left.
+fn carries(alloc: Global) -> Result<bool, Refusal> {
+    let mut world = new_world(alloc, 2, 8)?;
+    let opened = open(&mut world, 0);
+    let number = put(
+        &mut world,
+        0,
+        LEFT,
+        bytes(alloc, b"hello")?,
+        ends(alloc, &[])?,
+    )?;
+    let settled = settle(&mut world, 100)?;
+    let got = get(&mut world, 1, RIGHT);
+    let empty = get(&mut world, 1, RIGHT);
+    Ok(
+        matches!(opened, Reply::Opened(a, b) if a == THIRD && b == FOURTH)
+            && number == 0
+            && settled == Settled::Settled { after: 6 }
+            && world.claimed() == 2
+            && is_got(&got, 0, b"hello", &[])
+            && is_refused(&empty, Refusal::Empty),
+    )
+}
+
+// Whether a portal is held by who gets the parcel that it was put into.
+fn moves(alloc: Global) -> Result<bool, Refusal> {
+    let mut world = new_world(alloc, 2, 8)?;
+    open(&mut world, 0);
+    put(
+        &mut world,
+        0,
+        LEFT,
+        bytes(alloc, b"m")?,
+        ends(alloc, &[FOURTH])?,
+    )?;
+    let under_way = holder_of(&world, FOURTH);
+    settle(&mut world, 100)?;
+    let got = get(&mut world, 1, RIGHT);
+    Ok(
+        under_way == None
+            && is_got(&got, 0, b"m", &[FOURTH])
+            && holder_of(&world, FOURTH) == Some(1)
+            && holder_of(&world, THIRD) == Some(0),
+    )
+}
+
+// Whether a put of bytes that don't print is refused, gives them back, and is accepted as a wide one.
+fn is_widely_put(alloc: Global, world: &mut World, data: &[u8]) -> Result<bool, AllocError> {
+    match put(world, 0, LEFT, bytes(alloc, data)?, ends(alloc, &[])?) {
+        Ok(_) => Ok(false),
+        Err(refused) => {
+            let is_bad = refused.why == Refusal::BadData && refused.bytes.as_slice() == data;
+            let answer = put_wide(world, 0, LEFT, refused.bytes, refused.ends);
+            Ok(is_bad && answer.is_ok_and(|number| number == 0))
+        }
+    }
+}
+
+// Whether the peer of a portal that was closed gets what was put there, and then hears of it.
+fn closes(alloc: Global) -> Result<bool, Refusal> {
+    let mut world = new_world(alloc, 2, 1)?;
+    let idle = turn(&mut world, 0);
+    let wide = is_widely_put(alloc, &mut world, &[0, 255])?;
+    let closed = close(&mut world, 0, LEFT);
+    let again = close(&mut world, 0, LEFT);
+    settle(&mut world, 100)?;
+    let got = get(&mut world, 1, RIGHT);
+    let heard = get(&mut world, 1, RIGHT);
+    Ok(
+        matches!(idle, Reply::Turned(Happened::Idle))
+            && wide
+            && matches!(closed, Reply::Closed(1))
+            && is_refused(&again, Refusal::Stranger)
+            && is_got(&got, 0, &[0, 255], &[])
+            && is_refused(&heard, Refusal::PeerClosed),
+    )
+}
+
+// A put at the one portal of the first pair, a get at the other, and an open, with both nodes on their own.
+fn three_steps(alloc: Global) -> Result<[Step; 3], AllocError> {
+    Ok([
+        Step::Put {
+            node: 0,
+            at: LEFT,
+            bytes: bytes(alloc, b"a")?,
+            ends: ends(alloc, &[])?,
+        },
+        Step::Get { node: 1, at: RIGHT },
+        Step::Open(1),
+    ])
+}
+
+fn are_three(replies: &[Reply], number: u64) -> bool {
+    match replies {
+        [one, two, three] => is_put(one, number)
+            && is_refused(two, Refusal::Empty)
+            && is_refused(three, Refusal::NoWord),
+        _ => false,
+    }
+}
+
+// Whether steps that are played, and run again, give what they give one by one.
+fn plays(alloc: Global, steps: &[Step; 3]) -> Result<bool, Refusal> {
+    let (played, mut world) = play(alloc, 2, 1, steps)?;
+    let again = run(&mut world, alloc, steps)?;
+    let third = step(&mut world, &steps[0]);
+    Ok(are_three(played.as_slice(), 0) && are_three(again.as_slice(), 1) && is_put(&third, 2))
+}
+
+#[test]
+fn a_parcel_is_got_at_the_peer(rt: HostRuntime) {
+    assert_eq!(rt; carries(rt.alloc()), Ok(true));
+}
+
+#[test]
+fn a_portal_moves_with_its_parcel(rt: HostRuntime) {
+    assert_eq!(rt; moves(rt.alloc()), Ok(true));
+}
+
+#[test]
+fn a_closed_portal_is_read_to_the_end(rt: HostRuntime) {
+    assert_eq!(rt; closes(rt.alloc()), Ok(true));
+}
+
+#[test]
+fn what_is_played_is_what_is_stepped(rt: HostRuntime) -> Result<(), AllocError> {
+    let steps = three_steps(rt.alloc())?;
+    assert_eq!(rt; plays(rt.alloc(), &steps), Ok(true));
+    Ok(())
+}
