@@ -8,15 +8,7 @@ import "C"
 // A Cell is a node behind a handle of its own. Calls on different cells, also of one table, may come from different goroutines at once. It
 // isn't copied, as go vet tells; a copy is the same cell. The zero Cell has no node, and refuses each call.
 type Cell struct {
-	_      noCopy
-	handle *C.ipcz_cell
-}
-
-func (c *Cell) c() *C.ipcz_cell {
-	if c.handle == nil {
-		c.handle = new(C.ipcz_cell)
-	}
-	return c.handle
+	handle[C.ipcz_cell]
 }
 
 // NewCells makes the cells of a new table, by node: of 1 to 8 nodes, and of at least a link word for each two of them and at most 4096; else

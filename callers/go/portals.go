@@ -25,6 +25,19 @@ type noCopy struct{}
 func (*noCopy) Lock()   {}
 func (*noCopy) Unlock() {}
 
+// A handle of the library, all zeros at first, at one place for its whole life.
+type handle[T any] struct {
+	_  noCopy
+	at *T
+}
+
+func (h *handle[T]) c() *T {
+	if h.at == nil {
+		h.at = new(T)
+	}
+	return h.at
+}
+
 // Status tells why a call was refused. A call that is refused changes nothing, but for a Settle or Acts: the acts before the refused one
 // stand.
 type Status uint32

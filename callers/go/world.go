@@ -8,15 +8,7 @@ import "C"
 // A World is a number of nodes behind one handle. It isn't copied, as go vet tells; a copy is the same world, and once one of them is
 // destroyed each call on the other is refused, too. The zero World has no nodes, and refuses each call.
 type World struct {
-	_      noCopy
-	handle *C.ipcz_world
-}
-
-func (w *World) c() *C.ipcz_world {
-	if w.handle == nil {
-		w.handle = new(C.ipcz_world)
-	}
-	return w.handle
+	handle[C.ipcz_world]
 }
 
 // NewWorld makes a world of 1 to 8 nodes, and of at least a link word for each two of them and at most 4096; else TooMany.
