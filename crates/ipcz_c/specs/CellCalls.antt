@@ -10,7 +10,7 @@ use Rattle.ipcz_world.specs.declared.step.Reply.{Reply}
 use Rattle.ipcz_world.specs.declared.step.Reply.TheVariants as replies
 use Rattle.ipcz_cell.specs.CellStates.{CellState}
 use Rattle.ipcz_cell.specs.Making.{AreFirst}
-use Rattle.ipcz_cell.specs.Opens.{OpensPair, ReadsWord}
+use Rattle.ipcz_cell.specs.Opens.{OpensPair, ShowsWord}
 use Rattle.ipcz_cell.specs.TableNames.{TableName}
 use Rattle.ipcz_cell.specs.TurnChains.{RunsTurns}
 use Rattle.ipcz_c.specs.declared.cell_handle.CellHandle.{CellHandle}
@@ -45,7 +45,7 @@ get_answer (Err why) = replies.Refused why
 -- an open
 abbrev pub CellOpens : Option HeldCell → ℕ → Portal → Portal → Portal → Portal → Option HeldCell → Type 0
 CellOpens old status old_first old_second first second new = (answer : Result (End × End) Refusal)
-    × Moves (λ t c d. OpensPair t.size c d answer) old new × AreEnds answer status old_first old_second first second
+    × Moves (λ t c d. OpensPair t c d answer) old new × AreEnds answer status old_first old_second first second
 
 -- a put; where no memory is found for its lists the cell isn't called
 abbrev pub CellPuts : Profile → Option HeldCell → Portal → List ℕ → List Portal → ℕ → ℕ → ℕ → Option HeldCell → Type 0
@@ -71,7 +71,7 @@ CellActs limit old status old_acts acts new =
 
 -- what is read of a link word, which is written if there is one
 abbrev pub CellReads : ℕ → Option HeldCell → Bool → ℕ → ℕ → Option HeldCell → Type 0
-CellReads i old there old_word word new = (answer : Option ℕ) × Moves (λ t c d. ReadsWord t.size i c answer d) old new
+CellReads i old there old_word word new = (answer : Option ℕ) × Moves (λ t c d. ShowsWord t i c answer d) old new
     × (written there word ≡ answer) × (there ≡ false → word ≡ old_word)
 
 -- whether no handle has a cell

@@ -3,7 +3,7 @@ ghost use Rattle.std.specs.Prelude.{◌≡◌, Some, None, IsSome, IfOk};
 ghost use Rattle.std.specs.Option.{is_some};
 ghost use Rattle.ipcz_base.specs.Items.{sizes_of};
 ghost use Rattle.ipcz_node.specs.Node.{holds_end};
-ghost use Rattle.ipcz_cell.specs.Opens.{OpensPair, FindsQuiet, ReadsWord};
+ghost use Rattle.ipcz_cell.specs.Opens.{OpensPair, FindsQuiet, ShowsWord};
 ghost use Rattle.ipcz_cell.specs.TurnChains.{RunsTurns};
 ghost use Rattle.ipcz_c.specs.CellSteps.{PutsAt, GetsAt, ClosesAt, CountsClaimed};
 ghost use Rattle.ipcz_c.specs.HeldCells.{HeldCell, IsOnly, table_of, Moves, cell_sizes};
@@ -148,7 +148,7 @@ impl CellHandle {
         requires held { IsSome self.old.held.cell }
         requires named { table_of self.old.held.cell ≡ F.table }
         requires only { IsOnly F }
-        ensures { Moves (λ t c d. OpensPair t.size c d result) self.old.held.cell self.new.held.cell }
+        ensures { Moves (λ t c d. OpensPair t c d result) self.old.held.cell self.new.held.cell }
     {
         let mut member = self.take::<F>(alloc);
         let answer = member.open();
@@ -196,7 +196,7 @@ impl CellHandle {
         requires held { IsSome self.old.held.cell }
         requires named { table_of self.old.held.cell ≡ F.table }
         requires only { IsOnly F }
-        ensures { Moves (λ t c d. ReadsWord t.size i c result d) self.old.held.cell self.new.held.cell }
+        ensures { Moves (λ t c d. ShowsWord t i c result d) self.old.held.cell self.new.held.cell }
     {
         let mut member = self.take::<F>(alloc);
         let answer = member.word(i);

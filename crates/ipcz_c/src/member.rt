@@ -3,7 +3,7 @@ ghost use Rattle.std.specs.Prelude.{◌≡◌, Some, IfOk};
 ghost use Rattle.ipcz_base.specs.Items.{sizes_of};
 ghost use Rattle.ipcz_node.specs.Calls.{next_sizes};
 ghost use Rattle.ipcz_node.specs.Node.{holds_end};
-ghost use Rattle.ipcz_cell.specs.Opens.{OpensPair, FindsQuiet, ReadsWord};
+ghost use Rattle.ipcz_cell.specs.Opens.{OpensPair, FindsQuiet, ShowsWord};
 ghost use Rattle.ipcz_cell.specs.TurnChains.{RunsTurns};
 ghost use Rattle.ipcz_c.specs.CellSteps.{PutsAt, GetsAt, ClosesAt, CountsClaimed};
 
@@ -75,7 +75,7 @@ impl<F: FabricName> Member<F> {
     }
 
     pub(crate) fn open(&mut self) -> Result<(End, End), Refusal>
-        ensures { OpensPair F.table.size self.old self.new result }
+        ensures { OpensPair F.table self.old self.new result }
     {
         self.cell.open_pair(&self.fabric)
     }
@@ -99,7 +99,7 @@ impl<F: FabricName> Member<F> {
     }
 
     pub(crate) fn word(&mut self, i: u32) -> Option<u64>
-        ensures { ReadsWord F.table.size i self.old result self.new }
+        ensures { ShowsWord F.table i self.old result self.new }
     {
         self.cell.word(&self.fabric, i)
     }

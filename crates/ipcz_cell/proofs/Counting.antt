@@ -1,19 +1,18 @@
 -- The steps on the claim count.
-use Rattle.std.specs.Prelude.{◌≡◌, ◌<◌, ◌≤◌, ◌+◌, ℕ, List, [], ◌∷◌, Option, MatchBool, eqb, slice_index}
+use Rattle.std.specs.Prelude.{◌≡◌, ◌≤◌, ℕ, List, [], ◌∷◌, Option, MatchBool, eqb, slice_index}
 use Rattle.std.proofs.Common.{ap, sym, subst, ◌∙◌, refl, arith}
-use prog.Atomic.{either}
 use Rattle.ipcz_router.specs.declared.act.Answer.TheVariants as answers
 use Rattle.ipcz_router.specs.declared.act.RouterAct.TheVariants as router_acts
 use Rattle.ipcz_node.specs.declared.act.Act.TheVariants as acts
 use Rattle.ipcz_world.proofs.Whole.{lists_have_lengths}
 use Rattle.ipcz_rule.specs.Rule.{Mine, saw}
 use Rattle.ipcz_rule.specs.Steps.{act_part}
-use Rattle.ipcz_rule.proofs.Claiming.{claims, loads_for_claim}
+use Rattle.ipcz_rule.proofs.Claiming.{loads_for_claim}
 use Rattle.ipcz_rule.proofs.RuleLaws.{counts_were_reached}
 use Rattle.ipcz_cell.specs.TableNames.{TableName}
 use Rattle.ipcz_cell.specs.CellStates.{part_in, change_part}
 use Rattle.ipcz_cell.specs.Outcomes.{Tells, IsPicked}
-use Rattle.ipcz_cell.specs.Claims.{AreReached, CanClaim, counted, claimed}
+use Rattle.ipcz_cell.specs.Claims.{AreReached, CanClaim, counted}
 use Rattle.atomic_table.specs.Seated.{TableId}
 use Rattle.ipcz_base.specs.declared.message.Message.{Message}
 use Rattle.ipcz_router.specs.declared.act.Answer.{Answer}
@@ -41,13 +40,6 @@ count_may t id word serial m told picked whole can at =
     (subst (λ (i : ℕ). Keeps t.count t.size t.id.slots id m i (λ n. n) (counted t.size serial m)) at
     (counts_told t.count t.size t.id.slots id m (λ n. n) (λ n m'. MatchBool (eqb n t.size) (m' ≡ (change_part (act_part (acts.Router serial router_acts.Claim) answers.NoWord) (saw t.size n m.0), m.1)) (m' ≡ (saw t.size n m.0, m.1)))
     (loads_for_claim t.count t.size t.id.slots id m (part_in m.0) serial can.0 whole can.1)))
-
-pub claim_may : (t : TableName) (id word serial c : ℕ) (m : Mine) (told : Tells) → IsPicked told (claimed t.size serial c) → m.0.parts ≡ part_in m.0 ∷ [] → CanClaim (part_in m.0).state serial → c < t.size → t.size ≡ word →
-    Keeps t.count t.size t.id.slots id m word (λ n. either (eqb n c) (c + 1) n) (told m)
-claim_may t id word serial c m told picked whole can few at =
-    may_by t.count t.size t.id.slots id m word (λ n. either (eqb n c) (c + 1) n) told (claimed t.size serial c) picked
-    (subst (λ (i : ℕ). Keeps t.count t.size t.id.slots id m i (λ n. either (eqb n c) (c + 1) n) (claimed t.size serial c m)) at
-    (claims t.count t.size t.id.slots id c m (part_in m.0) serial can.0 whole can.1 few))
 
 module _ (t : TableName) (n : Node) (hand : Option Message) (tos : List ℕ) (id : TableId) (me : Mine) (was : IsCell t n hand tos id me) (id' : TableId) (me' : Mine) (same : id' ≡ id) (sound : AreSound t.count t.size me'.0) where
   -- a cell after loads, and then a claim

@@ -24,3 +24,6 @@ pub mod TurnActs
 pub mod TurnParts
 pub mod TurnChains
 pub mod OpenSteps
+pub mod Slotting
+pub mod Unfolding
+pub mod NumberClaims

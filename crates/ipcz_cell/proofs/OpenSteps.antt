@@ -1,6 +1,6 @@
 -- The loads of the claim count and of link words, and the steps of an open.
 use Rattle.std.specs.Prelude.{◌≡◌, ◌<◌, ◌+◌, ℕ, Bool, true, false, List, [], ◌∷◌, ◌++◌, Option, Some, None, Result, Ok, Err, IfOk, eqb, is_some, ◌==◌, ◌||◌, ◌&&◌}
-use Rattle.std.proofs.Common.{ap, sym, subst, ◌∙◌, refl, arith, append_assoc}
+use Rattle.std.proofs.Common.{ap, sym, subst, ◌∙◌, refl, arith, append_assoc, ⊎_elim}
 use Rattle.std.proofs.lemmas.Bool.Decides.{nat_tests}
 use prog.Atomic.{either}
 use Rattle.atomic_table.specs.Seated.{TableId}
@@ -18,15 +18,14 @@ use Rattle.ipcz_rule.specs.declared.view.Part.{Part}
 use Rattle.ipcz_rule.specs.Rule.{Mine}
 use Rattle.ipcz_rule.specs.Steps.{claimed_part, open_part}
 use Rattle.ipcz_rule.proofs.WordKinds.{loads}
-use Rattle.ipcz_rule.proofs.Claiming.{claims_for_open}
 use Rattle.ipcz_rule.proofs.Opening.{opens}
 use Rattle.ipcz_cell.specs.TableNames.{TableName}
 use Rattle.ipcz_cell.specs.CellStates.{CellState, part_in, change_part, roomy}
 use Rattle.ipcz_cell.specs.Cells.{AreSound, IsCell}
 use Rattle.ipcz_cell.specs.Outcomes.{loaded}
 use Rattle.ipcz_cell.specs.Mails.{HasSeen, mail_word}
-use Rattle.ipcz_cell.specs.Claims.{AreReached, Answered, Got as Won, Dry, Lost as Missed}
-use Rattle.ipcz_cell.specs.Opens.{count_loaded, word_loaded, open_claimed, opened, ClaimsAt, ClaimsForOpen, Claimed, Outrun, OpensWord, claimed_for_open}
+use Rattle.ipcz_cell.specs.Claims.{AreReached, Answered, Got as Won, Dry, Slotless as Unslotted, Lost as Missed}
+use Rattle.ipcz_cell.specs.Opens.{count_loaded, word_loaded, opened, ClaimsAt, ClaimsForOpen, Claimed, Slotless, Outrun, OpensWord, claimed_for_open}
 use Rattle.ipcz_cell.specs.Opens.{box_loads, FindsFree}
 use Rattle.ipcz_cell.proofs.Seating.{KeepsHands, reseated, touched_cell}
 use Rattle.ipcz_cell.proofs.Counting.{counts_told}
@@ -34,9 +33,9 @@ use Rattle.ipcz_cell.proofs.Wording.{words_told}
 use Rattle.ipcz_cell.specs.Seats.{Keeps}
 
 pub count_load_may : (t : TableName) (id word : ℕ) (m : Mine) → m.0.parts ≡ part_in m.0 ∷ [] → t.size ≡ word →
-    Keeps t.count t.size t.id.slots id m word (λ n. n) (count_loaded word m)
+    Keeps t.count t.size t.id.slots id m word (λ n. n) (count_loaded t.size m)
 count_load_may t id word m whole at =
-    subst (λ (i : ℕ). Keeps t.count t.size t.id.slots id m i (λ n. n) (count_loaded i m)) at
+    subst (λ (i : ℕ). Keeps t.count t.size t.id.slots id m i (λ n. n) (count_loaded t.size m)) at
     (counts_told t.count t.size t.id.slots id m (λ n. n) (loaded t.size m) (loads t.count t.size t.id.slots id t.size m (part_in m.0) whole))
 
 pub word_load_may : (t : TableName) (id i : ℕ) (m : Mine) → m.0.parts ≡ part_in m.0 ∷ [] → i < t.size →
@@ -44,12 +43,6 @@ pub word_load_may : (t : TableName) (id i : ℕ) (m : Mine) → m.0.parts ≡ pa
 word_load_may t id i m whole inside =
     let told = words_told t.count t.size t.id.slots id i None m (λ n. n) (loaded i m) inside (λ s r at. tt) (loads t.count t.size t.id.slots id i m (part_in m.0) whole) in
     λ s r deep at small. let h = told s r deep at small in (h.0, h.1, h.2, h.3, (h.4.0, h.4.2))
-
-pub open_claim_may : (t : TableName) (id word c : ℕ) (m : Mine) → m.0.parts ≡ part_in m.0 ∷ [] → (part_in m.0).state.opening ≡ None → c < t.size → t.size ≡ word →
-    Keeps t.count t.size t.id.slots id m word (λ n. either (eqb n c) (c + 1) n) (open_claimed word c m)
-open_claim_may t id word c m whole none few at =
-    subst (λ (i : ℕ). Keeps t.count t.size t.id.slots id m i (λ n. either (eqb n c) (c + 1) n) (open_claimed i c m)) at
-    (claims_for_open t.count t.size t.id.slots id c m (part_in m.0) whole none few)
 
 open_bits : bits_of open_word ≡ 3
 unfolding open_word bits_of sets_bits source_bits has both no_sides
@@ -82,17 +75,20 @@ pub open_keeps : (i : ℕ) (p : Part) → KeepsHands p (open_part i p)
 open_keeps i p = record { node = refl; hand = refl; message = refl; probed = refl }
 
 -- a load of the claim count, and then an exchange of it
-pub for_open : (size n : ℕ) (s0 s1 s2 : CellState) (answer : Result ℕ Refusal) → n < size → AreReached size s0.seen n → HasSeen size n s0 s1 → ClaimsAt size n s1 answer s2 → ClaimsForOpen size s0 s2 answer
-for_open size n s0 s1 s2 (Ok w) few reached load at =
-    Claimed n (ap Ok at.0) few reached (at.1 ∙ ap (claimed_part n) load.part) (at.2 ∙ ap (λ l. l ++ (size, n) ∷ []) load.seen)
-for_open size n s0 s1 s2 (Err e) few reached load at =
-    Outrun n at.1 (ap Err at.0) at.2 (at.3.part ∙ load.part) (at.3.seen ∙ ap (λ l. l ++ (size, at.1) ∷ []) load.seen)
+pub for_open : (t : TableName) (c : ℕ) (s0 s1 s2 : CellState) (answer : Result ℕ Refusal) → c < t.size → AreReached t.size s0.seen c → HasSeen t.size c s0 s1 → ClaimsAt t c s1 answer s2 → ClaimsForOpen t s0 s2 answer
+for_open t c s0 s1 s2 (Ok w) few reached load at =
+    Claimed c w refl at.0 reached (at.1 ∙ ap (claimed_part w) load.part) (at.2 ∙ ap (λ l. l ++ (t.size, w) ∷ []) load.seen)
+for_open t c s0 s1 s2 (Err e) few reached load at = ⊎_elim
+    (λ lost. Outrun c lost.1.0 (ap Err lost.0) lost.1.1 (lost.1.2.part ∙ load.part) (lost.1.2.seen ∙ ap (λ l. l ++ (t.size, lost.1.0) ∷ []) load.seen))
+    (λ none. Slotless c (ap Err none.0) none.1.reuses few (none.1.part ∙ load.part) (none.1.seen ∙ load.seen))
+    at
 
--- a claimed word is below the number of words
-pub claim_small : (size serial : ℕ) (old new : CellState) (answer : Result ℕ Refusal) → size < 4294967296 → Answered size serial old new answer → IfOk answer (λ n. n < 4294967296)
-claim_small size serial old new answer few (Won n e less reached part seen) = subst (λ (r : Result ℕ Refusal). IfOk r (λ n. n < 4294967296)) (sym e) (omega (arith, few, less))
-claim_small size serial old new answer few (Dry e part seen) = subst (λ (r : Result ℕ Refusal). IfOk r (λ n. n < 4294967296)) (sym e) tt
-claim_small size serial old new answer few (Missed n found e other part seen) = subst (λ (r : Result ℕ Refusal). IfOk r (λ n. n < 4294967296)) (sym e) tt
+-- a claimed number is below the number of words
+pub claim_small : (t : TableName) (serial : ℕ) (old new : CellState) (answer : Result ℕ Refusal) → t.size < 4294967296 → Answered t serial old new answer → IfOk answer (λ n. n < 4294967296)
+claim_small t serial old new answer few (Won c n e number reached part seen) = subst (λ (r : Result ℕ Refusal). IfOk r (λ n. n < 4294967296)) (sym e) (let less = number.below in omega (arith, few, less))
+claim_small t serial old new answer few (Dry e part seen) = subst (λ (r : Result ℕ Refusal). IfOk r (λ n. n < 4294967296)) (sym e) tt
+claim_small t serial old new answer few (Unslotted c e again less part seen) = subst (λ (r : Result ℕ Refusal). IfOk r (λ n. n < 4294967296)) (sym e) tt
+claim_small t serial old new answer few (Missed n found e other part seen) = subst (λ (r : Result ℕ Refusal). IfOk r (λ n. n < 4294967296)) (sym e) tt
 
 -- a load of one mailbox, and then of the others
 pub one_more : (t : TableName) (from n : ℕ) (s0 s1 s2 : CellState) (rest : Bool) → HasSeen (mail_word t from s0.part.node) n s0 s1 → FindsFree t (from + 1) s1 rest s2 →
@@ -129,14 +125,14 @@ same_open s0 s1 s2 ends part seen how = record {
 }
 
 -- a load of the claim count, an exchange of it, and an open
-pub fresh_open : (size n word : ℕ) (s0 s1 s2 s3 s4 : CellState) (ends : End × End) → HasSeen size n s0 s1 → s2.part ≡ s1.part → s2.seen ≡ s1.seen →
-    ClaimsAt size n s2 (Ok word) s3 → OpensWord s3 ends s4 → OpensWord (claimed_for_open size n s0) ends s4
-fresh_open size n word s0 s1 s2 s3 s4 ends load part seen claim how =
-    same_open (claimed_for_open size n s0) s3 s4 ends (claim.1 ∙ ap (claimed_part n) (part ∙ load.part))
-    (claim.2 ∙ ap (λ l. l ++ (size, n) ∷ []) (seen ∙ load.seen)) how
+pub fresh_open : (t : TableName) (c n : ℕ) (s0 s1 s2 s3 s4 : CellState) (ends : End × End) → HasSeen t.size c s0 s1 → s2.part ≡ s1.part → s2.seen ≡ s1.seen →
+    ClaimsAt t c s2 (Ok n) s3 → OpensWord s3 ends s4 → OpensWord (claimed_for_open t.size c n s0) ends s4
+fresh_open t c n s0 s1 s2 s3 s4 ends load part seen claim how =
+    same_open (claimed_for_open t.size c n s0) s3 s4 ends (claim.1 ∙ ap (claimed_part n) (part ∙ load.part))
+    (claim.2 ∙ ap (λ l. l ++ (t.size, n) ∷ []) (seen ∙ load.seen)) how
 
--- a cell that may open a pair still may, with a word claimed for it
-pub still_ready : (size n word : ℕ) (s2 s3 : CellState) → CanOpen (roomy s2) → ClaimsAt size n s2 (Ok word) s3 → s3.room ≡ s2.room → CanOpen (roomy s3)
-still_ready size n word s2 s3 can claim room =
+-- a cell that may open a pair still may, with a number claimed for it
+pub still_ready : (t : TableName) (c n : ℕ) (s2 s3 : CellState) → CanOpen (roomy s2) → ClaimsAt t c s2 (Ok n) s3 → s3.room ≡ s2.room → CanOpen (roomy s3)
+still_ready t c n s2 s3 can claim room =
     subst (λ (p : Part). CanOpen (record { node = p.state; room = s3.room })) (sym claim.1)
     (subst (λ (m : NodeRoom). CanOpen (record { node = (claimed_part n s2.part).state; room = m })) (sym room) can)

@@ -3,7 +3,6 @@ use Rattle.std.specs.Prelude.{◌≡◌, ◌<◌, ℕ, zero, suc, List, [], ◌�
 use Rattle.std.proofs.Common.{sym, subst, arith}
 use mathlib.Core.Option.{some, some-ne-none}
 use lib.ListN.{get_elem?}
-use Rattle.atomic_table.specs.Table.{Allows}
 use Rattle.atomic_table.proofs.Lists.{set_here}
 use Rattle.ipcz_node.specs.Node.{Node}
 use Rattle.ipcz_world.specs.World.{node_at}
@@ -15,7 +14,7 @@ use Rattle.ipcz_world.proofs.Whole.{nodes_are_sound}
 use Rattle.ipcz_cell.specs.Seats.{Keeps}
 
 -- a seat's view is inside
-at_inside : (l : List View) (i : ℕ) (v : View) → get_elem? l i ≡ some v → i < length l
+pub at_inside : {A : Type 0} (l : List A) (i : ℕ) (v : A) → get_elem? l i ≡ some v → i < length l
 at_inside [] i v e = absurd (some-ne-none v (sym e))
 at_inside (x ∷ xs) zero v e = omega arith
 at_inside (x ∷ xs) (suc i) v e = let h = at_inside xs i v e in omega arith
@@ -31,17 +30,7 @@ sound_at count size s r id v at k p there =
     (omega (arith, inside, r.nodes), subst (λ (n : Node). IsSound count size p.node n) t.1.state sized)
 
 pub tells : (count size slots id i : ℕ) (m : Mine) (f : ℕ → ℕ) (then : ℕ → Mine → Type 0) → Keeps count size slots id m i f then →
-    Allows (Rules count size) slots id m i f (λ n m'. then n m' × AreSound count size m'.0)
+    Keeps count size slots id m i f (λ n m'. then n m' × AreSound count size m'.0)
 tells count size slots id i m f then may s r deep at small =
     let t = may s r deep at small in
-    (t.0, t.1, t.2, t.3.0, (t.4, sound_at count size _ t.3.0 id t.0 (set_here s.views id t.0 (at_inside s.views id m.0 at))))
-
--- the same at the table's own numbers
-pub step_may : (c s slots count size slots' i id : ℕ) (m : Mine) (f : ℕ → ℕ) (then : ℕ → Mine → Type 0) → c ≡ count → s ≡ size → slots ≡ slots' →
-    Keeps count size slots' id m i f then → Allows (Rules c s) slots id m i f (λ n m'. then n m' × AreSound count size m'.0)
-step_may c s slots count size slots' i id m f then ec es el may =
-    let told = tells count size slots' id i m f then may in
-    let then' : ℕ → Mine → Type 0 = λ n m'. then n m' × AreSound count size m'.0 in
-    subst (λ (z : ℕ). Allows (Rules z s) slots id m i f then') (sym ec)
-    (subst (λ (z : ℕ). Allows (Rules count z) slots id m i f then') (sym es)
-    (subst (λ (z : ℕ). Allows (Rules count size) z id m i f then') (sym el) told))
+    (t.0, t.1, t.2, t.3, (t.4, sound_at count size _ t.3.0 id t.0 (set_here s.views id t.0 (at_inside s.views id m.0 at))))

@@ -21,11 +21,11 @@ use Rattle.ipcz_rule.specs.declared.view.Part.{Part}
 use Rattle.ipcz_cell.specs.TableNames.{TableName}
 use Rattle.ipcz_cell.specs.CellStates.{CellState}
 use Rattle.ipcz_rule.specs.Steps.{old_word}
-use Rattle.ipcz_cell.specs.Claims.{Answered, Got as Claimed, Dry as WasDry, Lost as WasLost}
+use Rattle.ipcz_cell.specs.Claims.{Answered, Got as Claimed, Dry as WasDry, Slotless as HadNoSlot, Lost as WasLost}
 use Rattle.ipcz_cell.specs.Mails.{mail_word, old_named, OldLoaded, source_found, Handles}
 use Rattle.ipcz_cell.specs.Turns.{IsFirst, Chooses}
 use Rattle.ipcz_rule.specs.Races.{IsWaitedFor}
-use Rattle.ipcz_cell.specs.TurnEnds.{IsTaken, IsLost, IsRefused, NoSerials, NoMemory, LostIt, hand_lacks_serials, Acts, EndsRaced, IsLostTurn, Turns, Got, Dry}
+use Rattle.ipcz_cell.specs.TurnEnds.{IsTaken, IsLost, IsRefused, NoSerials, NoMemory, LostIt, hand_lacks_serials, Acts, EndsRaced, IsLostTurn, Turns, Got, Dry, NoSlot}
 use Rattle.ipcz_cell.proofs.TurnWords.{seen_two}
 use Rattle.ipcz_cell.proofs.TurnActs.{acts_whole}
 
@@ -82,24 +82,25 @@ abbrev refusal_in : Refusal → Result ℕ Refusal → Refusal
 refusal_in d (Ok n) = d
 refusal_in d (Err why) = why
 
-pub claim_acts : (t : TableName) (serial word count : ℕ) (old new : CellState) → IsPossibleAct old.part.state (acts.Router serial router_acts.Claim) → word ≡ count → Answered t.size serial old new (Ok count) →
+pub claim_acts : (t : TableName) (serial word count : ℕ) (old new : CellState) → IsPossibleAct old.part.state (acts.Router serial router_acts.Claim) → word ≡ count → Answered t serial old new (Ok count) →
     Acts t (acts.Router serial router_acts.Claim) old (Ok (events.Claim serial word)) new
 unfolding word_event
-claim_acts t serial word count old new may is (Claimed n e low reached part seen) =
+claim_acts t serial word count old new may is (Claimed c n e number reached part seen) =
     let same : word ≡ n = is ∙ ap (number_in 0) e in
-    acts_whole t (acts.Router serial router_acts.Claim) old new (events.Claim serial word) ((t.size, n) ∷ (t.size, n) ∷ []) (seen ∙ seen_two old.seen (t.size, n) (t.size, n)) (record {
+    acts_whole t (acts.Router serial router_acts.Claim) old new (events.Claim serial word) ((t.size, c) ∷ (t.size, n) ∷ []) (seen ∙ seen_two old.seen (t.size, c) (t.size, n)) (record {
       answer = answers.Claimed n;
-      answered = Got n low refl refl;
+      answered = Got c n number refl refl;
       part = part;
       event_is = claim_event old.part.state serial (answers.Claimed n) (events.Claim serial word) may (λ r. ap (events.Claim serial) same);
     })
 claim_acts t serial word count old new may is (WasDry e part seen) = cc
+claim_acts t serial word count old new may is (HadNoSlot c e again less part seen) = cc
 claim_acts t serial word count old new may is (WasLost n found e other part seen) = cc
 
-pub claim_dries : (t : TableName) (serial : ℕ) (old new : CellState) (why : Refusal) → why ≡ refusals.NoWord → IsPossibleAct old.part.state (acts.Router serial router_acts.Claim) → Answered t.size serial old new (Err why) →
+pub claim_dries : (t : TableName) (serial : ℕ) (old new : CellState) (why : Refusal) → why ≡ refusals.NoWord → IsPossibleAct old.part.state (acts.Router serial router_acts.Claim) → Answered t serial old new (Err why) →
     Acts t (acts.Router serial router_acts.Claim) old (Ok (events.ClaimNoWord serial)) new
 unfolding word_event
-claim_dries t serial old new why dry may (Claimed n e low reached part seen) = cc
+claim_dries t serial old new why dry may (Claimed c n e number reached part seen) = cc
 claim_dries t serial old new why dry may (WasDry e part seen) =
     acts_whole t (acts.Router serial router_acts.Claim) old new (events.ClaimNoWord serial) ((t.size, t.size) ∷ []) seen (record {
       answer = answers.NoWord;
@@ -107,11 +108,19 @@ claim_dries t serial old new why dry may (WasDry e part seen) =
       part = part;
       event_is = claim_event old.part.state serial answers.NoWord (events.ClaimNoWord serial) may (λ r. refl);
     })
+claim_dries t serial old new why dry may (HadNoSlot c e again less part seen) =
+    acts_whole t (acts.Router serial router_acts.Claim) old new (events.ClaimNoWord serial) ((t.size, c) ∷ []) seen (record {
+      answer = answers.NoWord;
+      answered = NoSlot c less again refl refl;
+      part = part;
+      event_is = claim_event old.part.state serial answers.NoWord (events.ClaimNoWord serial) may (λ r. refl);
+    })
 claim_dries t serial old new why dry may (WasLost n found e other part seen) = absurd (let bad : refusals.NoWord ≡ refusals.Raced = sym dry ∙ ap (refusal_in why) e in cc)
 
-pub claim_lost : (t : TableName) (serial : ℕ) (old new : CellState) (why : Refusal) → why ≢ refusals.NoWord → Answered t.size serial old new (Err why) → Acts t (acts.Router serial router_acts.Claim) old (Err why) new
-claim_lost t serial old new why not (Claimed n e low reached part seen) = cc
+pub claim_lost : (t : TableName) (serial : ℕ) (old new : CellState) (why : Refusal) → why ≢ refusals.NoWord → Answered t serial old new (Err why) → Acts t (acts.Router serial router_acts.Claim) old (Err why) new
+claim_lost t serial old new why not (Claimed c n e number reached part seen) = cc
 claim_lost t serial old new why not (WasDry e part seen) = absurd (not (ap (refusal_in why) e))
+claim_lost t serial old new why not (HadNoSlot c e again less part seen) = absurd (not (ap (refusal_in why) e))
 claim_lost t serial old new why not (WasLost n found e other part seen) = record {
   found = (t.size, n) ∷ (t.size, found) ∷ [];
   seen = seen ∙ seen_two old.seen (t.size, n) (t.size, found);
@@ -119,10 +128,11 @@ claim_lost t serial old new why not (WasLost n found e other part seen) = record
 }
 
 -- what was claimed is one of the table's words
-pub claim_below : (size serial count : ℕ) (old new : CellState) → Answered size serial old new (Ok count) → count < size
-claim_below size serial count old new (Claimed n e low reached part seen) = let same : count ≡ n = ap (number_in 0) e in omega (arith, same, low)
-claim_below size serial count old new (WasDry e part seen) = cc
-claim_below size serial count old new (WasLost n found e other part seen) = cc
+pub claim_below : (t : TableName) (serial count : ℕ) (old new : CellState) → Answered t serial old new (Ok count) → count < t.size
+claim_below t serial count old new (Claimed c n e number reached part seen) = let same : count ≡ n = ap (number_in 0) e in let low = number.below in omega (arith, same, low)
+claim_below t serial count old new (WasDry e part seen) = cc
+claim_below t serial count old new (HadNoSlot c e again less part seen) = cc
+claim_below t serial count old new (WasLost n found e other part seen) = cc
 
 -- an act that was lost to another thread ends with a load and an exchange of one word
 ends_with : (t : TableName) (p : Part) (loads found before : Seen) (word n m : ℕ) → IsWaitedFor t.count t.size p word n → m ≢ n → loads ≡ before ++ (word, n) ∷ [] →

@@ -1,5 +1,5 @@
 -- The claim count of a cell: what the calls on it require, answer and leave.
-use Rattle.std.specs.Prelude.{◌≡◌, ◌≢◌, ◌<◌, ◌≤◌, ℕ, [], ◌∷◌, ◌++◌, List, Result, Ok, Err, MatchBool, eqb}
+use Rattle.std.specs.Prelude.{◌≡◌, ◌≢◌, ◌<◌, ◌≤◌, ◌%◌, ℕ, true, false, [], ◌∷◌, ◌++◌, List, Result, Ok, Err, MatchBool, eqb}
 use mathlib.Core.Option.{some}
 use lib.ListN.{get_elem?}
 use Rattle.ipcz_base.specs.declared.refusal.Refusal.{Refusal}
@@ -9,8 +9,10 @@ use Rattle.ipcz_router.specs.declared.act.Answer.TheVariants as answers
 use Rattle.ipcz_router.specs.declared.act.RouterAct.TheVariants as router_acts
 use Rattle.ipcz_node.specs.declared.act.Act.TheVariants as acts
 use Rattle.ipcz_node.specs.Node.{Node}
+use Rattle.ipcz_slots.specs.Slots.{has_number}
 use Rattle.ipcz_rule.specs.Rule.{saw}
 use Rattle.ipcz_rule.specs.Steps.{act_part, CanAct}
+use Rattle.ipcz_cell.specs.TableNames.{TableName}
 use Rattle.ipcz_cell.specs.CellStates.{CellState, change_part}
 use Rattle.ipcz_cell.specs.Outcomes.{Tells}
 
@@ -22,6 +24,16 @@ CanClaim x serial = (r : Router) × CanAct x serial r router_acts.Claim
 abbrev pub AreReached : ℕ → List (ℕ × ℕ) → ℕ → Type 0
 AreReached size seen n = (k earlier : ℕ) → get_elem? seen k ≡ some (size, earlier) → earlier ≤ n
 
+-- the number that a claim at a count is for: the count itself, where slots aren't used again; else one from it on
+pub record IsNumberAt (t : TableName) (count n : ℕ) : Type 0 where
+  pub least : count ≤ n
+  pub below : n < t.size
+  pub order : t.reuses ≡ false → n ≡ count
+
+-- if slots are used again, that of the number is free at the seat
+abbrev pub HasFreeSlot : TableName → List ℕ → ℕ → Type 0
+HasFreeSlot t free n = t.reuses ≡ true → has_number free (n % t.slots) ≡ true
+
 -- a load of the claim count, which finds at most as many as there are, and at least each count that was seen: if it finds all of them,
 -- it is the claim's NoWord
 abbrev pub counted : ℕ → ℕ → Tells
@@ -29,18 +41,23 @@ counted size serial m n m' = (n ≤ size) × AreReached size m.0.seen n ×
     MatchBool (eqb n size) (m' ≡ (change_part (act_part (acts.Router serial router_acts.Claim) answers.NoWord) (saw size n m.0), m.1))
     (m' ≡ (saw size n m.0, m.1))
 
--- an exchange of the claim count for the next
-abbrev pub claimed : ℕ → ℕ → ℕ → Tells
-claimed size serial c m n m' = MatchBool (eqb n c)
-    (m' ≡ (change_part (act_part (acts.Router serial router_acts.Claim) (answers.Claimed c)) (saw size n m.0), m.1))
-    (m' ≡ (saw size n m.0, m.1))
+-- an exchange of the claim count c for the number behind the number n
+abbrev pub claimed : ℕ → ℕ → ℕ → ℕ → Tells
+claimed size serial c n m k m' = MatchBool (eqb k c)
+    (m' ≡ (change_part (act_part (acts.Router serial router_acts.Claim) (answers.Claimed n)) (saw size n m.0), m.1))
+    (m' ≡ (saw size k m.0, m.1))
 
--- what a proxy's claim answers and leaves: a word that no count that was seen has passed; NoWord only if the load found that each word
--- was claimed, and then it is dry; Raced only if the load and the exchange found different counts
-pub data Answered (size serial : ℕ) (old new : CellState) (answer : Result ℕ Refusal) : Type 0 where
-  Got : (n : ℕ) → answer ≡ Ok n → n < size → AreReached size old.seen n → new.part ≡ act_part (acts.Router serial router_acts.Claim) (answers.Claimed n) old.part →
-      new.seen ≡ (old.seen ++ (size, n) ∷ []) ++ (size, n) ∷ [] → Answered size serial old new answer
+-- what a proxy's claim answers and leaves: a number that no count that was seen has passed; NoWord only if the load found that each number
+-- was claimed, or, where slots are used again, no slot was found to be had, and then it is dry; Raced only if the load and the exchange found
+-- different counts
+pub data Answered (t : TableName) (serial : ℕ) (old new : CellState) (answer : Result ℕ Refusal) : Type 0 where
+  Got : (c n : ℕ) → answer ≡ Ok n → IsNumberAt t c n → AreReached t.size old.seen c →
+      new.part ≡ act_part (acts.Router serial router_acts.Claim) (answers.Claimed n) old.part →
+      new.seen ≡ (old.seen ++ (t.size, c) ∷ []) ++ (t.size, n) ∷ [] → Answered t serial old new answer
   Dry : answer ≡ Err NoWord → new.part ≡ act_part (acts.Router serial router_acts.Claim) answers.NoWord old.part →
-      new.seen ≡ old.seen ++ (size, size) ∷ [] → Answered size serial old new answer
+      new.seen ≡ old.seen ++ (t.size, t.size) ∷ [] → Answered t serial old new answer
+  Slotless : (c : ℕ) → answer ≡ Err NoWord → t.reuses ≡ true → c < t.size →
+      new.part ≡ act_part (acts.Router serial router_acts.Claim) answers.NoWord old.part →
+      new.seen ≡ old.seen ++ (t.size, c) ∷ [] → Answered t serial old new answer
   Lost : (n found : ℕ) → answer ≡ Err Raced → found ≢ n → new.part ≡ old.part →
-      new.seen ≡ (old.seen ++ (size, n) ∷ []) ++ (size, found) ∷ [] → Answered size serial old new answer
+      new.seen ≡ (old.seen ++ (t.size, n) ∷ []) ++ (t.size, found) ∷ [] → Answered t serial old new answer

@@ -1,6 +1,6 @@
 -- The way back from a table to a world: what its steps tell, and what is read of the words and slots.
 use Rattle.std.specs.Prelude.{◌≡◌, ◌≢◌, ◌<◌, ◌+◌, ◌*◌, ℕ, Bool, nat_eq, nat_lt, ◌&&◌, if◌then◌else◌, List, [], ◌∷◌, map, slice_index}
-use Rattle.std.specs.Prelude.{Option, Some, None}
+use Rattle.std.specs.Prelude.{Option, Some, None, MatchBool}
 use mathlib.Core.Option.{some}
 use lib.ListN.{get_elem?}
 use Rattle.atomic_table.specs.Table.{rest}
@@ -12,6 +12,7 @@ use Rattle.ipcz_world.specs.declared.mail.Mail.TheVariants as mails
 use Rattle.ipcz_rule.specs.declared.view.Part.{Part}
 use Rattle.ipcz_rule.specs.Rule.{Slot, saw}
 use Rattle.ipcz_rule.specs.Steps.{unprobe_part}
+use Rattle.ipcz_cell.specs.TableNames.{TableName}
 use Rattle.ipcz_cell.specs.CellStates.{CellState, change_part}
 use Rattle.ipcz_cell.specs.Outcomes.{Tells}
 
@@ -60,6 +61,10 @@ pub record Reads (n first : ℕ) (words : List ℕ) (slots : List Slot) (hands :
       slice_index words (first + (from' * n + to)) ≡ 2 → from ≡ from'
   pub empty : (k : ℕ) → k < n * n → slice_index words (first + k) ≢ 1 → slice_index words (first + k) ≢ 2 → mail k ≡ mails.Empty
 
--- why a finish is refused: the cells aren't those of all nodes in their order; else there was no memory
+-- why all cells of a table aren't taken: they aren't those of all nodes in their order; else there was no memory
 abbrev pub FinishRefuses : ℕ → List CellState → Refusal → Type 0
 FinishRefuses count cells why = why ≡ (if is_in_order count 0 cells then refusals.OutOfMemory else refusals.Stranger)
+
+-- why a table gives no world: its slots are used again, so the words of numbers that were let go are gone; or as above
+abbrev pub GivesNoWorld : TableName → List CellState → Refusal → Type 0
+GivesNoWorld t cells why = MatchBool t.reuses (why ≡ refusals.NoWord) (FinishRefuses t.count cells why)

@@ -1,5 +1,5 @@
 -- The claim count, a link word and an open at a cell: what the calls on them answer and leave.
-use Rattle.std.specs.Prelude.{◌≡◌, ◌≢◌, ◌<◌, ◌≤◌, ◌+◌, ℕ, [], ◌∷◌, ◌++◌, Bool, true, ◌&&◌, ◌||◌, ◌==◌, List, length, is_some, Option, Some}
+use Rattle.std.specs.Prelude.{◌≡◌, ◌≢◌, ◌<◌, ◌≤◌, ◌⊎◌, ◌+◌, ℕ, [], ◌∷◌, ◌++◌, Bool, true, ◌&&◌, ◌||◌, ◌==◌, List, length, is_some, Option, Some}
 use Rattle.std.specs.Prelude.{None}
 use Rattle.std.specs.Prelude.{Result, Ok, Err, MatchBool, MatchOption, MatchResult, eqb, unwrap_or}
 use Rattle.ipcz_base.specs.declared.end.End.{End}
@@ -20,7 +20,7 @@ use Rattle.ipcz_cell.specs.TableNames.{TableName}
 use Rattle.ipcz_cell.specs.CellStates.{CellState, change_part}
 use Rattle.ipcz_cell.specs.Outcomes.{Tells, loaded}
 use Rattle.ipcz_cell.specs.Mails.{mail_word, HasSeen}
-use Rattle.ipcz_cell.specs.Claims.{AreReached, Answered}
+use Rattle.ipcz_cell.specs.Claims.{AreReached, IsNumberAt, Answered}
 
 -- a load of the claim count finds at most as many as there are, and at least each that was seen
 abbrev pub count_loaded : ℕ → Tells
@@ -30,9 +30,9 @@ count_loaded size m n m' = (n ≤ size) × AreReached size m.0.seen n × loaded 
 abbrev pub word_loaded : ℕ → Tells
 word_loaded i m n m' = IsLinkNumber n × loaded i m n m'
 
--- an exchange of the claim count for the next, for an open
-abbrev pub open_claimed : ℕ → ℕ → Tells
-open_claimed size c m n m' = MatchBool (eqb n c) (m' ≡ (change_part (claimed_part c) (saw size n m.0), m.1)) (m' ≡ (saw size n m.0, m.1))
+-- an exchange of the claim count c for the number behind the number n, for an open
+abbrev pub open_claimed : ℕ → ℕ → ℕ → Tells
+open_claimed size c n m k m' = MatchBool (eqb k c) (m' ≡ (change_part (claimed_part n) (saw size n m.0), m.1)) (m' ≡ (saw size k m.0, m.1))
 
 -- an exchange of the word that was claimed for an open, which finds it empty
 abbrev pub opened : ℕ → Tells
@@ -44,28 +44,41 @@ ReadsWord size i old answer new = (count : ℕ) × (count ≤ size) × AreReache
     (λ word. (i < count) × IsLinkNumber word × (new.part ≡ old.part) × (new.room ≡ old.room) ×
     (new.seen ≡ (old.seen ++ (size, count) ∷ []) ++ (i, word) ∷ []))
 
--- what an exchange of the claim count, which was found at c, answers and leaves
-abbrev pub ClaimsAt : ℕ → ℕ → CellState → Result ℕ Refusal → CellState → Type 0
-ClaimsAt size c old answer new = MatchResult answer
-    (λ word. (word ≡ c) × (new.part ≡ claimed_part c old.part) × (new.seen ≡ old.seen ++ (size, c) ∷ []))
-    (λ why. (why ≡ Raced) × (found : ℕ) × (found ≢ c) × HasSeen size found old new)
+-- what a look at a link's word answers and leaves: if slots are used again there is none to show, and nothing has changed
+abbrev pub ShowsWord : TableName → ℕ → CellState → Option ℕ → CellState → Type 0
+ShowsWord t i old answer new = MatchBool t.reuses ((answer ≡ None) × (new ≡ old)) (ReadsWord t.size i old answer new)
 
--- the cell after a word was claimed for an open: a load and an exchange of the claim count have found the same
-abbrev pub claimed_for_open : ℕ → ℕ → CellState → CellState
-claimed_for_open size n old = record {
+-- a claim that finds no slot to be had: where slots are used again
+pub record FindsNoSlot (t : TableName) (old new : CellState) : Type 0 where
+  pub reuses : t.reuses ≡ true
+  pub part : new.part ≡ old.part
+  pub seen : new.seen ≡ old.seen
+
+-- what an exchange of the claim count, which was found at c, answers and leaves
+abbrev pub ClaimsAt : TableName → ℕ → CellState → Result ℕ Refusal → CellState → Type 0
+ClaimsAt t c old answer new = MatchResult answer
+    (λ n. IsNumberAt t c n × (new.part ≡ claimed_part n old.part) × (new.seen ≡ old.seen ++ (t.size, n) ∷ []))
+    (λ why. ((why ≡ Raced) × ((found : ℕ) × (found ≢ c) × HasSeen t.size found old new)) ⊎ ((why ≡ NoWord) × FindsNoSlot t old new))
+
+-- the cell after the number n was claimed for an open: a load has found the claim count at c, and so has the exchange
+abbrev pub claimed_for_open : ℕ → ℕ → ℕ → CellState → CellState
+claimed_for_open size c n old = record {
   part = claimed_part n old.part;
-  seen = (old.seen ++ (size, n) ∷ []) ++ (size, n) ∷ [];
+  seen = (old.seen ++ (size, c) ∷ []) ++ (size, n) ∷ [];
   room = old.room;
 }
 
--- what the claim of a word for an open answers and leaves: a word that no count that was seen has passed; NoWord only if the load found
--- that each word was claimed, Raced only if the load and the exchange found different counts
-pub data ClaimsForOpen (size : ℕ) (old new : CellState) (answer : Result ℕ Refusal) : Type 0 where
-  Claimed : (n : ℕ) → answer ≡ Ok n → n < size → AreReached size old.seen n → new.part ≡ claimed_part n old.part →
-      new.seen ≡ (old.seen ++ (size, n) ∷ []) ++ (size, n) ∷ [] → ClaimsForOpen size old new answer
-  Exhausted : answer ≡ Err NoWord → HasSeen size size old new → ClaimsForOpen size old new answer
+-- what the claim of a number for an open answers and leaves: a number that no count that was seen has passed; NoWord only if the load found
+-- that each number was claimed, or, where slots are used again, no slot was found to be had; Raced only if the load and the exchange found
+-- different counts
+pub data ClaimsForOpen (t : TableName) (old new : CellState) (answer : Result ℕ Refusal) : Type 0 where
+  Claimed : (c n : ℕ) → answer ≡ Ok n → IsNumberAt t c n → AreReached t.size old.seen c → new.part ≡ claimed_part n old.part →
+      new.seen ≡ (old.seen ++ (t.size, c) ∷ []) ++ (t.size, n) ∷ [] → ClaimsForOpen t old new answer
+  Exhausted : answer ≡ Err NoWord → HasSeen t.size t.size old new → ClaimsForOpen t old new answer
+  Slotless : (c : ℕ) → answer ≡ Err NoWord → t.reuses ≡ true → c < t.size → new.part ≡ old.part → new.seen ≡ old.seen ++ (t.size, c) ∷ [] →
+      ClaimsForOpen t old new answer
   Outrun : (n found : ℕ) → answer ≡ Err Raced → found ≢ n → new.part ≡ old.part →
-      new.seen ≡ (old.seen ++ (size, n) ∷ []) ++ (size, found) ∷ [] → ClaimsForOpen size old new answer
+      new.seen ≡ (old.seen ++ (t.size, n) ∷ []) ++ (t.size, found) ∷ [] → ClaimsForOpen t old new answer
 
 -- who may claim a word: a proxy whose act it is, or the node for an open if none is under way
 abbrev pub MayClaim : Node → Option ℕ → Type 0
@@ -73,9 +86,9 @@ MayClaim x None = x.opening ≡ None
 MayClaim x (Some serial) = IsPossibleAct x (acts.Router serial router_acts.Claim)
 
 -- what the claim of a word answers and leaves
-abbrev pub ClaimsWord : ℕ → Option ℕ → CellState → CellState → Result ℕ Refusal → Type 0
-ClaimsWord size None old new answer = ClaimsForOpen size old new answer
-ClaimsWord size (Some serial) old new answer = Answered size serial old new answer
+abbrev pub ClaimsWord : TableName → Option ℕ → CellState → CellState → Result ℕ Refusal → Type 0
+ClaimsWord t None old new answer = ClaimsForOpen t old new answer
+ClaimsWord t (Some serial) old new answer = Answered t serial old new answer
 
 -- what the open of a pair on the word of the open under way answers and leaves: the word was empty
 pub record OpensWord (old : CellState) (ends : End × End) (new : CellState) : Type 0 where
@@ -86,19 +99,21 @@ pub record OpensWord (old : CellState) (ends : End × End) (new : CellState) : T
   pub seen : new.seen ≡ old.seen ++ (word, 0) ∷ []
 
 -- what the open of a pair answers and leaves: an open under way is used; else a word is claimed for it, which no count that was seen has
--- passed. NoWord only if the load found that each word was claimed, Raced only if the load and the exchange found different counts. A
--- refused open leaves the node's part
-pub data OpensPair (size : ℕ) (old new : CellState) (answer : Result (End × End) Refusal) : Type 0 where
-  UnderWay : (ends : End × End) → answer ≡ Ok ends → ends.0.pair < size → OpensWord old ends new → OpensPair size old new answer
-  Fresh : (n : ℕ) (ends : End × End) → answer ≡ Ok ends → old.part.state.opening ≡ None → n < size → AreReached size old.seen n →
-      OpensWord (claimed_for_open size n old) ends new →
-      OpensPair size old new answer
-  NoneLeft : answer ≡ Err NoWord → old.part.state.opening ≡ None → HasSeen size size old new → OpensPair size old new answer
+-- passed. NoWord only if the load found that each number was claimed, or, where slots are used again, no slot was found to be had, with all else
+-- ready; Raced only if the load and the exchange found different counts. A refused open leaves the node's part
+pub data OpensPair (t : TableName) (old new : CellState) (answer : Result (End × End) Refusal) : Type 0 where
+  UnderWay : (ends : End × End) → answer ≡ Ok ends → ends.0.pair < t.size → OpensWord old ends new → OpensPair t old new answer
+  Fresh : (c n : ℕ) (ends : End × End) → answer ≡ Ok ends → old.part.state.opening ≡ None → IsNumberAt t c n → AreReached t.size old.seen c →
+      OpensWord (claimed_for_open t.size c n old) ends new →
+      OpensPair t old new answer
+  NoneLeft : answer ≡ Err NoWord → old.part.state.opening ≡ None → HasSeen t.size t.size old new → OpensPair t old new answer
+  NoSlot : (c : ℕ) → answer ≡ Err NoWord → t.reuses ≡ true → old.part.state.opening ≡ None → serials_refusal old.part.state ≡ None →
+      c < t.size → new.part ≡ old.part → new.seen ≡ old.seen ++ (t.size, c) ∷ [] → OpensPair t old new answer
   Unready : answer ≡ Err (unwrap_or (serials_refusal old.part.state) OutOfMemory) → new.part ≡ old.part →
-      MatchBool (is_some old.part.state.opening) (new.seen ≡ old.seen) ((n : ℕ) × (n < size) × (new.seen ≡ old.seen ++ (size, n) ∷ [])) →
-      OpensPair size old new answer
-  Lost : (n found : ℕ) → answer ≡ Err Raced → old.part.state.opening ≡ None → serials_refusal old.part.state ≡ None → n < size → found ≢ n →
-      new.part ≡ old.part → new.seen ≡ (old.seen ++ (size, n) ∷ []) ++ (size, found) ∷ [] → OpensPair size old new answer
+      MatchBool (is_some old.part.state.opening) (new.seen ≡ old.seen) ((n : ℕ) × (n < t.size) × (new.seen ≡ old.seen ++ (t.size, n) ∷ [])) →
+      OpensPair t old new answer
+  Lost : (n found : ℕ) → answer ≡ Err Raced → old.part.state.opening ≡ None → serials_refusal old.part.state ≡ None → n < t.size → found ≢ n →
+      new.part ≡ old.part → new.seen ≡ (old.seen ++ (t.size, n) ∷ []) ++ (t.size, found) ∷ [] → OpensPair t old new answer
 
 -- loads of the mailboxes to a node, from a sender on
 abbrev pub box_loads : TableName → ℕ → ℕ → List ℕ → List (ℕ × ℕ)

@@ -50,7 +50,7 @@ abbrev pub RacedTryIsOvertaken : Type 0
 RacedTryIsOvertaken = (serial : ℕ) → Overtakes (λ t old new. TriesLock t.size serial old (Err Raced) new)
 
 abbrev pub RacedClaimIsOvertaken : Type 0
-RacedClaimIsOvertaken = (proxy : Option ℕ) → Overtakes (λ t old new. ClaimsWord t.size proxy old new (Err Raced))
+RacedClaimIsOvertaken = (proxy : Option ℕ) → Overtakes (λ t old new. ClaimsWord t proxy old new (Err Raced))
 
 abbrev pub RacedOpenIsOvertaken : Type 0
-RacedOpenIsOvertaken = Overtakes (λ t old new. OpensPair t.size old new (Err Raced))
+RacedOpenIsOvertaken = Overtakes (λ t old new. OpensPair t old new (Err Raced))

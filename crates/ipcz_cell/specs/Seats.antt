@@ -1,8 +1,48 @@
--- What a step of a cell's seat has to do.
-use Rattle.std.specs.Prelude.{ℕ, []}
-use Rattle.ipcz_rule.specs.Rule.{Mine}
+-- A cell's seat at a table with slots, and what it knows of the table that is folded, in which each number has its word.
+use Rattle.std.specs.Prelude.{◌≡◌, ℕ, [], ◌∷◌, ◌+◌, false, MatchBool, eqb}
+use prog.Atomic.{either}
+use Rattle.atomic_table.specs.Table.{Me, Allows}
+use Rattle.ipcz_slots.specs.declared.own.Own.{Own}
+use Rattle.ipcz_slots.specs.Slots.{Sizes, let_go_word, without_number}
+use Rattle.ipcz_slots.specs.SlotKinds.{HasSlot}
+use Rattle.ipcz_rule.specs.declared.view.View.{View}
+use Rattle.ipcz_rule.specs.Rule.{Slot, Mine}
 use Rattle.ipcz_rule.specs.Kinds.{IsKept}
+use Rattle.ipcz_rule.specs.Lasting.{LastingRules, virtual, sizes, own_of}
+use Rattle.ipcz_cell.specs.TableNames.{TableName}
+use Rattle.ipcz_cell.specs.Outcomes.{Tells}
 
--- it keeps the rule of the table, and ends of link words that nobody held are held by nobody
+-- what it knows and holds at the table that is folded
+abbrev pub mine_of : Me Slot (Own View) → Mine
+mine_of m = (m.0.view, m.1)
+
+-- the sizes of a table
+abbrev pub sizes_of : TableName → Sizes
+sizes_of t = sizes t.count t.size t.slots t.reuses
+
+-- a step of a seat on a word of the table that is folded: it keeps the rule, and ends that nobody held are held by nobody
 abbrev pub Keeps : (count size slots id : ℕ) → Mine → ℕ → (ℕ → ℕ) → (ℕ → Mine → Type 0) → Type 0
 Keeps count size slots id m i f told = IsKept count size slots id m i f (λ n. []) told
+
+-- a number has a slot, as the seat knows
+abbrev pub IsSlotted : TableName → ℕ → View → ℕ → Type 0
+IsSlotted t id v i = HasSlot (virtual t.count t.size) (sizes_of t) id v i
+
+-- an exchange 3 to 0 of a let-go word: the slot is the seat's to empty, if 3 was found
+abbrev pub Taken : TableName → ℕ → Me Slot (Own View) → ℕ → Me Slot (Own View) → Type 0
+Taken t word m n m' = MatchBool (eqb n 3)
+    ((p : ℕ) × (word ≡ let_go_word (sizes_of t) p) × (m' ≡ (own_of m.0.view (p ∷ m.0.dirty) m.0.free, m.1))) (m' ≡ m)
+
+-- a store 0 in the word of a slot that was taken: it is free
+abbrev pub Emptied : ℕ → Me Slot (Own View) → Me Slot (Own View) → Type 0
+Emptied word m m' = m' ≡ (own_of m.0.view (without_number m.0.dirty word) (word ∷ m.0.free), m.1)
+
+-- nothing has changed but the seat's slots
+abbrev pub SameBut : Me Slot (Own View) → Me Slot (Own View) → Type 0
+SameBut m m' = (m'.0.view ≡ m.0.view) × (m'.1 ≡ m.1)
+
+-- an exchange of the claim count for the number behind one may be, if that is told of it; if another count was found, the free slots stay
+abbrev pub MayClaim : TableName → ℕ → Me Slot (Own View) → ℕ → ℕ → Tells → Type 0
+MayClaim t id m count n told =
+    Allows (LastingRules t.count t.size t.slots t.reuses) t.id.slots id m (t.slots + 0) (λ k. either (eqb k count) (n + 1) k)
+    (λ k m'. told (mine_of m) k (mine_of m') × (eqb k count ≡ false → m'.0.free ≡ m.0.free))

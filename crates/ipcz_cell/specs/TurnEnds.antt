@@ -31,6 +31,7 @@ use Rattle.ipcz_rule.specs.Races.{IsWaitedFor}
 use Rattle.ipcz_rule.specs.Steps.{act_part, post_part, look_part, hand_part}
 use Rattle.ipcz_cell.specs.TableNames.{TableName}
 use Rattle.ipcz_cell.specs.CellStates.{CellState}
+use Rattle.ipcz_cell.specs.Claims.{IsNumberAt}
 use Rattle.ipcz_cell.specs.Mails.{mail_word, old_named, OldLoaded, source_found}
 use Rattle.ipcz_cell.specs.Words.{lock_seen}
 use Rattle.ipcz_cell.specs.Turns.{IsFirst}
@@ -58,10 +59,11 @@ pub record TriedWord (n : Node) (serial : ℕ) (answer : Answer) (seen : List (�
   pub answered : IsWordAnswer n serial (source_in n serial) router_acts.Lock answer word side found
   pub seen_is : seen ≡ lock_seen word found (plan_bits found side (source_in n serial) (plan_of (word_of_bits found) side)) []
 
--- a claim: a load of the claim count, and an exchange unless the load found that each word was claimed
-pub data CountedWord (size : ℕ) (answer : Answer) (seen : List (ℕ × ℕ)) : Type 0 where
-  Got : (n : ℕ) → n < size → answer ≡ answers.Claimed n → seen ≡ (size, n) ∷ (size, n) ∷ [] → CountedWord size answer seen
-  Dry : answer ≡ answers.NoWord → seen ≡ (size, size) ∷ [] → CountedWord size answer seen
+-- a claim: a load of the claim count, and an exchange unless the load found that each number was claimed, or there was no slot
+pub data CountedWord (t : TableName) (answer : Answer) (seen : List (ℕ × ℕ)) : Type 0 where
+  Got : (c n : ℕ) → IsNumberAt t c n → answer ≡ answers.Claimed n → seen ≡ (t.size, c) ∷ (t.size, n) ∷ [] → CountedWord t answer seen
+  Dry : answer ≡ answers.NoWord → seen ≡ (t.size, t.size) ∷ [] → CountedWord t answer seen
+  NoSlot : (c : ℕ) → c < t.size → t.reuses ≡ true → answer ≡ answers.NoWord → seen ≡ (t.size, c) ∷ [] → CountedWord t answer seen
 
 -- what a try for the lock of a word, which was found so, is seen to be
 abbrev pub try_event : ℕ → ℕ → ℕ → LockPlan → Happened
@@ -79,7 +81,7 @@ IsAnswered t p (acts.Router serial router_acts.Mark) answer seen = FoundWord p.s
 IsAnswered t p (acts.Router serial router_acts.Wake) answer seen = FoundWord p.state serial router_acts.Wake answer seen
 IsAnswered t p (acts.Router serial router_acts.Unlock) answer seen = FoundWord p.state serial router_acts.Unlock answer seen
 IsAnswered t p (acts.Router serial router_acts.Lock) answer seen = TriedWord p.state serial answer seen
-IsAnswered t p (acts.Router serial router_acts.Claim) answer seen = CountedWord t.size answer seen
+IsAnswered t p (acts.Router serial router_acts.Claim) answer seen = CountedWord t answer seen
 IsAnswered t p other answer seen = (answer ≡ answers.Plain) × (seen ≡ [])
 
 -- the part of the node is this one after an act that has seen so much

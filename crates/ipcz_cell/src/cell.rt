@@ -1,5 +1,5 @@
 //! Cells: a node's state with its seat at the table. Here are its puts, gets and closes, and the acts that take no link word and no mailbox.
-ghost use Rattle.std.specs.Prelude.{◌≡◌, ◌<◌, ◌+◌, true, false, if◌then◌else◌, Some, None, OnOk, OnErr, IfOk, IfErr, IsOk, unwrap_or};
+ghost use Rattle.std.specs.Prelude.{◌≡◌, ◌<◌, ◌+◌, true, false, if◌then◌else◌, [], ◌∷◌, Some, None, OnOk, OnErr, IfOk, IfErr, IsOk, unwrap_or};
 ghost use Rattle.ipcz_node.specs.Calls.{put_refusal, put_number, get_refusal, got_at, close_refusal};
 ghost use Rattle.ipcz_node.specs.RoomyNodes.{IsReadyFor, IsPossibleAct};
 ghost use Rattle.ipcz_node.specs.Acts.{act_lacks_serials};
@@ -7,21 +7,21 @@ ghost use Rattle.ipcz_node.specs.Preparing.{act_grows};
 ghost use Rattle.ipcz_node.specs.Events.{event_of};
 ghost use Rattle.ipcz_cell.specs.CellStates.{part_in, change_part, roomy};
 ghost use Rattle.ipcz_cell.specs.Cells.{AreSound, IsSeated};
-ghost use Rattle.ipcz_cell.specs.Seats.{Keeps};
+ghost use Rattle.ipcz_cell.specs.Seats.{mine_of, Keeps};
 ghost use Rattle.ipcz_rule.specs.Steps.{put_part, close_part, act_part};
 ghost use Rattle.ipcz_world.specs.Wordless.{is_wordless};
 ghost use Rattle.ipcz_cell.specs.Parts.{got_part};
 ghost use Rattle.ipcz_rule.specs.Steps.{is_touch_act};
+ghost use Rattle.ipcz_cell.specs.Claims.{CanClaim};
 ghost use Rattle.ipcz_cell.specs.Outcomes.{IsPicked, touched};
 
 use crate::fabric::{Fabric, FabricName};
 use crate::plays::{Outcome, load_step};
 use crate::probed::Probed;
-use atomic_table::Seat;
+use crate::seat::TableSeat;
 use ipcz_base::{Bytes, End, Ends, Message, Parcel, Profile, Refusal};
 use ipcz_node::{Act, Happened, NodeState, PutRefused, Told};
 use ipcz_router::act::{Answer, RouterAct};
-use ipcz_rule::View;
 use std::marker::{Brand, Model, PhantomData};
 
 /// A node's state with its seat at the table that F names.
@@ -30,7 +30,7 @@ pub struct NodeCell<F: FabricName> {
     pub(crate) state: NodeState,
     pub(crate) message: Option<Message>,
     pub(crate) probed: Probed,
-    pub(crate) seat: Seat<Option<Message>, View>,
+    pub(crate) seat: TableSeat,
     pub(crate) of: PhantomData<F>,
 }
 
@@ -45,34 +45,51 @@ impl<F: FabricName> Model for NodeCell<F> {
     ghost coded = { Prim.hlevel (codes, code, sets.code) };
 
     ghost use Rattle.ipcz_cell.specs.Cells.{IsCell};
+    ghost use Rattle.ipcz_cell.specs.Seats.{mine_of};
 
-    ghost view = { λ c. record { part = part_in c.seat.me.0; seen = c.seat.me.0.seen; room = c.state.room } };
+    ghost view = { λ c. record { part = part_in c.seat.me.0.view; seen = c.seat.me.0.view.seen; room = c.state.room } };
 
-    ghost invariant = { λ c. IsCell F.table c.state.node c.message c.probed c.seat.table_id c.seat.me };
+    ghost invariant = { λ c. IsCell F.table c.state.node c.message c.probed c.seat.table_id (mine_of c.seat.me) };
 }
 
 // A step on the node's touch word.
-fn touch<F: FabricName, X: Outcome>(
-    seat: &mut Seat<Option<Message>, View>,
-    fabric: &Fabric<F>,
-    node: u8,
-) -> u64
+fn touch<F: FabricName, X: Outcome>(seat: &mut TableSeat, fabric: &Fabric<F>, node: u8) -> u64
     requires own { seat.old.table_id ≡ F.table.id }
     requires node { node < F.table.count }
-    requires may { Keeps F.table.count F.table.size F.table.id.slots seat.old.id seat.old.me (F.table.size + 1 + node) (λ n. n)
-        (X.tells seat.old.me) }
+    requires may { Keeps F.table.count F.table.size F.table.id.slots seat.old.id (mine_of seat.old.me) (F.table.size + 1 + node) (λ n. n)
+        (X.tells (mine_of seat.old.me)) }
     ensures table { seat.new.table_id ≡ seat.old.table_id }
-    ensures done { X.tells seat.old.me result seat.new.me }
-    ensures sound { AreSound F.table.count F.table.size seat.new.me.0 }
+    ensures done { X.tells (mine_of seat.old.me) result (mine_of seat.new.me) }
+    ensures sound { AreSound F.table.count F.table.size seat.new.me.0.view }
 {
-    let word = fabric.words as usize + 1 + node as usize;
-    load_step::<F, X>(seat, fabric, word)
+    let _words = fabric.words;
+    load_step::<F, X>(seat, fabric, 1 + node as usize)
+}
+
+// A claim that finds no slot, as a step on the touch word: the proxy is dry. X is what it tells.
+pub(crate) fn dry_here<F: FabricName, X: Outcome>(
+    seat: &mut TableSeat,
+    fabric: &Fabric<F>,
+    node: u8,
+    serial: u64,
+)
+    requires picked { IsPicked X.tells (touched (act_part (Act.Router serial RouterAct.Claim) Answer.NoWord)) }
+    requires own { seat.old.table_id ≡ F.table.id }
+    requires whole { seat.old.me.0.view.parts ≡ part_in seat.old.me.0.view ∷ [] }
+    requires node { node < F.table.count }
+    requires can { CanClaim (part_in seat.old.me.0.view).state serial }
+    ensures table { seat.new.table_id ≡ seat.old.table_id }
+    ensures done { (mine_of seat.new.me) ≡ (change_part (act_part (Act.Router serial RouterAct.Claim) Answer.NoWord) seat.old.me.0.view, seat.old.me.1) }
+    ensures sound { AreSound F.table.count F.table.size seat.new.me.0.view }
+{
+    let _serial = serial;
+    touch::<F, X>(seat, fabric, node);
 }
 
 // A put, as a step on the touch word. X is what it tells.
 fn put_here<F: FabricName, X: Outcome>(
     state: &mut NodeState,
-    seat: &mut Seat<Option<Message>, View>,
+    seat: &mut TableSeat,
     fabric: &Fabric<F>,
     profile: Profile,
     at: End,
@@ -80,14 +97,14 @@ fn put_here<F: FabricName, X: Outcome>(
     ends: Ends,
 ) -> Result<u64, PutRefused>
     requires picked { IsPicked X.tells (touched (put_part at bytes ends)) }
-    requires seated { IsSeated F.table state.old.node seat.old.table_id seat.old.me }
+    requires seated { IsSeated F.table state.old.node seat.old.table_id (mine_of seat.old.me) }
     ensures allowed { OnOk result (put_refusal profile state.old.node at bytes ends ≡ None) }
     ensures number { IfOk result (λ n. n ≡ put_number state.old.node at) }
     ensures why { IfErr result (λ e. e.why ≡ unwrap_or (put_refusal profile state.old.node at bytes ends) Refusal.OutOfMemory) }
     ensures back { IfErr result (λ e. (e.bytes ≡ bytes) × (e.ends ≡ ends)) }
-    ensures seated { IsSeated F.table state.new.node seat.new.table_id seat.new.me }
-    ensures done { OnOk result (seat.new.me ≡ (change_part (put_part at bytes ends) seat.old.me.0, seat.old.me.1)) }
-    ensures err { OnErr result ((state.new.node ≡ state.old.node) × (seat.new.me ≡ seat.old.me)) }
+    ensures seated { IsSeated F.table state.new.node seat.new.table_id (mine_of seat.new.me) }
+    ensures done { OnOk result ((mine_of seat.new.me) ≡ (change_part (put_part at bytes ends) seat.old.me.0.view, seat.old.me.1)) }
+    ensures err { OnErr result ((state.new.node ≡ state.old.node) × ((mine_of seat.new.me) ≡ (mine_of seat.old.me))) }
 {
     let node = state.number();
     let n = state.put_as(profile, at, bytes, ends)?;
@@ -98,18 +115,18 @@ fn put_here<F: FabricName, X: Outcome>(
 // A get, as a step on the touch word. X is what it tells.
 fn get_here<F: FabricName, X: Outcome>(
     state: &mut NodeState,
-    seat: &mut Seat<Option<Message>, View>,
+    seat: &mut TableSeat,
     fabric: &Fabric<F>,
     at: End,
 ) -> Result<(u64, Parcel), Refusal>
     requires picked { IsPicked X.tells (touched (got_part at)) }
-    requires seated { IsSeated F.table state.old.node seat.old.table_id seat.old.me }
+    requires seated { IsSeated F.table state.old.node seat.old.table_id (mine_of seat.old.me) }
     ensures allowed { OnOk result (get_refusal state.old.node at ≡ None) }
     ensures parcel { IfOk result (λ g. got_at state.old.node at ≡ Some g) }
     ensures why { IfErr result (λ e. get_refusal state.old.node at ≡ Some e) }
-    ensures seated { IsSeated F.table state.new.node seat.new.table_id seat.new.me }
-    ensures done { OnOk result (seat.new.me ≡ (change_part (got_part at) seat.old.me.0, seat.old.me.1)) }
-    ensures err { OnErr result ((state.new.node ≡ state.old.node) × (seat.new.me ≡ seat.old.me)) }
+    ensures seated { IsSeated F.table state.new.node seat.new.table_id (mine_of seat.new.me) }
+    ensures done { OnOk result ((mine_of seat.new.me) ≡ (change_part (got_part at) seat.old.me.0.view, seat.old.me.1)) }
+    ensures err { OnErr result ((state.new.node ≡ state.old.node) × ((mine_of seat.new.me) ≡ (mine_of seat.old.me))) }
 {
     let node = state.number();
     let got = state.get(at)?;
@@ -120,18 +137,18 @@ fn get_here<F: FabricName, X: Outcome>(
 // A caller's close, as a step on the touch word. X is what it tells.
 fn close_here<F: FabricName, X: Outcome>(
     state: &mut NodeState,
-    seat: &mut Seat<Option<Message>, View>,
+    seat: &mut TableSeat,
     fabric: &Fabric<F>,
     at: End,
 ) -> Result<u64, Refusal>
     requires picked { IsPicked X.tells (touched (close_part at)) }
-    requires seated { IsSeated F.table state.old.node seat.old.table_id seat.old.me }
+    requires seated { IsSeated F.table state.old.node seat.old.table_id (mine_of seat.old.me) }
     ensures allowed { OnOk result (close_refusal state.old.node at ≡ None) }
     ensures number { IfOk result (λ n. n ≡ put_number state.old.node at) }
     ensures why { IfErr result (λ e. e ≡ unwrap_or (close_refusal state.old.node at) Refusal.OutOfMemory) }
-    ensures seated { IsSeated F.table state.new.node seat.new.table_id seat.new.me }
-    ensures done { OnOk result (seat.new.me ≡ (change_part (close_part at) seat.old.me.0, seat.old.me.1)) }
-    ensures err { OnErr result ((state.new.node ≡ state.old.node) × (seat.new.me ≡ seat.old.me)) }
+    ensures seated { IsSeated F.table state.new.node seat.new.table_id (mine_of seat.new.me) }
+    ensures done { OnOk result ((mine_of seat.new.me) ≡ (change_part (close_part at) seat.old.me.0.view, seat.old.me.1)) }
+    ensures err { OnErr result ((state.new.node ≡ state.old.node) × ((mine_of seat.new.me) ≡ (mine_of seat.old.me))) }
 {
     let node = state.number();
     let n = state.close(at)?;
@@ -142,19 +159,19 @@ fn close_here<F: FabricName, X: Outcome>(
 // An act that touches no word, as a step on the touch word. X is what it tells.
 fn act_here<F: FabricName, X: Outcome>(
     state: &mut NodeState,
-    seat: &mut Seat<Option<Message>, View>,
+    seat: &mut TableSeat,
     fabric: &Fabric<F>,
     act: Act,
 ) -> Happened
     requires picked { IsPicked X.tells (touched (act_part act Answer.Plain)) }
-    requires seated { IsSeated F.table state.old.node seat.old.table_id seat.old.me }
+    requires seated { IsSeated F.table state.old.node seat.old.table_id (mine_of seat.old.me) }
     requires touch { is_touch_act act ≡ true }
     requires possible { IsPossibleAct state.old.node act }
     requires serials { act_lacks_serials state.old.node act ≡ false }
     requires ready { IsReadyFor state.old act }
     ensures event { result ≡ event_of state.old.node act Answer.Plain }
-    ensures seated { IsSeated F.table state.new.node seat.new.table_id seat.new.me }
-    ensures done { seat.new.me ≡ (change_part (act_part act Answer.Plain) seat.old.me.0, seat.old.me.1) }
+    ensures seated { IsSeated F.table state.new.node seat.new.table_id (mine_of seat.new.me) }
+    ensures done { (mine_of seat.new.me) ≡ (change_part (act_part act Answer.Plain) seat.old.me.0.view, seat.old.me.1) }
 {
     let node = state.number();
     let (event, _) = state.commit(act, Answer::Plain);
@@ -166,23 +183,23 @@ fn act_here<F: FabricName, X: Outcome>(
 // what happened is told.
 fn plain_here<F: FabricName, X: Outcome, T: Told>(
     state: &mut NodeState,
-    seat: &mut Seat<Option<Message>, View>,
+    seat: &mut TableSeat,
     fabric: &Fabric<F>,
     serial: u64,
     act: RouterAct,
 ) -> Result<T, Refusal>
     requires picked { IsPicked X.tells (touched (act_part (Act.Router serial act) Answer.Plain)) }
-    requires seated { IsSeated F.table state.old.node seat.old.table_id seat.old.me }
+    requires seated { IsSeated F.table state.old.node seat.old.table_id (mine_of seat.old.me) }
     requires touch { is_wordless act ≡ true }
     requires possible { IsPossibleAct state.old.node (Act.Router serial act) }
     ensures event { IfOk result (λ told. T.tells (event_of state.old.node (Act.Router serial act) Answer.Plain) told) }
     ensures why { IfErr result
         (λ e. e ≡ (if act_lacks_serials state.old.node (Act.Router serial act) then Refusal.NumbersEnd else Refusal.OutOfMemory)) }
     ensures grows { act_grows state.old.node (Act.Router serial act) ≡ false → IsOk result }
-    ensures seated { IsSeated F.table state.new.node seat.new.table_id seat.new.me }
+    ensures seated { IsSeated F.table state.new.node seat.new.table_id (mine_of seat.new.me) }
     ensures done { OnOk result
-        (seat.new.me ≡ (change_part (act_part (Act.Router serial act) Answer.Plain) seat.old.me.0, seat.old.me.1)) }
-    ensures err { OnErr result ((state.new.node ≡ state.old.node) × (seat.new.me ≡ seat.old.me)) }
+        ((mine_of seat.new.me) ≡ (change_part (act_part (Act.Router serial act) Answer.Plain) seat.old.me.0.view, seat.old.me.1)) }
+    ensures err { OnErr result ((state.new.node ≡ state.old.node) × ((mine_of seat.new.me) ≡ (mine_of seat.old.me))) }
 {
     let node = state.number();
     let done = state.act_plainly(serial, act);

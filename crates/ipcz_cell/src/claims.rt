@@ -1,58 +1,62 @@
 //! The claim count of a cell.
-ghost use Rattle.std.specs.Prelude.{◌≡◌, ◌<◌, [], ◌∷◌};
+ghost use Rattle.ipcz_cell.specs.Seats.{mine_of};
+ghost use Rattle.std.specs.Prelude.{◌≡◌, [], ◌∷◌, false, eqb};
 ghost use Rattle.ipcz_node.specs.RoomyNodes.{IsPossibleAct, IsReadyFor};
 ghost use Rattle.ipcz_cell.specs.CellStates.{part_in};
 ghost use Rattle.ipcz_cell.specs.Cells.{AreSound};
 ghost use Rattle.ipcz_cell.specs.Outcomes.{IsPicked};
-ghost use Rattle.ipcz_cell.specs.Claims.{CanClaim, Answered, counted, claimed};
+ghost use Rattle.ipcz_cell.specs.Claims.{CanClaim, IsNumberAt, HasFreeSlot, Answered, counted, claimed};
 
-use crate::cell::NodeCell;
+use crate::cell::{NodeCell, dry_here};
 use crate::fabric::{Fabric, FabricName};
-use crate::plays::{Outcome, exchange_step, load_step};
+use crate::plays::{Outcome, claim_step, load_step};
+use crate::seat::TableSeat;
+use crate::slots::{leave_slot, number_at};
 use crate::words::commit_word;
-use atomic_table::Seat;
-use ipcz_base::{Message, Refusal};
+use ipcz_base::Refusal;
 use ipcz_node::{Act, NodeState};
 use ipcz_router::act::{Answer, RouterAct};
-use ipcz_rule::View;
 use std::marker::Brand;
 
 // A load of the claim count by a proxy that wants a word. X is what it tells.
 fn count_here<F: FabricName, X: Outcome>(
-    seat: &mut Seat<Option<Message>, View>,
+    seat: &mut TableSeat,
     fabric: &Fabric<F>,
     serial: u64,
 ) -> u64
     requires picked { IsPicked X.tells (counted F.table.size serial) }
     requires own { seat.old.table_id ≡ F.table.id }
-    requires whole { seat.old.me.0.parts ≡ part_in seat.old.me.0 ∷ [] }
-    requires can { CanClaim (part_in seat.old.me.0).state serial }
+    requires whole { seat.old.me.0.view.parts ≡ part_in seat.old.me.0.view ∷ [] }
+    requires can { CanClaim (part_in seat.old.me.0.view).state serial }
     ensures table { seat.new.table_id ≡ seat.old.table_id }
-    ensures done { counted F.table.size serial seat.old.me result seat.new.me }
-    ensures sound { AreSound F.table.count F.table.size seat.new.me.0 }
+    ensures done { counted F.table.size serial (mine_of seat.old.me) result (mine_of seat.new.me) }
+    ensures sound { AreSound F.table.count F.table.size seat.new.me.0.view }
 {
-    let _serial = serial;
-    load_step::<F, X>(seat, fabric, fabric.words as usize)
+    let (_serial, _words) = (serial, fabric.words);
+    load_step::<F, X>(seat, fabric, 0)
 }
 
-// An exchange of the claim count for the next. X is what it tells.
+// An exchange of the claim count for the number behind one. X is what it tells.
 fn claim_here<F: FabricName, X: Outcome>(
-    seat: &mut Seat<Option<Message>, View>,
+    seat: &mut TableSeat,
     fabric: &Fabric<F>,
     serial: u64,
     count: u64,
+    number: u32,
 ) -> u64
-    requires picked { IsPicked X.tells (claimed F.table.size serial count) }
+    requires picked { IsPicked X.tells (claimed F.table.size serial count number) }
     requires own { seat.old.table_id ≡ F.table.id }
-    requires whole { seat.old.me.0.parts ≡ part_in seat.old.me.0 ∷ [] }
-    requires can { CanClaim (part_in seat.old.me.0).state serial }
-    requires few { count < F.table.size }
+    requires whole { seat.old.me.0.view.parts ≡ part_in seat.old.me.0.view ∷ [] }
+    requires can { CanClaim (part_in seat.old.me.0.view).state serial }
+    requires number { IsNumberAt F.table count number }
+    requires slot { HasFreeSlot F.table seat.old.me.0.free number }
     ensures table { seat.new.table_id ≡ seat.old.table_id }
-    ensures done { claimed F.table.size serial count seat.old.me result seat.new.me }
-    ensures sound { AreSound F.table.count F.table.size seat.new.me.0 }
+    ensures done { claimed F.table.size serial count number (mine_of seat.old.me) result (mine_of seat.new.me) }
+    ensures free { eqb result count ≡ false → seat.new.me.0.free ≡ seat.old.me.0.free }
+    ensures sound { AreSound F.table.count F.table.size seat.new.me.0.view }
 {
-    let _serial = serial;
-    exchange_step::<F, X>(seat, fabric, fabric.words as usize, count, count + 1)
+    let (_serial, _words) = (serial, fabric.words);
+    claim_step::<F, X>(seat, fabric, count, number)
 }
 
 // A proxy's claim is made ready.
@@ -68,12 +72,12 @@ fn claim_ready(state: &mut NodeState, serial: u64)
 }
 
 impl<F: FabricName> NodeCell<F> {
-    /// Claims a word for the bypass of a proxy: a load of the claim count, and an exchange for the next. It answers `NoWord` if the load
-    /// found that each word was claimed; the proxy is dry then. It answers `Raced` only if the exchange found another count than the
-    /// load; then nothing but what was seen has changed. It takes no memory.
+    /// Claims a number for the bypass of a proxy: a load of the claim count, and an exchange for the number behind it. It answers `NoWord` if
+    /// the load found that each number was claimed, or if slots are used again and none is to be had; the proxy is dry then. It answers
+    /// `Raced` only if the exchange found another count than the load; then nothing but what was seen has changed. It takes no memory.
     pub(crate) fn word_claim_for(&mut self, fabric: &Fabric<F>, serial: u64) -> Result<u64, Refusal>
         requires { IsPossibleAct self.old.part.state (Act.Router serial RouterAct.Claim) }
-        ensures { Answered F.table.size serial self.old self.new result }
+        ensures { Answered F.table serial self.old self.new result }
     {
         claim_ready(&mut self.state, serial);
         let found = count_here::<F, Brand>(&mut self.seat, fabric, serial);
@@ -81,19 +85,23 @@ impl<F: FabricName> NodeCell<F> {
             commit_word(&mut self.state, serial, RouterAct::Claim, Answer::NoWord);
             return Err(Refusal::NoWord);
         }
-        let now = claim_here::<F, Brand>(&mut self.seat, fabric, serial, found);
+        let Some(number) = number_at(&mut self.seat, fabric, found) else {
+            let node = self.state.number();
+            dry_here::<F, Brand>(&mut self.seat, fabric, node, serial);
+            commit_word(&mut self.state, serial, RouterAct::Claim, Answer::NoWord);
+            return Err(Refusal::NoWord);
+        };
+        let now = claim_here::<F, Brand>(&mut self.seat, fabric, serial, found, number);
         if now != found {
+            leave_slot(&mut self.seat, fabric, number);
             return Err(Refusal::Raced);
         }
-        let Ok(word) = u32::try_from(found) else {
-            unreachable!()
-        };
         commit_word(
             &mut self.state,
             serial,
             RouterAct::Claim,
-            Answer::Claimed(word),
+            Answer::Claimed(number),
         );
-        Ok(found)
+        Ok(u64::from(number))
     }
 }

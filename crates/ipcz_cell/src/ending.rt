@@ -1,5 +1,6 @@
 //! The way back from a table to a world.
-ghost use Rattle.std.specs.Prelude.{◌≡◌, ◌≤◌, ◌<◌, ◌+◌, ◌*◌, ◌++◌, ℕ, true, [], ◌∷◌, IfOk, IfErr, Some, None};
+ghost use Rattle.ipcz_cell.specs.Seats.{mine_of};
+ghost use Rattle.std.specs.Prelude.{◌≡◌, ◌≤◌, ◌<◌, ◌+◌, ◌*◌, ◌++◌, ℕ, true, false, [], ◌∷◌, IfOk, IfErr, Some, None};
 ghost use Rattle.std.specs.Prelude.{length, map, vec_len, vec_capacity, slice_index};
 ghost use Rattle.std.specs.Slots.{slots_items, slots_len, IsFull};
 ghost use mathlib.Core.Option.{some};
@@ -15,76 +16,68 @@ ghost use Rattle.ipcz_cell.specs.CellStates.{part_in, change_part};
 ghost use Rattle.ipcz_cell.specs.Cells.{AreBelow, IsSoundCell, hand_slots, probed_slots};
 ghost use Rattle.ipcz_cell.specs.Outcomes.{IsPicked};
 ghost use Rattle.ipcz_cell.specs.TableNames.{IsLaidOut};
-ghost use Rattle.ipcz_cell.specs.Ending.{unprobed, given_back, is_in_order, parts_of, Reads, FinishRefuses, box_of, hand_left};
+ghost use Rattle.ipcz_cell.specs.Ending.{unprobed, given_back, is_in_order, parts_of, Reads, GivesNoWorld, box_of, hand_left};
 
 use crate::cell::NodeCell;
 use crate::fabric::{Fabric, FabricName};
-use crate::mail::{slot_of, word_of};
+use crate::mail::{place_of, slot_of};
 use crate::plays::{Outcome, Together, load_step, store_step};
 use crate::probed::Probed;
-use atomic_table::{Closed, Seat, Table};
+use crate::seat::TableSeat;
+use atomic_table::{Closed, Table};
 use ipcz_base::{Message, Refusal};
 use ipcz_node::NodeState;
 use ipcz_rule::{FabricLaw, Size, View};
+use ipcz_slots::Own;
 use ipcz_world::{Mail, World};
 use std::alloc::{AllocError, Global};
 use std::collections::VecDeque;
 use std::marker::Brand;
 
 // Gives the first mailbox that was probed back. X is what the step tells.
-fn unprobe<F: FabricName, X: Outcome>(
-    seat: &mut Seat<Option<Message>, View>,
-    fabric: &Fabric<F>,
-    node: u8,
-    to: u8,
-)
+fn unprobe<F: FabricName, X: Outcome>(seat: &mut TableSeat, fabric: &Fabric<F>, node: u8, to: u8)
     requires picked { IsPicked X.tells (unprobed to) }
     requires own { seat.old.table_id ≡ F.table.id }
-    requires whole { seat.old.me.0.parts ≡ part_in seat.old.me.0 ∷ [] }
-    requires node { ((part_in seat.old.me.0).node ≡ node) × (node < F.table.count) }
-    requires to { (to < F.table.count) × (has_number (part_in seat.old.me.0).probed to ≡ true) }
+    requires whole { seat.old.me.0.view.parts ≡ part_in seat.old.me.0.view ∷ [] }
+    requires node { ((part_in seat.old.me.0.view).node ≡ node) × (node < F.table.count) }
+    requires to { (to < F.table.count) × (has_number (part_in seat.old.me.0.view).probed to ≡ true) }
     requires slot { seat.old.me.1 ≡ (node * F.table.count + to, None) ∷ rest seat.old.me.1 }
     ensures table { seat.new.table_id ≡ F.table.id }
-    ensures done { seat.new.me ≡ (change_part (unprobe_part to) seat.old.me.0, rest seat.old.me.1) }
+    ensures done { (mine_of seat.new.me) ≡ (change_part (unprobe_part to) seat.old.me.0.view, rest seat.old.me.1) }
 {
-    let word = word_of(fabric, slot_of(fabric, node, to));
-    store_step::<F, X>(seat, fabric, word, 0);
+    let place = place_of(fabric, slot_of(fabric, node, to));
+    store_step::<F, X>(seat, fabric, place, 0);
 }
 
 // Gives the first mailbox that was probed back.
-fn unprobe_one<F: FabricName>(
-    seat: &mut Seat<Option<Message>, View>,
-    fabric: &Fabric<F>,
-    node: u8,
-    to: u8,
-)
+fn unprobe_one<F: FabricName>(seat: &mut TableSeat, fabric: &Fabric<F>, node: u8, to: u8)
     requires own { seat.old.table_id ≡ F.table.id }
-    requires whole { seat.old.me.0.parts ≡ part_in seat.old.me.0 ∷ [] }
-    requires node { ((part_in seat.old.me.0).node ≡ node) × (node < F.table.count) }
-    requires to { (to < F.table.count) × (has_number (part_in seat.old.me.0).probed to ≡ true) }
+    requires whole { seat.old.me.0.view.parts ≡ part_in seat.old.me.0.view ∷ [] }
+    requires node { ((part_in seat.old.me.0.view).node ≡ node) × (node < F.table.count) }
+    requires to { (to < F.table.count) × (has_number (part_in seat.old.me.0.view).probed to ≡ true) }
     requires slot { seat.old.me.1 ≡ (node * F.table.count + to, None) ∷ rest seat.old.me.1 }
     ensures table { seat.new.table_id ≡ F.table.id }
-    ensures done { seat.new.me ≡ (change_part (unprobe_part to) seat.old.me.0, rest seat.old.me.1) }
+    ensures done { (mine_of seat.new.me) ≡ (change_part (unprobe_part to) seat.old.me.0.view, rest seat.old.me.1) }
 {
     unprobe::<F, Brand>(seat, fabric, node, to);
 }
 
 // Gives all mailboxes back that were probed.
 fn unprobe_all<F: FabricName>(
-    seat: &mut Seat<Option<Message>, View>,
+    seat: &mut TableSeat,
     fabric: &Fabric<F>,
     node: u8,
     mut probed: Probed,
 )
     requires own { seat.old.table_id ≡ F.table.id }
-    requires whole { seat.old.me.0.parts ≡ part_in seat.old.me.0 ∷ [] }
-    requires node { ((part_in seat.old.me.0).node ≡ node) × (node < F.table.count) }
-    requires probed { ((part_in seat.old.me.0).probed ≡ probed) × AreBelow F.table.count probed }
+    requires whole { seat.old.me.0.view.parts ≡ part_in seat.old.me.0.view ∷ [] }
+    requires node { ((part_in seat.old.me.0.view).node ≡ node) × (node < F.table.count) }
+    requires probed { ((part_in seat.old.me.0.view).probed ≡ probed) × AreBelow F.table.count probed }
     requires slots { seat.old.me.1 ≡ probed_slots F.table.count node probed ++ hand_slots F.table.count node
-        (part_in seat.old.me.0).state.hand }
+        (part_in seat.old.me.0.view).state.hand }
     ensures table { seat.new.table_id ≡ F.table.id }
-    ensures done { seat.new.me.0.parts ≡ rested (part_in seat.old.me.0) ∷ [] }
-    ensures slots { seat.new.me.1 ≡ hand_slots F.table.count node (part_in seat.old.me.0).state.hand }
+    ensures done { seat.new.me.0.view.parts ≡ rested (part_in seat.old.me.0.view) ∷ [] }
+    ensures slots { seat.new.me.1 ≡ hand_slots F.table.count node (part_in seat.old.me.0.view).state.hand }
 {
     let count = probed.len();
     for _done in 0..count {
@@ -97,29 +90,29 @@ fn unprobe_all<F: FabricName>(
 
 // Gives the slot of the message in hand back. X is what the step tells.
 fn give_back<F: FabricName, X: Outcome>(
-    seat: &mut Seat<Option<Message>, View>,
+    seat: &mut TableSeat,
     fabric: &Fabric<F>,
     node: u8,
     from: u8,
 )
     requires picked { IsPicked X.tells (given_back (F.table.size + 1 + F.table.count + (from * F.table.count + node))) }
     requires own { seat.old.table_id ≡ F.table.id }
-    requires whole { seat.old.me.0.parts ≡ part_in seat.old.me.0 ∷ [] }
-    requires node { ((part_in seat.old.me.0).node ≡ node) × (node < F.table.count) }
-    requires from { (from < F.table.count) × ((part_in seat.old.me.0).state.hand ≡ Some from) }
+    requires whole { seat.old.me.0.view.parts ≡ part_in seat.old.me.0.view ∷ [] }
+    requires node { ((part_in seat.old.me.0.view).node ≡ node) × (node < F.table.count) }
+    requires from { (from < F.table.count) × ((part_in seat.old.me.0.view).state.hand ≡ Some from) }
     requires slot { seat.old.me.1 ≡ (from * F.table.count + node, None) ∷ [] }
     ensures table { seat.new.table_id ≡ F.table.id }
-    ensures done { (seat.new.me.0.parts ≡ seat.old.me.0.parts) × (seat.new.me.1 ≡ []) }
+    ensures done { (seat.new.me.0.view.parts ≡ seat.old.me.0.view.parts) × (seat.new.me.1 ≡ []) }
 {
-    let word = word_of(fabric, slot_of(fabric, from, node));
-    load_step::<F, X>(seat, fabric, word);
+    let place = place_of(fabric, slot_of(fabric, from, node));
+    load_step::<F, X>(seat, fabric, place);
 }
 
 // What is left of a cell that has given its slots back.
 pub(crate) struct Rest {
     pub(crate) state: NodeState,
     pub(crate) message: Option<Message>,
-    pub(crate) seat: Seat<Option<Message>, View>,
+    pub(crate) seat: TableSeat,
 }
 
 impl<F: FabricName> NodeCell<F> {
@@ -136,7 +129,7 @@ impl<F: FabricName> NodeCell<F> {
     fn rest(self, fabric: &Fabric<F>) -> Rest
         ensures state { result.state.node ≡ self.part.state }
         ensures message { result.message ≡ self.part.message }
-        ensures seat { (result.seat.table_id ≡ F.table.id) × (result.seat.me.0.parts ≡ rested self.part ∷ []) × (result.seat.me.1 ≡ []) }
+        ensures seat { (result.seat.table_id ≡ F.table.id) × (result.seat.me.0.view.parts ≡ rested self.part ∷ []) × (result.seat.me.1 ≡ []) }
     {
         let NodeCell {
             state,
@@ -159,15 +152,11 @@ impl<F: FabricName> NodeCell<F> {
 }
 
 // A seat takes in the parts of another.
-fn join<F: FabricName>(
-    seat: &mut Seat<Option<Message>, View>,
-    fabric: &Fabric<F>,
-    other: Seat<Option<Message>, View>,
-)
+fn join<F: FabricName>(seat: &mut TableSeat, fabric: &Fabric<F>, other: TableSeat)
     requires own { (seat.old.table_id ≡ F.table.id) × (other.table_id ≡ F.table.id) }
     requires slots { other.me.1 ≡ [] }
     ensures table { seat.new.table_id ≡ F.table.id }
-    ensures done { seat.new.me ≡ (together seat.old.me.0 other.me.0, seat.old.me.1) }
+    ensures done { (mine_of seat.new.me) ≡ (together seat.old.me.0.view other.me.0.view, seat.old.me.1) }
 {
     fabric.table.shared.join_seat::<Together>(seat, other);
 }
@@ -215,7 +204,7 @@ fn read_boxes(
 ) -> Vec<Mail>
     requires full { IsFull closed.words × IsFull closed.slots }
     requires few { nodes ≤ 8 }
-    requires counts { (slots_len closed.words ≡ first + nodes * nodes) × (slots_len closed.slots ≡ nodes * nodes) }
+    requires counts { (first + nodes * nodes ≤ slots_len closed.words) × (slots_len closed.slots ≡ nodes * nodes) }
     requires hands { vec_len hands ≡ nodes }
     requires room { nodes * nodes ≤ vec_capacity boxes }
     requires empty { vec_len boxes ≡ 0 }
@@ -286,7 +275,7 @@ impl<F: FabricName> Fabric<F> {
 struct Union {
     states: Vec<NodeState>,
     hands: Vec<Option<Message>>,
-    seat: Seat<Option<Message>, View>,
+    seat: TableSeat,
 }
 
 // Takes the cells of all nodes apart, and makes their seats one.
@@ -301,7 +290,7 @@ fn join_all<F: FabricName>(
     requires states { (vec_len states ≡ 0) × (F.table.count ≤ vec_capacity states) }
     requires hands { (vec_len hands ≡ 0) × (F.table.count ≤ vec_capacity hands) }
     ensures own { result.seat.table_id ≡ F.table.id }
-    ensures parts { result.seat.me.0.parts ≡ map rested (parts_of cells.items) }
+    ensures parts { result.seat.me.0.view.parts ≡ map rested (parts_of cells.items) }
     ensures states { map (λ k. k.node) result.states.items ≡ map (λ p. p.state) (parts_of cells.items) }
     ensures hands { result.hands.items ≡ map (λ p. p.message) (parts_of cells.items) }
 {
@@ -338,8 +327,8 @@ fn join_all<F: FabricName>(
 
 // Ends the table: the seat has the parts of all nodes.
 fn close(
-    table: Table<Option<Message>, View, Size, FabricLaw, Global>,
-    seat: Seat<Option<Message>, View>,
+    table: Table<Option<Message>, Own<View>, Size, FabricLaw, Global>,
+    seat: TableSeat,
     states: Vec<NodeState>,
     hands: Vec<Option<Message>>,
     boxes: Vec<Mail>,
@@ -348,15 +337,17 @@ fn close(
     words: u32,
 ) -> World
     requires own { seat.table_id ≡ table.shared.table_id }
-    requires size { (table.shared.key.nodes ≡ nodes) × (table.shared.key.words ≡ words) }
-    requires laid { IsLaidOut (record { id = table.shared.table_id; count = nodes; size = words }) }
-    requires all { AreAll nodes seat.me.0.parts }
-    requires states { map (λ k. k.node) states.items ≡ states_of seat.me.0.parts }
-    requires hands { hands.items ≡ map (λ p. p.message) seat.me.0.parts }
+    requires size { (table.shared.key.nodes ≡ nodes) × (table.shared.key.words ≡ words) × (table.shared.key.slots ≡ words) ×
+        (table.shared.key.reuses ≡ false) }
+    requires laid { IsLaidOut (record { id = table.shared.table_id; count = nodes; size = words; slots = words; reuses = false }) }
+    requires all { AreAll nodes seat.me.0.view.parts }
+    requires states { map (λ k. k.node) states.items ≡ states_of seat.me.0.view.parts }
+    requires hands { hands.items ≡ map (λ p. p.message) seat.me.0.view.parts }
     requires boxes { (vec_len boxes ≡ 0) × (nodes * nodes ≤ vec_capacity boxes) }
     requires bits { (vec_len bits ≡ 0) × (words ≤ vec_capacity bits) }
-    ensures { IsShown nodes words seat.me.0.parts result }
+    ensures { IsShown nodes words seat.me.0.view.parts result }
 {
+    let seat = seat;
     let closed = table.close_with(seat);
     let bits = read_words(&closed, words, bits);
     let claimed = closed.word(words as usize) as u32;
@@ -368,16 +359,20 @@ fn close(
 /// Ends the table and gives the world that it showed: the nodes are those of the cells, the link words, the claim count and the mailboxes
 /// are those of the table, a message in a cell's hand is in hand, and the world is lawful with the books that the cells' views keep.
 ///
-/// Refused `Stranger` if the cells' nodes aren't 0, 1, and so on to the last, in order; else `OutOfMemory`. A refusal gives the fabric
-/// and the cells back, as they were.
+/// Refused `NoWord` if the table's slots are used again, since it has no words any more of the links that were let go; `Stranger` if the
+/// cells' nodes aren't 0, 1, and so on to the last, in order; else `OutOfMemory`. A refusal gives the fabric and the cells back, as they
+/// were.
 pub fn finish<F: FabricName>(
     fabric: Fabric<F>,
     cells: Vec<NodeCell<F>>,
 ) -> Result<World, (Refusal, Fabric<F>, Vec<NodeCell<F>>)>
-    ensures shown { IfOk result (λ w. IsShown F.table.count F.table.size (parts_of cells.items) w) }
-    ensures why { IfErr result (λ e. FinishRefuses F.table.count cells.items e.0) }
+    ensures shown { IfOk result (λ w. (F.table.reuses ≡ false) × IsShown F.table.count F.table.size (parts_of cells.items) w) }
+    ensures why { IfErr result (λ e. GivesNoWorld F.table cells.items e.0) }
     ensures back { IfErr result (λ e. e.2.items ≡ cells.items) }
 {
+    if fabric.reuses {
+        return Err((Refusal::NoWord, fabric, cells));
+    }
     if !fabric.are_all(cells.as_slice()) {
         return Err((Refusal::Stranger, fabric, cells));
     }
@@ -400,6 +395,8 @@ pub fn finish<F: FabricName>(
         table,
         nodes,
         words,
+        slots: _,
+        reuses: _,
         bells: _,
         news: _,
         of: _,

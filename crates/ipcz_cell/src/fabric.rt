@@ -5,6 +5,7 @@ use crate::bells::Bells;
 use atomic_table::Table;
 use ipcz_base::Message;
 use ipcz_rule::{FabricLaw, Size, View};
+use ipcz_slots::Own;
 use std::alloc::Global;
 use std::marker::{Brand, Model, PhantomData};
 
@@ -24,9 +25,11 @@ impl FabricName for Brand {
 /// The table that F names.
 #[derive(Drop)]
 pub struct Fabric<F: FabricName> {
-    pub(crate) table: Table<Option<Message>, View, Size, FabricLaw, Global>,
+    pub(crate) table: Table<Option<Message>, Own<View>, Size, FabricLaw, Global>,
     pub(crate) nodes: u8,
     pub(crate) words: u32,
+    pub(crate) slots: u32,
+    pub(crate) reuses: bool,
     pub(crate) bells: Bells,
     pub(crate) news: Bells,
     pub(crate) of: PhantomData<F>,
@@ -42,7 +45,9 @@ impl<F: FabricName> Model for Fabric<F> {
 
     ghost invariant = { λ f. (f.table.shared.table_id ≡ F.table.id) × (f.table.shared.key.nodes ≡ F.table.count) ×
         (f.table.shared.key.words ≡ F.table.size)
-        × (f.nodes ≡ F.table.count) × (f.words ≡ F.table.size) × IsLaidOut F.table };
+        × (f.nodes ≡ F.table.count) × (f.words ≡ F.table.size) × IsLaidOut F.table ×
+        (f.table.shared.key.slots ≡ F.table.slots) × (f.table.shared.key.reuses ≡ F.table.reuses) × (f.slots ≡ F.table.slots) ×
+        (f.reuses ≡ F.table.reuses) };
 }
 
 impl<F: FabricName> Fabric<F> {

@@ -1,5 +1,6 @@
 //! The mailboxes of a cell, each in a word of the table with its slot.
-ghost use Rattle.std.specs.Prelude.{◌≡◌, ◌<◌, ◌≤◌, ◌+◌, true, false, [], ◌∷◌, Some, None, Ok, Err, OnOk, OnErr, IfOk, IfErr, if◌then◌else◌, cond};
+ghost use Rattle.ipcz_cell.specs.Seats.{mine_of};
+ghost use Rattle.std.specs.Prelude.{◌≡◌, ◌<◌, ◌≤◌, ◌+◌, ◌*◌, true, false, [], ◌∷◌, Some, None, Ok, Err, OnOk, OnErr, IfOk, IfErr, if◌then◌else◌, cond};
 ghost use Rattle.std.specs.Prelude.{is_some};
 ghost use Rattle.atomic_table.specs.Table.{rest};
 ghost use Rattle.ipcz_node.specs.Acts.{has_mail_for, post_of};
@@ -19,12 +20,11 @@ ghost use Rattle.ipcz_cell.specs.Outcomes.{IsPicked, probed, posted, looked, sou
 use crate::bells::{Ringer, Waking};
 use crate::cell::NodeCell;
 use crate::fabric::{Fabric, FabricName};
-use crate::plays::{Outcome, exchange_step, load_step, store_step};
-use atomic_table::Seat;
+use crate::plays::{Outcome, exchange_step, load_link, load_step, store_step};
+use crate::seat::TableSeat;
 use ipcz_base::{Message, Refusal};
 use ipcz_node::{Act, Handed, Happened, NodeState};
 use ipcz_router::act::Answer;
-use ipcz_rule::View;
 use ipcz_word::source;
 use std::marker::Brand;
 use std::mem;
@@ -40,34 +40,34 @@ pub(crate) fn slot_of<F: FabricName>(fabric: &Fabric<F>, from: u8, to: u8) -> us
     from as usize * fabric.nodes as usize + to as usize
 }
 
-// The word of the mailbox of a slot.
-pub(crate) fn word_of<F: FabricName>(fabric: &Fabric<F>, slot: usize) -> usize
+// How far behind the link words that of the mailbox of a slot is.
+pub(crate) fn place_of<F: FabricName>(fabric: &Fabric<F>, slot: usize) -> usize
     requires { slot < F.table.id.slots }
-    ensures word { result ≡ F.table.size + 1 + F.table.count + slot }
-    ensures inside { result < F.table.id.words }
+    ensures word { F.table.size + result ≡ F.table.size + 1 + F.table.count + slot }
+    ensures behind { 1 ≤ result }
+    ensures inside { result < 1 + F.table.count + F.table.count * F.table.count }
 {
-    fabric.words as usize + 1 + fabric.nodes as usize + slot
+    1 + fabric.nodes as usize + slot
 }
 
-// The word of the mailbox from one node to another, in a table of so many link words and nodes.
-pub(crate) fn mail_word<F: FabricName>(words: u32, nodes: u8, from: u8, to: u8) -> usize
+// How far behind the link words that of the mailbox from one node to another is, in a table of so many nodes.
+pub(crate) fn mail_place<F: FabricName>(nodes: u8, from: u8, to: u8) -> usize
     requires laid_out { IsLaidOut F.table }
-    requires size { words ≡ F.table.size }
     requires count { nodes ≡ F.table.count }
     requires from { from < F.table.count }
     requires to { to < F.table.count }
-    ensures word { result ≡ mail_word F.table from to }
-    ensures inside { result < F.table.id.words }
+    ensures word { F.table.size + result ≡ mail_word F.table from to }
+    ensures inside { result < 1 + F.table.count + F.table.count * F.table.count }
 {
     let slot = from as usize * nodes as usize + to as usize;
-    words as usize + 1 + nodes as usize + slot
+    1 + nodes as usize + slot
 }
 
 // Brings so many slots behind the others. It does nothing.
-fn turn_over(seat: &mut Seat<Option<Message>, View>, n: usize)
+fn turn_over(seat: &mut TableSeat, n: usize)
     ensures table { seat.new.table_id ≡ seat.old.table_id }
     ensures id { seat.new.id ≡ seat.old.id }
-    ensures me { seat.new.me ≡ (seat.old.me.0, turned_by n seat.old.me.1) }
+    ensures me { (mine_of seat.new.me) ≡ (seat.old.me.0.view, turned_by n seat.old.me.1) }
 {
     if n > 0 {
         seat.turn();
@@ -85,70 +85,65 @@ fn hand_count(message: &Option<Message>) -> usize
 // An exchange 0 to 3. X is what it tells.
 fn probe_here<F: FabricName, X: Outcome>(
     node: u8,
-    seat: &mut Seat<Option<Message>, View>,
+    seat: &mut TableSeat,
     fabric: &Fabric<F>,
     to: u8,
 ) -> u64
     requires picked { IsPicked X.tells (probed (mail_word F.table node to) (slot_of F.table node to) to) }
     requires own { seat.old.table_id ≡ F.table.id }
-    requires whole { seat.old.me.0.parts ≡ part_in seat.old.me.0 ∷ [] }
-    requires node { ((part_in seat.old.me.0).node ≡ node) × (node < F.table.count) }
+    requires whole { seat.old.me.0.view.parts ≡ part_in seat.old.me.0.view ∷ [] }
+    requires node { ((part_in seat.old.me.0.view).node ≡ node) × (node < F.table.count) }
     requires to { to < F.table.count }
     ensures table { seat.new.table_id ≡ seat.old.table_id }
-    ensures done { probed (mail_word F.table node to) (slot_of F.table node to) to seat.old.me result seat.new.me }
-    ensures sound { AreSound F.table.count F.table.size seat.new.me.0 }
+    ensures done { probed (mail_word F.table node to) (slot_of F.table node to) to (mine_of seat.old.me) result (mine_of seat.new.me) }
+    ensures sound { AreSound F.table.count F.table.size seat.new.me.0.view }
     ensures small { to < 8 }
 {
     let slot = slot_of(fabric, node, to);
-    let word = word_of(fabric, slot);
-    exchange_step::<F, X>(seat, fabric, word, 0, 3)
+    let place = place_of(fabric, slot);
+    exchange_step::<F, X>(seat, fabric, place, 0, 3)
 }
 
 // A store 1 at a mailbox that was probed, whose slot has the message. X is what it tells.
-fn post_here<F: FabricName, X: Outcome>(
-    node: u8,
-    seat: &mut Seat<Option<Message>, View>,
-    fabric: &Fabric<F>,
-    to: u8,
-)
+fn post_here<F: FabricName, X: Outcome>(node: u8, seat: &mut TableSeat, fabric: &Fabric<F>, to: u8)
     requires picked { IsPicked X.tells (posted to) }
     requires own { seat.old.table_id ≡ F.table.id }
-    requires whole { seat.old.me.0.parts ≡ part_in seat.old.me.0 ∷ [] }
-    requires node { ((part_in seat.old.me.0).node ≡ node) × (node < F.table.count) }
+    requires whole { seat.old.me.0.view.parts ≡ part_in seat.old.me.0.view ∷ [] }
+    requires node { ((part_in seat.old.me.0.view).node ≡ node) × (node < F.table.count) }
     requires to { to < F.table.count }
-    requires probed { has_number (part_in seat.old.me.0).probed to ≡ true }
-    requires mail { has_mail_for (part_in seat.old.me.0).state to ≡ true }
-    requires slot { (x : MessageData) × (post_of (part_in seat.old.me.0).state (Act.Post to) ≡ Some x) ×
+    requires probed { has_number (part_in seat.old.me.0.view).probed to ≡ true }
+    requires mail { has_mail_for (part_in seat.old.me.0.view).state to ≡ true }
+    requires slot { (x : MessageData) × (post_of (part_in seat.old.me.0.view).state (Act.Post to) ≡ Some x) ×
         (seat.old.me.1 ≡ (slot_of F.table node to, Some x) ∷ rest seat.old.me.1) }
     ensures table { seat.new.table_id ≡ seat.old.table_id }
-    ensures done { seat.new.me ≡ (change_part (post_part to) seat.old.me.0, rest seat.old.me.1) }
-    ensures sound { AreSound F.table.count F.table.size seat.new.me.0 }
+    ensures done { (mine_of seat.new.me) ≡ (change_part (post_part to) seat.old.me.0.view, rest seat.old.me.1) }
+    ensures sound { AreSound F.table.count F.table.size seat.new.me.0.view }
 {
     let slot = slot_of(fabric, node, to);
-    let word = word_of(fabric, slot);
-    store_step::<F, X>(seat, fabric, word, 1);
+    let place = place_of(fabric, slot);
+    store_step::<F, X>(seat, fabric, place, 1);
 }
 
 // An exchange 1 to 2. X is what it tells.
 fn look_here<F: FabricName, X: Outcome>(
     node: u8,
-    seat: &mut Seat<Option<Message>, View>,
+    seat: &mut TableSeat,
     fabric: &Fabric<F>,
     from: u8,
 ) -> u64
     requires picked { IsPicked X.tells (looked (mail_word F.table from node) (slot_of F.table from node) from) }
     requires own { seat.old.table_id ≡ F.table.id }
-    requires whole { seat.old.me.0.parts ≡ part_in seat.old.me.0 ∷ [] }
-    requires node { ((part_in seat.old.me.0).node ≡ node) × (node < F.table.count) }
+    requires whole { seat.old.me.0.view.parts ≡ part_in seat.old.me.0.view ∷ [] }
+    requires node { ((part_in seat.old.me.0.view).node ≡ node) × (node < F.table.count) }
     requires from { from < F.table.count }
-    requires idle { (part_in seat.old.me.0).state.hand ≡ None }
+    requires idle { (part_in seat.old.me.0.view).state.hand ≡ None }
     ensures table { seat.new.table_id ≡ seat.old.table_id }
-    ensures done { looked (mail_word F.table from node) (slot_of F.table from node) from seat.old.me result seat.new.me }
-    ensures sound { AreSound F.table.count F.table.size seat.new.me.0 }
+    ensures done { looked (mail_word F.table from node) (slot_of F.table from node) from (mine_of seat.old.me) result (mine_of seat.new.me) }
+    ensures sound { AreSound F.table.count F.table.size seat.new.me.0.view }
 {
     let slot = slot_of(fabric, from, node);
-    let word = word_of(fabric, slot);
-    exchange_step::<F, X>(seat, fabric, word, 1, 2)
+    let place = place_of(fabric, slot);
+    exchange_step::<F, X>(seat, fabric, place, 1, 2)
 }
 
 // The word of the old link that the message in hand names, if it is an AcceptBypass.
@@ -170,59 +165,59 @@ fn old_word(message: &Option<Message>) -> Option<u32>
 
 // A load of the old link's word before an AcceptBypass in hand is handled. X is what it tells.
 fn source_here<F: FabricName, X: Outcome>(
-    seat: &mut Seat<Option<Message>, View>,
+    seat: &mut TableSeat,
     fabric: &Fabric<F>,
     from: u8,
     old: u32,
 ) -> u64
     requires picked { IsPicked X.tells (sourced old from) }
     requires own { seat.old.table_id ≡ F.table.id }
-    requires whole { seat.old.me.0.parts ≡ part_in seat.old.me.0 ∷ [] }
-    requires hand { (part_in seat.old.me.0).state.hand ≡ Some from }
-    requires message { (x : MessageData) × ((part_in seat.old.me.0).message ≡ Some x) × (old_word x ≡ Some old) }
+    requires whole { seat.old.me.0.view.parts ≡ part_in seat.old.me.0.view ∷ [] }
+    requires hand { (part_in seat.old.me.0.view).state.hand ≡ Some from }
+    requires message { (x : MessageData) × ((part_in seat.old.me.0.view).message ≡ Some x) × (old_word x ≡ Some old) }
     requires inside { old < F.table.size }
     ensures table { seat.new.table_id ≡ seat.old.table_id }
-    ensures done { sourced old from seat.old.me result seat.new.me }
-    ensures sound { AreSound F.table.count F.table.size seat.new.me.0 }
+    ensures done { sourced old from (mine_of seat.old.me) result (mine_of seat.new.me) }
+    ensures sound { AreSound F.table.count F.table.size seat.new.me.0.view }
 {
     let (_nodes, _from) = (fabric.nodes, from);
-    load_step::<F, X>(seat, fabric, old as usize)
+    load_link::<F, X>(seat, fabric, old)
 }
 
 // A store 0 at the mailbox whose message is in hand, for which the source is known. X is what it tells.
 fn hand_here<F: FabricName, X: Outcome>(
     node: u8,
-    seat: &mut Seat<Option<Message>, View>,
+    seat: &mut TableSeat,
     fabric: &Fabric<F>,
     from: u8,
     source: Option<u8>,
 )
     requires picked { IsPicked X.tells (handed from source) }
     requires own { seat.old.table_id ≡ F.table.id }
-    requires whole { seat.old.me.0.parts ≡ part_in seat.old.me.0 ∷ [] }
-    requires node { ((part_in seat.old.me.0).node ≡ node) × (node < F.table.count) }
+    requires whole { seat.old.me.0.view.parts ≡ part_in seat.old.me.0.view ∷ [] }
+    requires node { ((part_in seat.old.me.0.view).node ≡ node) × (node < F.table.count) }
     requires from { from < F.table.count }
-    requires hand { (part_in seat.old.me.0).state.hand ≡ Some from }
-    requires message { (x : MessageData) × ((part_in seat.old.me.0).message ≡ Some x) ×
-        (message_lacks_serials (part_in seat.old.me.0).state from x source ≡ false) × IsKnown F.table.size from x source }
+    requires hand { (part_in seat.old.me.0.view).state.hand ≡ Some from }
+    requires message { (x : MessageData) × ((part_in seat.old.me.0.view).message ≡ Some x) ×
+        (message_lacks_serials (part_in seat.old.me.0.view).state from x source ≡ false) × IsKnown F.table.size from x source }
     requires slot { seat.old.me.1 ≡ (slot_of F.table from node, None) ∷ rest seat.old.me.1 }
     ensures table { seat.new.table_id ≡ seat.old.table_id }
-    ensures done { seat.new.me ≡ (change_part (handed_part from source) seat.old.me.0, rest seat.old.me.1) }
-    ensures sound { AreSound F.table.count F.table.size seat.new.me.0 }
+    ensures done { (mine_of seat.new.me) ≡ (change_part (handed_part from source) seat.old.me.0.view, rest seat.old.me.1) }
+    ensures sound { AreSound F.table.count F.table.size seat.new.me.0.view }
 {
     let _source = source;
     let slot = slot_of(fabric, from, node);
-    let word = word_of(fabric, slot);
-    store_step::<F, X>(seat, fabric, word, 0);
+    let place = place_of(fabric, slot);
+    store_step::<F, X>(seat, fabric, place, 0);
 }
 
 impl<F: FabricName> NodeCell<F> {
-    // Loads a word of the table.
-    pub(crate) fn load_at(&mut self, fabric: &Fabric<F>, word: usize) -> u64
-        requires { word < F.table.id.words }
-        ensures { HasSeen word result self.old self.new }
+    // Loads the word that is so far behind the link words.
+    pub(crate) fn load_at(&mut self, fabric: &Fabric<F>, place: usize) -> u64
+        requires { place < 1 + F.table.count + F.table.count * F.table.count }
+        ensures { HasSeen (F.table.size + place) result self.old self.new }
     {
-        load_step::<F, Brand>(&mut self.seat, fabric, word)
+        load_step::<F, Brand>(&mut self.seat, fabric, place)
     }
 
     // Loads the word of the mailbox from one node to another.
@@ -231,8 +226,8 @@ impl<F: FabricName> NodeCell<F> {
         requires to { to < F.table.count }
         ensures { HasSeen (mail_word F.table from to) result self.old self.new }
     {
-        let word = mail_word::<F>(fabric.words, fabric.nodes, from, to);
-        self.load_at(fabric, word)
+        let place = mail_place::<F>(fabric.nodes, from, to);
+        self.load_at(fabric, place)
     }
 
     /// Takes the empty mailbox to a node, or has it already. It answers false only if the mailbox was found at another value than 0.

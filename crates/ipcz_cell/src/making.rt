@@ -1,6 +1,9 @@
 //! A table is made and named, and each node gets its cell.
-ghost use Rattle.std.specs.Prelude.{◌≡◌, ◌≤◌, ◌<◌, ◌-◌, [], IfOk, IfErr, vec_len, vec_capacity};
+ghost use Rattle.ipcz_cell.specs.Seats.{mine_of};
+ghost use Rattle.std.specs.Prelude.{◌≡◌, ◌≤◌, ◌<◌, ◌+◌, ◌-◌, ◌++◌, true, false, [], length, replicate, IfOk, IfErr, OnOk, vec_len, vec_capacity};
+ghost use Rattle.ipcz_node.specs.FirstPairs.{first_pairs};
 ghost use Rattle.ipcz_rule.specs.Start.{opening_words, opening_parts, after_deal, dealt};
+ghost use Rattle.ipcz_rule.specs.LastingStart.{lasting_words, whole_words};
 ghost use Rattle.ipcz_world.specs.Lawful.{IsWithinLimits};
 ghost use Rattle.ipcz_cell.specs.Making.{AreBodies, AreFirst};
 ghost use Rattle.ipcz_cell.specs.TableNames.{TableName};
@@ -10,22 +13,29 @@ use crate::cell::NodeCell;
 use crate::fabric::{Fabric, FabricName};
 use crate::plays::Deal;
 use crate::probed::Probed;
-use atomic_table::{Seat, Table};
+use crate::seat::TableSeat;
+use atomic_table::Table;
 use ipcz_base::{Message, Refusal};
 use ipcz_node::{NodeState, first_pair_count};
 use ipcz_rule::{FabricLaw, Size, View};
+use ipcz_slots::Own;
 use ipcz_word::{EMPTY_WORD, OPEN_WORD};
 use std::alloc::{AllocError, Global};
 use std::collections::VecDeque;
 use std::marker::{Model, PhantomData};
 
+/// The let-go word of a slot that both sides have let go.
+pub(crate) const BOTH_SIDES: u64 = 3;
+
 /// A table that has no name yet. In a clause it is which table it is, and for how many nodes and link words.
 #[derive(Drop)]
 pub struct Blank {
-    table: Table<Option<Message>, View, Size, FabricLaw, Global>,
-    seat: Seat<Option<Message>, View>,
+    table: Table<Option<Message>, Own<View>, Size, FabricLaw, Global>,
+    seat: TableSeat,
     nodes: u8,
     words: u32,
+    slots: u32,
+    reuses: bool,
     alloc: Global,
 }
 
@@ -36,7 +46,7 @@ impl Model for Blank {
 
     ghost coded = { name_coded };
 
-    ghost view = { λ b. record { id = b.table.shared.table_id; count = b.nodes; size = b.words } };
+    ghost view = { λ b. record { id = b.table.shared.table_id; count = b.nodes; size = b.words; slots = b.slots; reuses = b.reuses } };
 
     ghost use Rattle.ipcz_cell.specs.Blanks.{IsBlank};
 
@@ -49,15 +59,20 @@ impl Model for Blank {
 /// the start, 8 bytes each. Its only refusal is `OutOfMemory`.
 pub fn start(alloc: Global, nodes: u8, words: u32) -> Result<Blank, Refusal>
     requires limits { IsWithinLimits nodes words }
-    ensures size { IfOk result (λ b. (b.count ≡ nodes) × (b.size ≡ words)) }
+    ensures size { IfOk result (λ b. (b.count ≡ nodes) × (b.size ≡ words) × (b.reuses ≡ false)) }
     ensures why { IfErr result (λ e. e ≡ Refusal.OutOfMemory) }
 {
-    let Ok(numbers) = opening_words(alloc, nodes, words) else {
+    let Ok(numbers) = whole_words(alloc, nodes, words) else {
         return Err(Refusal::OutOfMemory);
     };
-    let slots = usize::from(nodes) * usize::from(nodes);
-    let size = Size { nodes, words };
-    let Ok((table, seat)) = Table::vacant(alloc, &numbers, slots, &size) else {
+    let boxes = usize::from(nodes) * usize::from(nodes);
+    let size = Size {
+        nodes,
+        words,
+        slots: words,
+        reuses: false,
+    };
+    let Ok((table, seat)) = Table::vacant(alloc, &numbers, boxes, &size) else {
         return Err(Refusal::OutOfMemory);
     };
     Ok(Blank {
@@ -65,8 +80,87 @@ pub fn start(alloc: Global, nodes: u8, words: u32) -> Result<Blank, Refusal>
         seat,
         nodes,
         words,
+        slots: words,
+        reuses: false,
         alloc,
     })
+}
+
+/// The table of so many nodes whose link words come back: with so many slots for them, and so many numbers. It shows the world at the start.
+///
+/// A slot is used again once both its sides have let go of its number, so what is limited is how many links there are at once. Each open and
+/// each bypass takes a number, and some are passed over; none comes back, so `numbers` is how long the table lasts.
+///
+/// `nodes` is 1 to 8; `slots` is from the number of first pairs, `nodes * (nodes - 1) / 2`, and from 1, to `numbers`. Its only refusal is
+/// `OutOfMemory`.
+pub fn start_lasting(alloc: Global, nodes: u8, slots: u32, numbers: u32) -> Result<Blank, Refusal>
+    requires limits { IsWithinLimits nodes numbers }
+    requires pairs { length (first_pairs nodes) ≤ slots }
+    requires slots { (1 ≤ slots) × (slots ≤ numbers) }
+    ensures size { IfOk result (λ b. (b.count ≡ nodes) × (b.size ≡ numbers) × (b.slots ≡ slots) × (b.reuses ≡ true)) }
+    ensures why { IfErr result (λ e. e ≡ Refusal.OutOfMemory) }
+{
+    let Ok(words) = lasting_words(alloc, nodes, slots) else {
+        return Err(Refusal::OutOfMemory);
+    };
+    let boxes = usize::from(nodes) * usize::from(nodes);
+    let size = Size {
+        nodes,
+        words: numbers,
+        slots,
+        reuses: true,
+    };
+    let Ok((table, seat)) = Table::vacant(alloc, &words, boxes, &size) else {
+        return Err(Refusal::OutOfMemory);
+    };
+    Ok(Blank {
+        table,
+        seat,
+        nodes,
+        words: numbers,
+        slots,
+        reuses: true,
+        alloc,
+    })
+}
+
+// The words of a table at the start in which each number has its slot: nobody has let go of any.
+fn whole_words(alloc: Global, nodes: u8, words: u32) -> Result<Vec<u64>, AllocError>
+    requires limits { IsWithinLimits nodes words }
+    ensures { IfOk result (λ v. v.items ≡ whole_words nodes words) }
+{
+    let mut numbers = opening_words(alloc, nodes, words)?;
+    let behind = numbers.len() + words as usize;
+    numbers.resize(behind, 0)?;
+    Ok(numbers)
+}
+
+// Adds a number so many times.
+fn fill(words: &mut Vec<u64>, more: usize, value: u64) -> Result<(), AllocError>
+    requires few { vec_len words.old + more < 18446744073709551616 }
+    ensures items { OnOk result (words.new.items ≡ words.old.items ++ replicate more value) }
+    ensures len { OnOk result (vec_len words.new ≡ vec_len words.old + more) }
+{
+    let len = words.len() + more;
+    words.resize(len, value)
+}
+
+// The words of a table at the start whose slots are used again: those behind the first pairs' are to be had.
+fn lasting_words(alloc: Global, nodes: u8, slots: u32) -> Result<Vec<u64>, AllocError>
+    requires few { nodes ≤ 8 }
+    requires pairs { length (first_pairs nodes) ≤ slots }
+    ensures { IfOk result (λ v. v.items ≡ lasting_words nodes (slots - length (first_pairs nodes))) }
+{
+    let count = usize::from(nodes);
+    let pairs = first_pair_count(nodes);
+    let spare = slots as usize - pairs as usize;
+    let mut words = vec![in alloc; OPEN_WORD; pairs as usize]?;
+    fill(&mut words, spare, EMPTY_WORD)?;
+    words.push(u64::from(pairs))?;
+    fill(&mut words, count + count * count, 0)?;
+    fill(&mut words, pairs as usize, 0)?;
+    fill(&mut words, spare, BOTH_SIDES)?;
+    Ok(words)
 }
 
 // The words of the table at the start.
@@ -123,20 +217,17 @@ fn make_bodies(alloc: Global, count: u8) -> Result<Vec<Body>, Refusal>
 }
 
 // Gives a new seat the first part of the seat's view.
-fn deal<F: FabricName>(
-    seat: &mut Seat<Option<Message>, View>,
-    fabric: &Fabric<F>,
-    node: u8,
-) -> Seat<Option<Message>, View>
+fn deal<F: FabricName>(seat: &mut TableSeat, fabric: &Fabric<F>, node: u8) -> TableSeat
     requires own { seat.old.table_id ≡ F.table.id }
     requires node { node < F.table.count }
-    requires parts { seat.old.me.0.parts ≡ opening_parts F.table.count node (F.table.count - node) }
+    requires parts { seat.old.me.0.view.parts ≡ opening_parts F.table.count node (F.table.count - node) }
     ensures table { (seat.new.table_id ≡ F.table.id) × (result.table_id ≡ F.table.id) }
-    ensures kept { seat.new.me ≡ (after_deal seat.old.me.0, seat.old.me.1) }
-    ensures dealt { result.me ≡ (dealt seat.old.me.0, []) }
+    ensures kept { (mine_of seat.new.me) ≡ (after_deal seat.old.me.0.view, seat.old.me.1) }
+    ensures dealt { mine_of result.me ≡ (dealt seat.old.me.0.view, []) }
 {
     let _node = node;
-    fabric.table.shared.split_seat::<Deal>(seat)
+    let dealt = fabric.table.shared.split_seat::<Deal>(seat);
+    dealt
 }
 
 impl Blank {
@@ -166,12 +257,16 @@ impl Blank {
             seat,
             nodes,
             words,
+            slots,
+            reuses,
             alloc: _,
         } = self;
         let fabric = Fabric {
             table,
             nodes,
             words,
+            slots,
+            reuses,
             bells,
             news,
             of: PhantomData,
@@ -184,12 +279,12 @@ impl Blank {
 // Gives each node its seat.
 fn deal_all<F: FabricName>(
     fabric: &Fabric<F>,
-    mut seat: Seat<Option<Message>, View>,
+    mut seat: TableSeat,
     bodies: Vec<Body>,
     mut cells: Vec<NodeCell<F>>,
 ) -> Vec<NodeCell<F>>
     requires own { seat.table_id ≡ F.table.id }
-    requires me { seat.me ≡ (record { parts = opening_parts F.table.count 0 F.table.count; seen = [] }, []) }
+    requires me { mine_of seat.me ≡ (record { parts = opening_parts F.table.count 0 F.table.count; seen = [] }, []) }
     requires bodies { AreBodies F.table.count F.table.count bodies.items }
     requires room { F.table.count ≤ vec_capacity cells }
     requires empty { vec_len cells ≡ 0 }

@@ -1,16 +1,17 @@
 //! The claim count, the link words and the opens of a cell.
-ghost use Rattle.std.specs.Prelude.{◌≡◌, ◌<◌, ◌≤◌, ◌^◌, true, is_some, None, OnOk, IfOk, IfErr, unwrap_or};
+ghost use Rattle.std.specs.Prelude.{◌≡◌, ◌<◌, ◌≤◌, ◌^◌, true, false, is_some, None, OnOk, IfOk, IfErr, unwrap_or};
 ghost use Rattle.ipcz_world.specs.Coding.{IsLinkNumber};
 ghost use Rattle.ipcz_node.specs.Calls.{serials_refusal};
 ghost use Rattle.ipcz_node.specs.RoomyNodes.{CanOpen};
 ghost use Rattle.ipcz_cell.specs.CellStates.{roomy};
 ghost use Rattle.ipcz_cell.specs.Mails.{HasSeen};
 ghost use Rattle.ipcz_cell.specs.Claims.{AreReached};
-ghost use Rattle.ipcz_cell.specs.Opens.{ReadsWord, ClaimsAt, MayClaim, ClaimsWord, ClaimsForOpen, OpensWord, OpensPair};
+ghost use Rattle.ipcz_cell.specs.Opens.{ShowsWord, ClaimsAt, MayClaim, ClaimsWord, ClaimsForOpen, OpensWord, OpensPair};
 
 use crate::cell::NodeCell;
 use crate::fabric::{Fabric, FabricName};
-use crate::plays::{exchange_step, load_step};
+use crate::plays::{claim_step, exchange_link, load_link, load_step};
+use crate::slots::{leave_slot, number_at};
 use ipcz_base::{End, Refusal};
 use std::marker::Brand;
 
@@ -34,17 +35,19 @@ impl<F: FabricName> NodeCell<F> {
         ensures reached { AreReached F.table.size self.old.seen result }
         ensures small { F.table.size < 2 ^ 32 }
     {
-        load_step::<F, Brand>(&mut self.seat, fabric, fabric.words as usize)
+        let _words = fabric.words;
+        load_step::<F, Brand>(&mut self.seat, fabric, 0)
     }
 
-    // Loads a link's word.
+    // Loads a link's word, where each number has its slot.
     fn load_word(&mut self, fabric: &Fabric<F>, i: u32) -> u64
-        requires { i < F.table.size }
+        requires below { i < F.table.size }
+        requires order { F.table.reuses ≡ false }
         ensures seen { HasSeen i result self.old self.new }
         ensures word { IsLinkNumber result }
     {
         let _words = fabric.words;
-        load_step::<F, Brand>(&mut self.seat, fabric, i as usize)
+        load_link::<F, Brand>(&mut self.seat, fabric, i)
     }
 
     /// How many link words were claimed when the count was loaded: as many as at each load and exchange of it before, or more. It takes no
@@ -62,10 +65,14 @@ impl<F: FabricName> NodeCell<F> {
     }
 
     /// A link word as it was loaded, or none for one that wasn't claimed yet by the claim count that was loaded before it: so there is one
-    /// if an earlier count was above its number. It takes no memory.
+    /// if an earlier count was above its number. A table whose slots are used again shows none, since a word is that of one link after
+    /// another. It takes no memory.
     pub fn word(&mut self, fabric: &Fabric<F>, i: u32) -> Option<u64>
-        ensures { ReadsWord F.table.size i self.old result self.new }
+        ensures { ShowsWord F.table i self.old result self.new }
     {
+        if fabric.reuses {
+            return None;
+        }
         let count = self.load_count(fabric);
         if count <= u64::from(i) {
             return None;
@@ -73,29 +80,30 @@ impl<F: FabricName> NodeCell<F> {
         Some(self.load_word(fabric, i))
     }
 
-    // Exchanges the claim count for the next, for an open.
+    // Exchanges the claim count for the number behind that which is claimed for an open.
     fn claim_at(&mut self, fabric: &Fabric<F>, count: u64) -> Result<u32, Refusal>
         requires free { self.old.part.state.opening ≡ None }
         requires few { count < F.table.size }
-        ensures claims { ClaimsAt F.table.size count self.old result self.new }
+        ensures claims { ClaimsAt F.table count self.old result self.new }
         ensures room { self.new.room ≡ self.old.room }
     {
-        let word = fabric.words as usize;
-        let now = exchange_step::<F, Brand>(&mut self.seat, fabric, word, count, count + 1);
+        let _words = fabric.words;
+        let Some(number) = number_at(&mut self.seat, fabric, count) else {
+            return Err(Refusal::NoWord);
+        };
+        let now = claim_step::<F, Brand>(&mut self.seat, fabric, count, number);
         if now != count {
+            leave_slot(&mut self.seat, fabric, number);
             return Err(Refusal::Raced);
         }
-        let Ok(claimed) = u32::try_from(count) else {
-            unreachable!()
-        };
-        self.state.claim_open(claimed);
-        Ok(claimed)
+        self.state.claim_open(number);
+        Ok(number)
     }
 
     // Claims a word for an open.
     fn claim_for_open(&mut self, fabric: &Fabric<F>) -> Result<u32, Refusal>
         requires { self.old.part.state.opening ≡ None }
-        ensures { ClaimsForOpen F.table.size self.old self.new result }
+        ensures { ClaimsForOpen F.table self.old self.new result }
     {
         let count = self.load_count(fabric);
         if count == u64::from(fabric.words) {
@@ -112,7 +120,7 @@ impl<F: FabricName> NodeCell<F> {
     /// but what was seen has changed. It takes no memory.
     pub fn word_claim(&mut self, fabric: &Fabric<F>, serial: Option<u64>) -> Result<u32, Refusal>
         requires { MayClaim self.old.part.state serial }
-        ensures { ClaimsWord F.table.size serial self.old self.new result }
+        ensures { ClaimsWord F.table serial self.old self.new result }
     {
         match serial {
             Some(serial) => {
@@ -154,7 +162,7 @@ impl<F: FabricName> NodeCell<F> {
             unreachable!()
         };
         let _words = fabric.words;
-        exchange_step::<F, Brand>(&mut self.seat, fabric, word as usize, 0, 3);
+        exchange_link::<F, Brand>(&mut self.seat, fabric, word, 0, 3);
         self.state.open_commit(word)
     }
 
@@ -164,7 +172,7 @@ impl<F: FabricName> NodeCell<F> {
     /// serials are left for two routers, `OutOfMemory`, and `Raced` if another node has claimed a word meanwhile; the caller may try
     /// again. A refused open changes nothing but what was seen.
     pub fn open_pair(&mut self, fabric: &Fabric<F>) -> Result<(End, End), Refusal>
-        ensures { OpensPair F.table.size self.old self.new result }
+        ensures { OpensPair F.table self.old self.new result }
     {
         if self.is_opening() {
             self.open_prepare()?;
@@ -176,7 +184,10 @@ impl<F: FabricName> NodeCell<F> {
         }
         self.open_prepare()?;
         match self.claim_at(fabric, count) {
-            Ok(_) => Ok(self.word_open(fabric)),
+            Ok(number) => {
+                let _number = number;
+                Ok(self.word_open(fabric))
+            }
             Err(why) => Err(why),
         }
     }

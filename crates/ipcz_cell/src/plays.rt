@@ -1,14 +1,17 @@
-//! The single steps on the table, each with what it tells of its seat. X says what that is, and each call picks it.
-ghost use Rattle.std.specs.Prelude.{◌≡◌, ◌<◌, ◌==◌};
+//! The single steps on the table, each with what it tells of its seat. X says what that is, and each call picks it. A clause speaks of the table
+//! that is folded, in which each number has a word of its own: a step on a number's word is one on its slot.
+ghost use Rattle.std.specs.Prelude.{◌≡◌, ◌≤◌, ◌<◌, ◌+◌, ◌*◌, ◌%◌, ◌==◌, false, eqb};
 ghost use Rattle.std.specs.Prelude.{bit_and, bit_or};
 ghost use prog.Atomic.{either};
 ghost use Rattle.ipcz_cell.specs.Cells.{AreSound};
-ghost use Rattle.ipcz_cell.specs.Seats.{Keeps};
+ghost use Rattle.ipcz_cell.specs.Seats.{mine_of, Keeps, IsSlotted, MayClaim};
 
 use crate::fabric::{Fabric, FabricName};
-use atomic_table::{Join, Play, Seat, Split};
+use crate::seat::TableSeat;
+use atomic_table::{Join, Play, Split};
 use ipcz_base::Message;
 use ipcz_rule::View;
+use ipcz_slots::{Own, slot_of};
 use std::marker::{Brand, PhantomData};
 
 /// What a step tells of its seat.
@@ -24,128 +27,231 @@ impl Outcome for Brand {
     ghost tells = { loaded 0 };
 }
 
-/// A step that tells what X says, and that the nodes of the seat are sound.
+/// A step that tells what X says, and that the nodes of the seat are sound. The seat's slots stay.
 pub(crate) struct By<F, X> {
     of: PhantomData<F>,
     by: PhantomData<X>,
 }
 
-impl<F: FabricName, X: Outcome> Play<Option<Message>, View> for By<F, X> {
+impl<F: FabricName, X: Outcome> Play<Option<Message>, Own<View>> for By<F, X> {
+    ghost use Rattle.std.specs.Prelude.{◌≡◌};
     ghost use Rattle.ipcz_cell.specs.Cells.{AreSound};
+    ghost use Rattle.ipcz_cell.specs.Seats.{mine_of};
 
-    ghost then = { λ st m n m'. X.tells m n m' × AreSound F.table.count F.table.size m'.0 };
+    ghost then = { λ st m n m'. X.tells (mine_of m) n (mine_of m') × AreSound F.table.count F.table.size m'.0.view ×
+        (m'.0.dirty ≡ m.0.dirty) × (m'.0.free ≡ m.0.free) };
 }
 
-/// Loads a word.
-pub(crate) fn load_step<F: FabricName, X: Outcome>(
-    seat: &mut Seat<Option<Message>, View>,
+/// The slot of a number's link word.
+pub(crate) fn link_word<F: FabricName>(fabric: &Fabric<F>, number: u32) -> usize
+    requires { number < F.table.size }
+    ensures slot { result ≡ number % F.table.slots }
+    ensures inside { result < F.table.slots }
+{
+    slot_of(u64::from(number), u64::from(fabric.slots)) as usize
+}
+
+/// Loads the word of a number.
+pub(crate) fn load_link<F: FabricName, X: Outcome>(
+    seat: &mut TableSeat,
     fabric: &Fabric<F>,
-    word: usize,
+    number: u32,
 ) -> u64
     requires own { seat.old.table_id ≡ F.table.id }
-    requires inside { word < F.table.id.words }
-    requires may { Keeps F.table.count F.table.size F.table.id.slots seat.old.id seat.old.me word (λ n. n) (X.tells seat.old.me) }
+    requires inside { number < F.table.size }
+    requires slotted { IsSlotted F.table seat.old.id seat.old.me.0.view number }
+    requires may { Keeps F.table.count F.table.size F.table.id.slots seat.old.id (mine_of seat.old.me) number (λ n. n) (X.tells (mine_of seat.old.me)) }
     ensures table { seat.new.table_id ≡ seat.old.table_id }
-    ensures done { X.tells seat.old.me result seat.new.me }
-    ensures sound { AreSound F.table.count F.table.size seat.new.me.0 }
+    ensures done { X.tells (mine_of seat.old.me) result (mine_of seat.new.me) }
+    ensures sound { AreSound F.table.count F.table.size seat.new.me.0.view }
 {
+    let word = link_word(fabric, number);
     fabric.table.shared.load::<By<F, X>>(seat, word)
 }
 
-/// Stores a number in a word.
-pub(crate) fn store_step<F: FabricName, X: Outcome>(
-    seat: &mut Seat<Option<Message>, View>,
+/// Exchanges a number in the word of a number for another, and answers what was found.
+pub(crate) fn exchange_link<F: FabricName, X: Outcome>(
+    seat: &mut TableSeat,
     fabric: &Fabric<F>,
-    word: usize,
-    new: u64,
-)
-    requires own { seat.old.table_id ≡ F.table.id }
-    requires inside { word < F.table.id.words }
-    requires may { Keeps F.table.count F.table.size F.table.id.slots seat.old.id seat.old.me word (λ _. new)
-        (λ _. X.tells seat.old.me new) }
-    ensures table { seat.new.table_id ≡ seat.old.table_id }
-    ensures done { X.tells seat.old.me new seat.new.me }
-    ensures sound { AreSound F.table.count F.table.size seat.new.me.0 }
-{
-    fabric.table.shared.store::<By<F, X>>(seat, word, new);
-}
-
-/// Exchanges a number of a word for another, and answers what was found.
-pub(crate) fn exchange_step<F: FabricName, X: Outcome>(
-    seat: &mut Seat<Option<Message>, View>,
-    fabric: &Fabric<F>,
-    word: usize,
+    number: u32,
     old: u64,
     new: u64,
 ) -> u64
     requires own { seat.old.table_id ≡ F.table.id }
-    requires inside { word < F.table.id.words }
-    requires may { Keeps F.table.count F.table.size F.table.id.slots seat.old.id seat.old.me word (λ n. either (n == old) new n)
-        (X.tells seat.old.me) }
+    requires inside { number < F.table.size }
+    requires slotted { IsSlotted F.table seat.old.id seat.old.me.0.view number }
+    requires may { Keeps F.table.count F.table.size F.table.id.slots seat.old.id (mine_of seat.old.me) number (λ n. either (n == old) new n)
+        (X.tells (mine_of seat.old.me)) }
     ensures table { seat.new.table_id ≡ seat.old.table_id }
-    ensures done { X.tells seat.old.me result seat.new.me }
-    ensures sound { AreSound F.table.count F.table.size seat.new.me.0 }
+    ensures done { X.tells (mine_of seat.old.me) result (mine_of seat.new.me) }
+    ensures sound { AreSound F.table.count F.table.size seat.new.me.0.view }
 {
+    let word = link_word(fabric, number);
     fabric
         .table
         .shared
         .compare_exchange::<By<F, X>>(seat, word, old, new)
 }
 
-/// Sets bits of a word.
-pub(crate) fn set_step<F: FabricName, X: Outcome>(
-    seat: &mut Seat<Option<Message>, View>,
+/// Sets bits of the word of a number.
+pub(crate) fn set_link<F: FabricName, X: Outcome>(
+    seat: &mut TableSeat,
     fabric: &Fabric<F>,
-    word: usize,
+    number: u32,
     bits: u64,
 ) -> u64
     requires own { seat.old.table_id ≡ F.table.id }
-    requires inside { word < F.table.id.words }
-    requires may { Keeps F.table.count F.table.size F.table.id.slots seat.old.id seat.old.me word (λ n. bit_or n bits)
-        (X.tells seat.old.me) }
+    requires inside { number < F.table.size }
+    requires slotted { IsSlotted F.table seat.old.id seat.old.me.0.view number }
+    requires may { Keeps F.table.count F.table.size F.table.id.slots seat.old.id (mine_of seat.old.me) number (λ n. bit_or n bits) (X.tells (mine_of seat.old.me)) }
     ensures table { seat.new.table_id ≡ seat.old.table_id }
-    ensures done { X.tells seat.old.me result seat.new.me }
-    ensures sound { AreSound F.table.count F.table.size seat.new.me.0 }
+    ensures done { X.tells (mine_of seat.old.me) result (mine_of seat.new.me) }
+    ensures sound { AreSound F.table.count F.table.size seat.new.me.0.view }
 {
+    let word = link_word(fabric, number);
     fabric.table.shared.fetch_or::<By<F, X>>(seat, word, bits)
 }
 
-/// Keeps bits of a word.
-pub(crate) fn keep_step<F: FabricName, X: Outcome>(
-    seat: &mut Seat<Option<Message>, View>,
+/// Keeps bits of the word of a number.
+pub(crate) fn keep_link<F: FabricName, X: Outcome>(
+    seat: &mut TableSeat,
     fabric: &Fabric<F>,
-    word: usize,
+    number: u32,
     bits: u64,
 ) -> u64
     requires own { seat.old.table_id ≡ F.table.id }
-    requires inside { word < F.table.id.words }
-    requires may { Keeps F.table.count F.table.size F.table.id.slots seat.old.id seat.old.me word (λ n. bit_and n bits)
-        (X.tells seat.old.me) }
+    requires inside { number < F.table.size }
+    requires slotted { IsSlotted F.table seat.old.id seat.old.me.0.view number }
+    requires may { Keeps F.table.count F.table.size F.table.id.slots seat.old.id (mine_of seat.old.me) number (λ n. bit_and n bits) (X.tells (mine_of seat.old.me)) }
     ensures table { seat.new.table_id ≡ seat.old.table_id }
-    ensures done { X.tells seat.old.me result seat.new.me }
-    ensures sound { AreSound F.table.count F.table.size seat.new.me.0 }
+    ensures done { X.tells (mine_of seat.old.me) result (mine_of seat.new.me) }
+    ensures sound { AreSound F.table.count F.table.size seat.new.me.0.view }
 {
+    let word = link_word(fabric, number);
     fabric.table.shared.fetch_and::<By<F, X>>(seat, word, bits)
 }
 
-/// A new seat gets the first part of a view.
-pub(crate) struct Deal;
-
-impl Split<View> for Deal {
-    ghost use Rattle.ipcz_rule.specs.Start.{after_deal, dealt};
-
-    ghost left = { after_deal };
-
-    ghost right = { dealt };
+/// Loads a word behind the link words: the claim count is at 0, then come the touch words, and then the mailboxes.
+pub(crate) fn load_step<F: FabricName, X: Outcome>(
+    seat: &mut TableSeat,
+    fabric: &Fabric<F>,
+    place: usize,
+) -> u64
+    requires own { seat.old.table_id ≡ F.table.id }
+    requires inside { place < 1 + F.table.count + F.table.count * F.table.count }
+    requires may { Keeps F.table.count F.table.size F.table.id.slots seat.old.id (mine_of seat.old.me) (F.table.size + place) (λ n. n)
+        (X.tells (mine_of seat.old.me)) }
+    ensures table { seat.new.table_id ≡ seat.old.table_id }
+    ensures done { X.tells (mine_of seat.old.me) result (mine_of seat.new.me) }
+    ensures sound { AreSound F.table.count F.table.size seat.new.me.0.view }
+{
+    let word = fabric.slots as usize + place;
+    fabric.table.shared.load::<By<F, X>>(seat, word)
 }
 
-/// A seat takes in the parts of another.
+/// Stores a number in a word behind the claim count.
+pub(crate) fn store_step<F: FabricName, X: Outcome>(
+    seat: &mut TableSeat,
+    fabric: &Fabric<F>,
+    place: usize,
+    new: u64,
+)
+    requires own { seat.old.table_id ≡ F.table.id }
+    requires behind { 1 ≤ place }
+    requires inside { place < 1 + F.table.count + F.table.count * F.table.count }
+    requires may { Keeps F.table.count F.table.size F.table.id.slots seat.old.id (mine_of seat.old.me) (F.table.size + place) (λ _. new)
+        (λ _. X.tells (mine_of seat.old.me) new) }
+    ensures table { seat.new.table_id ≡ seat.old.table_id }
+    ensures done { X.tells (mine_of seat.old.me) new (mine_of seat.new.me) }
+    ensures sound { AreSound F.table.count F.table.size seat.new.me.0.view }
+{
+    let word = fabric.slots as usize + place;
+    fabric.table.shared.store::<By<F, X>>(seat, word, new);
+}
+
+/// Exchanges a number of a word behind the claim count for another, and answers what was found.
+pub(crate) fn exchange_step<F: FabricName, X: Outcome>(
+    seat: &mut TableSeat,
+    fabric: &Fabric<F>,
+    place: usize,
+    old: u64,
+    new: u64,
+) -> u64
+    requires own { seat.old.table_id ≡ F.table.id }
+    requires behind { 1 ≤ place }
+    requires inside { place < 1 + F.table.count + F.table.count * F.table.count }
+    requires may { Keeps F.table.count F.table.size F.table.id.slots seat.old.id (mine_of seat.old.me) (F.table.size + place)
+        (λ n. either (n == old) new n) (X.tells (mine_of seat.old.me)) }
+    ensures table { seat.new.table_id ≡ seat.old.table_id }
+    ensures done { X.tells (mine_of seat.old.me) result (mine_of seat.new.me) }
+    ensures sound { AreSound F.table.count F.table.size seat.new.me.0.view }
+{
+    let word = fabric.slots as usize + place;
+    fabric
+        .table
+        .shared
+        .compare_exchange::<By<F, X>>(seat, word, old, new)
+}
+
+/// A step on the claim count that tells what X says, and that the nodes of the seat are sound.
+pub(crate) struct Counts<F, X> {
+    of: PhantomData<F>,
+    by: PhantomData<X>,
+}
+
+impl<F: FabricName, X: Outcome> Play<Option<Message>, Own<View>> for Counts<F, X> {
+    ghost use Rattle.std.specs.Prelude.{◌≡◌, false, eqb};
+    ghost use Rattle.ipcz_cell.specs.Cells.{AreSound};
+    ghost use Rattle.ipcz_cell.specs.Seats.{mine_of};
+
+    ghost then = { λ st m n m'. X.tells (mine_of m) n (mine_of m') × AreSound F.table.count F.table.size m'.0.view ×
+        (eqb n st.first ≡ false → m'.0.free ≡ m.0.free) };
+}
+
+/// Exchanges the claim count for the number behind one, and answers what was found.
+pub(crate) fn claim_step<F: FabricName, X: Outcome>(
+    seat: &mut TableSeat,
+    fabric: &Fabric<F>,
+    count: u64,
+    number: u32,
+) -> u64
+    requires own { seat.old.table_id ≡ F.table.id }
+    requires may { MayClaim F.table seat.old.id seat.old.me count number X.tells }
+    ensures table { seat.new.table_id ≡ seat.old.table_id }
+    ensures kept { seat.new.id ≡ seat.old.id }
+    ensures free { eqb result count ≡ false → seat.new.me.0.free ≡ seat.old.me.0.free }
+    ensures done { X.tells (mine_of seat.old.me) result (mine_of seat.new.me) }
+    ensures sound { AreSound F.table.count F.table.size seat.new.me.0.view }
+{
+    let next = u64::from(number) + 1;
+    fabric
+        .table
+        .shared
+        .compare_exchange::<Counts<F, X>>(seat, fabric.slots as usize, count, next)
+}
+
+/// A new seat gets the first part of a view, and no slot.
+pub(crate) struct Deal;
+
+impl Split<Own<View>> for Deal {
+    ghost use Rattle.std.specs.Prelude.{[]};
+    ghost use Rattle.ipcz_rule.specs.Start.{after_deal, dealt};
+    ghost use Rattle.ipcz_rule.specs.Lasting.{own_of};
+
+    ghost left = { λ o. own_of (after_deal o.view) o.dirty o.free };
+
+    ghost right = { λ o. own_of (dealt o.view) [] [] };
+}
+
+/// A seat takes in the parts and the slots of another.
 pub(crate) struct Together;
 
-impl Join<View> for Together {
+impl Join<Own<View>> for Together {
+    ghost use Rattle.std.specs.Prelude.{◌++◌, []};
     ghost use Rattle.ipcz_rule.specs.Kinds.{together, spent};
+    ghost use Rattle.ipcz_rule.specs.Lasting.{own_of};
 
-    ghost both = { together };
+    ghost both = { λ o p. own_of (together o.view p.view) (o.dirty ++ p.dirty) (o.free ++ p.free) };
 
-    ghost spent = { spent };
+    ghost spent = { own_of spent [] [] };
 }

@@ -10,7 +10,7 @@ ghost use Rattle.ipcz_rule.specs.Steps.{is_touch_act};
 
 use crate::cell::NodeCell;
 use crate::fabric::{Fabric, FabricName};
-use crate::mail::mail_word;
+use crate::mail::mail_place;
 use crate::words::LockTry;
 use ipcz_base::{LinkId, Refusal};
 use ipcz_node::{Act, Happened};
@@ -24,10 +24,10 @@ impl<F: FabricName> NodeCell<F> {
         ensures { FindsFull F.table self.old result self.new }
     {
         let node = self.node();
-        let (words, nodes) = (fabric.words, fabric.nodes);
+        let nodes = fabric.nodes;
         for from in 0..nodes {
-            let word = mail_word::<F>(words, nodes, from, node);
-            if self.load_at(fabric, word) == 1 {
+            let place = mail_place::<F>(nodes, from, node);
+            if self.load_at(fabric, place) == 1 {
                 return Some(from);
             }
         }

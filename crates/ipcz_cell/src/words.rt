@@ -1,4 +1,5 @@
 //! The link words of a cell.
+ghost use Rattle.ipcz_cell.specs.Seats.{mine_of};
 ghost use Rattle.std.specs.Prelude.{◌≡◌, ◌<◌, ◌-◌, true, false, [], ◌∷◌, Some, None};
 ghost use Rattle.ipcz_word.specs.Layout.{word_of_bits, bits_of, stable_bit, waiting_bit, locked_bit};
 ghost use Rattle.ipcz_base.specs.Sides.{opposite};
@@ -17,19 +18,18 @@ ghost use Rattle.std.specs.Prelude.{eqb};
 
 use crate::cell::NodeCell;
 use crate::fabric::{Fabric, FabricName};
-use crate::plays::{Outcome, exchange_step, keep_step, load_step, set_step};
-use atomic_table::Seat;
-use ipcz_base::{Message, Refusal, Side};
+use crate::plays::{Outcome, exchange_link, keep_link, load_link, set_link};
+use crate::seat::TableSeat;
+use ipcz_base::{Refusal, Side};
 use ipcz_node::{Act, NodeState};
 use ipcz_router::act::{Answer, RouterAct};
-use ipcz_rule::View;
 use ipcz_word::{LockPlan, try_lock};
 use ipcz_world::answer_act;
 use std::marker::Brand;
 
 // A load of a link's word by a router that wants its lock, which would name the source. X is what it tells.
 fn status_here<F: FabricName, X: Outcome>(
-    seat: &mut Seat<Option<Message>, View>,
+    seat: &mut TableSeat,
     fabric: &Fabric<F>,
     i: u32,
     serial: u64,
@@ -38,21 +38,21 @@ fn status_here<F: FabricName, X: Outcome>(
 ) -> u64
     requires picked { IsPicked X.tells (worded i serial side source RouterAct.Lock (is_refused_at side)) }
     requires own { seat.old.table_id ≡ F.table.id }
-    requires whole { seat.old.me.0.parts ≡ part_in seat.old.me.0 ∷ [] }
-    requires can { CanWord (part_in seat.old.me.0).state serial side RouterAct.Lock i }
-    requires named { source ≡ source_in (part_in seat.old.me.0).state serial }
+    requires whole { seat.old.me.0.view.parts ≡ part_in seat.old.me.0.view ∷ [] }
+    requires can { CanWord (part_in seat.old.me.0.view).state serial side RouterAct.Lock i }
+    requires named { source ≡ source_in (part_in seat.old.me.0.view).state serial }
     requires inside { i < F.table.size }
     ensures table { seat.new.table_id ≡ seat.old.table_id }
-    ensures done { worded i serial side source RouterAct.Lock (is_refused_at side) seat.old.me result seat.new.me }
-    ensures sound { AreSound F.table.count F.table.size seat.new.me.0 }
+    ensures done { worded i serial side source RouterAct.Lock (is_refused_at side) (mine_of seat.old.me) result (mine_of seat.new.me) }
+    ensures sound { AreSound F.table.count F.table.size seat.new.me.0.view }
 {
     let (_nodes, _source) = (fabric.nodes, source);
-    load_step::<F, X>(seat, fabric, i as usize)
+    load_link::<F, X>(seat, fabric, i)
 }
 
 // An exchange of a link's word for the word after a try for its lock, which names the source. X is what it tells.
 fn lock_here<F: FabricName, X: Outcome>(
-    seat: &mut Seat<Option<Message>, View>,
+    seat: &mut TableSeat,
     fabric: &Fabric<F>,
     i: u32,
     serial: u64,
@@ -63,22 +63,22 @@ fn lock_here<F: FabricName, X: Outcome>(
 ) -> u64
     requires picked { IsPicked X.tells (worded i serial side source RouterAct.Lock (λ n. eqb n found)) }
     requires own { seat.old.table_id ≡ F.table.id }
-    requires whole { seat.old.me.0.parts ≡ part_in seat.old.me.0 ∷ [] }
-    requires can { CanWord (part_in seat.old.me.0).state serial side RouterAct.Lock i }
-    requires named { source ≡ source_in (part_in seat.old.me.0).state serial }
+    requires whole { seat.old.me.0.view.parts ≡ part_in seat.old.me.0.view ∷ [] }
+    requires can { CanWord (part_in seat.old.me.0.view).state serial side RouterAct.Lock i }
+    requires named { source ≡ source_in (part_in seat.old.me.0.view).state serial }
     requires inside { i < F.table.size }
     requires new { bits_of (word_after (word_of_bits found) side source RouterAct.Lock) ≡ new }
     ensures table { seat.new.table_id ≡ seat.old.table_id }
-    ensures done { worded i serial side source RouterAct.Lock (λ n. eqb n found) seat.old.me result seat.new.me }
-    ensures sound { AreSound F.table.count F.table.size seat.new.me.0 }
+    ensures done { worded i serial side source RouterAct.Lock (λ n. eqb n found) (mine_of seat.old.me) result (mine_of seat.new.me) }
+    ensures sound { AreSound F.table.count F.table.size seat.new.me.0.view }
 {
     let (_nodes, _source) = (fabric.nodes, source);
-    exchange_step::<F, X>(seat, fabric, i as usize, found, new)
+    exchange_link::<F, X>(seat, fabric, i, found, new)
 }
 
 // Sets the bit that says that the side is stable. X is what it tells.
 fn mark_here<F: FabricName, X: Outcome>(
-    seat: &mut Seat<Option<Message>, View>,
+    seat: &mut TableSeat,
     fabric: &Fabric<F>,
     i: u32,
     serial: u64,
@@ -86,21 +86,21 @@ fn mark_here<F: FabricName, X: Outcome>(
 ) -> u64
     requires picked { IsPicked X.tells (worded i serial side None RouterAct.Mark always) }
     requires own { seat.old.table_id ≡ F.table.id }
-    requires whole { seat.old.me.0.parts ≡ part_in seat.old.me.0 ∷ [] }
-    requires can { CanWord (part_in seat.old.me.0).state serial side RouterAct.Mark i }
+    requires whole { seat.old.me.0.view.parts ≡ part_in seat.old.me.0.view ∷ [] }
+    requires can { CanWord (part_in seat.old.me.0.view).state serial side RouterAct.Mark i }
     requires inside { i < F.table.size }
     ensures table { seat.new.table_id ≡ seat.old.table_id }
-    ensures done { worded i serial side None RouterAct.Mark always seat.old.me result seat.new.me }
-    ensures sound { AreSound F.table.count F.table.size seat.new.me.0 }
+    ensures done { worded i serial side None RouterAct.Mark always (mine_of seat.old.me) result (mine_of seat.new.me) }
+    ensures sound { AreSound F.table.count F.table.size seat.new.me.0.view }
 {
     let _nodes = fabric.nodes;
     let bit = stable_bit(side);
-    set_step::<F, X>(seat, fabric, i as usize, bit)
+    set_link::<F, X>(seat, fabric, i, bit)
 }
 
 // Clears the bit that says that the side holds the lock, and the bits of the source. X is what it tells.
 fn unlock_here<F: FabricName, X: Outcome>(
-    seat: &mut Seat<Option<Message>, View>,
+    seat: &mut TableSeat,
     fabric: &Fabric<F>,
     i: u32,
     serial: u64,
@@ -108,21 +108,21 @@ fn unlock_here<F: FabricName, X: Outcome>(
 ) -> u64
     requires picked { IsPicked X.tells (worded i serial side None RouterAct.Unlock always) }
     requires own { seat.old.table_id ≡ F.table.id }
-    requires whole { seat.old.me.0.parts ≡ part_in seat.old.me.0 ∷ [] }
-    requires can { CanWord (part_in seat.old.me.0).state serial side RouterAct.Unlock i }
+    requires whole { seat.old.me.0.view.parts ≡ part_in seat.old.me.0.view ∷ [] }
+    requires can { CanWord (part_in seat.old.me.0.view).state serial side RouterAct.Unlock i }
     requires inside { i < F.table.size }
     ensures table { seat.new.table_id ≡ seat.old.table_id }
-    ensures done { worded i serial side None RouterAct.Unlock always seat.old.me result seat.new.me }
-    ensures sound { AreSound F.table.count F.table.size seat.new.me.0 }
+    ensures done { worded i serial side None RouterAct.Unlock always (mine_of seat.old.me) result (mine_of seat.new.me) }
+    ensures sound { AreSound F.table.count F.table.size seat.new.me.0.view }
 {
     let _nodes = fabric.nodes;
     let kept = unlock_mask(side);
-    keep_step::<F, X>(seat, fabric, i as usize, kept)
+    keep_link::<F, X>(seat, fabric, i, kept)
 }
 
 // Clears the bit that says that the other side waits. X is what it tells.
 fn wake_here<F: FabricName, X: Outcome>(
-    seat: &mut Seat<Option<Message>, View>,
+    seat: &mut TableSeat,
     fabric: &Fabric<F>,
     i: u32,
     serial: u64,
@@ -130,16 +130,16 @@ fn wake_here<F: FabricName, X: Outcome>(
 ) -> u64
     requires picked { IsPicked X.tells (worded i serial side None RouterAct.Wake always) }
     requires own { seat.old.table_id ≡ F.table.id }
-    requires whole { seat.old.me.0.parts ≡ part_in seat.old.me.0 ∷ [] }
-    requires can { CanWord (part_in seat.old.me.0).state serial side RouterAct.Wake i }
+    requires whole { seat.old.me.0.view.parts ≡ part_in seat.old.me.0.view ∷ [] }
+    requires can { CanWord (part_in seat.old.me.0.view).state serial side RouterAct.Wake i }
     requires inside { i < F.table.size }
     ensures table { seat.new.table_id ≡ seat.old.table_id }
-    ensures done { worded i serial side None RouterAct.Wake always seat.old.me result seat.new.me }
-    ensures sound { AreSound F.table.count F.table.size seat.new.me.0 }
+    ensures done { worded i serial side None RouterAct.Wake always (mine_of seat.old.me) result (mine_of seat.new.me) }
+    ensures sound { AreSound F.table.count F.table.size seat.new.me.0.view }
 {
     let _nodes = fabric.nodes;
     let kept = wake_mask(side);
-    keep_step::<F, X>(seat, fabric, i as usize, kept)
+    keep_link::<F, X>(seat, fabric, i, kept)
 }
 
 // All bits but the one that says that the other side waits.

@@ -12,7 +12,7 @@ use Rattle.ipcz_rule.specs.declared.view.Part.{Part}
 use Rattle.ipcz_cell.specs.TurnEnds.{IsRefused, NoSerials, NoMemory, LostIt}
 use Rattle.ipcz_cell.specs.TurnChains.{IsIdleTurn, RunsTurns}
 use Rattle.ipcz_fabric.specs.Hubs.{ArePair, IsOpenRefusal, IsTurnRefusal, OpensPortals, opened_portals}
-use Rattle.ipcz_cell.specs.Opens.{OpensPair, OpensWord, UnderWay, Fresh, NoneLeft, Unready, Lost}
+use Rattle.ipcz_cell.specs.Opens.{OpensPair, OpensWord, UnderWay, Fresh, NoneLeft, NoSlot, Unready, Lost}
 use Rattle.ipcz_fabric.specs.Portals.{PortalValue, portal_at}
 
 abbrev ends_in : End × End → Result (End × End) Refusal → End × End
@@ -32,12 +32,13 @@ serials_why true why e = inr (inr (inl e))
 serials_why false why e = inr (inl e)
 
 -- the open of a pair at a cell is refused for one of these
-open_why : (size : ℕ) (old new : CellState) (why : Refusal) → OpensPair size old new (Err why) → IsOpenRefusal why
-open_why size old new why (UnderWay ends e inside how) = cc
-open_why size old new why (Fresh n ends e idle few reached how) = cc
-open_why size old new why (NoneLeft e idle seen) = inl (ap (refusal_in why) e)
-open_why size old new why (Unready e part seen) = serials_why (has_serials old.part.state.next_router 2) why (ap (refusal_in why) e)
-open_why size old new why (Lost n found e idle fine few apart part seen) = inr (inr (inr (ap (refusal_in why) e)))
+open_why : (t : TableName) (old new : CellState) (why : Refusal) → OpensPair t old new (Err why) → IsOpenRefusal why
+open_why t old new why (UnderWay ends e inside how) = cc
+open_why t old new why (Fresh c n ends e idle number reached how) = cc
+open_why t old new why (NoneLeft e idle seen) = inl (ap (refusal_in why) e)
+open_why t old new why (NoSlot c e again idle fine few part seen) = inl (ap (refusal_in why) e)
+open_why t old new why (Unready e part seen) = serials_why (has_serials old.part.state.next_router 2) why (ap (refusal_in why) e)
+open_why t old new why (Lost n found e idle fine few apart part seen) = inr (inr (inr (ap (refusal_in why) e)))
 
 pair_on : (size node : ℕ) (old new : CellState) (a b : End) (ends : End × End) → (a, b) ≡ ends → OpensWord old ends new → ends.0.pair < size →
     ArePair size node (portal_at node a, portal_at node b)
@@ -47,15 +48,17 @@ pair_on size node old new a b ends same how inside = record {
   are = ap (λ (e : End × End). (portal_at node e.0, portal_at node e.1)) (same ∙ how.ends_are);
 }
 
-ends_pair : (size node : ℕ) (old new : CellState) (a b : End) → OpensPair size old new (Ok (a, b)) → ArePair size node (portal_at node a, portal_at node b)
-ends_pair size node old new a b (UnderWay ends e inside how) = pair_on size node old new a b ends (ap (ends_in (a, b)) e) how inside
-ends_pair size node old new a b (Fresh n ends e idle few reached how) =
+ends_pair : (t : TableName) (node : ℕ) (old new : CellState) (a b : End) → OpensPair t old new (Ok (a, b)) → ArePair t.size node (portal_at node a, portal_at node b)
+ends_pair t node old new a b (UnderWay ends e inside how) = pair_on t.size node old new a b ends (ap (ends_in (a, b)) e) how inside
+ends_pair t node old new a b (Fresh c n ends e idle number reached how) =
     let word : n ≡ how.word = ap word_in how.under_way in
     let is : ends.0.pair ≡ how.word = ap (λ (x : End × End). x.0.pair) how.ends_are in
-    pair_on size node _ new a b ends (ap (ends_in (a, b)) e) how (omega (arith, word, is, few))
-ends_pair size node old new a b (NoneLeft e idle seen) = cc
-ends_pair size node old new a b (Unready e part seen) = cc
-ends_pair size node old new a b (Lost n found e idle fine few apart part seen) = cc
+    let few = number.below in
+    pair_on t.size node _ new a b ends (ap (ends_in (a, b)) e) how (omega (arith, word, is, few))
+ends_pair t node old new a b (NoneLeft e idle seen) = cc
+ends_pair t node old new a b (NoSlot c e again idle fine few part seen) = cc
+ends_pair t node old new a b (Unready e part seen) = cc
+ends_pair t node old new a b (Lost n found e idle fine few apart part seen) = cc
 
 portals_in : PortalValue × PortalValue → Result (PortalValue × PortalValue) Refusal → PortalValue × PortalValue
 portals_in other (Ok portals) = portals
@@ -65,11 +68,11 @@ portals_why : Refusal → Result (PortalValue × PortalValue) Refusal → Refusa
 portals_why other (Ok portals) = other
 portals_why other (Err why) = why
 
-refused_by : (t : TableName) (node : ℕ) (old new : CellState) (why : Refusal) (ends : Result (End × End) Refusal) → OpensPair t.size old new ends →
+refused_by : (t : TableName) (node : ℕ) (old new : CellState) (why : Refusal) (ends : Result (End × End) Refusal) → OpensPair t old new ends →
     Err why ≡ opened_portals node ends → IsOpenRefusal why
 unfolding portals_why
 refused_by t node old new why (Ok ends) opens is = cc
-refused_by t node old new why (Err other) opens is = subst IsOpenRefusal (sym (ap (portals_why why) is)) (open_why t.size old new other opens)
+refused_by t node old new why (Err other) opens is = subst IsOpenRefusal (sym (ap (portals_why why) is)) (open_why t old new other opens)
 
 -- an open of portals is refused for one of these
 pub portals_refused : (t : TableName) (node : ℕ) (old new : CellState) (answer : Result (PortalValue × PortalValue) Refusal) →
@@ -78,9 +81,9 @@ portals_refused t node old new (Ok portals) opens = tt
 portals_refused t node old new (Err why) opens = refused_by t node old new why opens.0 opens.1 opens.2
 
 pair_by : (t : TableName) (node : ℕ) (old new : CellState) (portals : PortalValue × PortalValue) (ends : Result (End × End) Refusal) →
-    OpensPair t.size old new ends → Ok portals ≡ opened_portals node ends → ArePair t.size node portals
+    OpensPair t old new ends → Ok portals ≡ opened_portals node ends → ArePair t.size node portals
 unfolding portals_in
-pair_by t node old new portals (Ok ends) opens is = subst (ArePair t.size node) (sym (ap (portals_in portals) is)) (ends_pair t.size node old new ends.0 ends.1 opens)
+pair_by t node old new portals (Ok ends) opens is = subst (ArePair t.size node) (sym (ap (portals_in portals) is)) (ends_pair t node old new ends.0 ends.1 opens)
 pair_by t node old new portals (Err other) opens is = cc
 
 -- the portals that a cell opens are those of a pair, of both sides

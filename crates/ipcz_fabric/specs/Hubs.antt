@@ -67,7 +67,7 @@ opened_portals node (Err why) = Err why
 
 -- the open of a pair at a cell answers these portals, and leaves this cell
 abbrev pub OpensPortals : TableName → ℕ → CellState → Result (PortalValue × PortalValue) Refusal → CellState → Type 0
-OpensPortals t node old answer new = (ends : Result (End × End) Refusal) × OpensPair t.size old new ends ×
+OpensPortals t node old answer new = (ends : Result (End × End) Refusal) × OpensPair t old new ends ×
     (answer ≡ opened_portals node ends)
 
 -- the open of a pair at a node answers these portals

@@ -2,21 +2,25 @@
 use crate::view::View;
 use atomic_table::TableRule;
 use ipcz_base::Message;
+use ipcz_slots::Own;
 
-/// How many nodes and link words there are.
+/// How many nodes, numbers of link words and slots for them there are, and whether slots are used again.
 #[derive(Clone, Copy)]
 pub struct Size {
     pub nodes: u8,
     pub words: u32,
+    pub slots: u32,
+    pub reuses: bool,
 }
 
 pub struct FabricLaw;
 
-impl TableRule<Option<Message>, View, Size> for FabricLaw {
-    ghost use Rattle.ipcz_rule.specs.Rule.{Rules};
+impl TableRule<Option<Message>, Own<View>, Size> for FabricLaw {
+    ghost use Rattle.std.specs.Prelude.{[]};
+    ghost use Rattle.ipcz_rule.specs.Lasting.{LastingRules, own_of};
     ghost use Rattle.ipcz_rule.specs.Start.{opening_view};
 
-    ghost holds = { λ k. Rules k.nodes k.words };
+    ghost holds = { λ k. LastingRules k.nodes k.words k.slots k.reuses };
 
-    ghost first = { λ k. opening_view k.nodes };
+    ghost first = { λ k. own_of (opening_view k.nodes) [] [] };
 }

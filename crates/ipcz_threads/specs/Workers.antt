@@ -66,7 +66,7 @@ Closes at c answer d = MatchResult answer
 
 -- what a cell replies to a call, and what it is after that
 abbrev pub CallsCell : TableName → CellState → Call → Reply → CellState → Type 0
-CallsCell t c calls.Open reply d = (answer : Result (End × End) Refusal) × OpensPair t.size c d answer × (reply ≡ opened answer)
+CallsCell t c calls.Open reply d = (answer : Result (End × End) Refusal) × OpensPair t c d answer × (reply ≡ opened answer)
 CallsCell t c (calls.Put at bytes ends) reply d = (answer : Result ℕ Refusal) × Puts at bytes ends c answer d × (reply ≡ put answer)
 CallsCell t c (calls.Get at) reply d = (answer : Result (ℕ × Parcel) Refusal) × Gets at c answer d × (reply ≡ got answer)
 CallsCell t c (calls.Close at) reply d = (answer : Result ℕ Refusal) × Closes at c answer d × (reply ≡ closed answer)

@@ -73,7 +73,7 @@ impl<'a, F: FabricName, G> NodeWorker<'a, F, G> {
 
     // Opens a pair.
     fn open(&mut self) -> Result<(End, End), Refusal>
-        ensures opens { OpensPair F.table.size self.old.cell self.new.cell result }
+        ensures opens { OpensPair F.table self.old.cell self.new.cell result }
         ensures starved { self.new.starved ≡ self.old.starved }
     {
         self.cell.open_pair(self.fabric)

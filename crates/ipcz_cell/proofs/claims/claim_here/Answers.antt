@@ -1,9 +1,9 @@
-use Rattle.std.proofs.Common.{sym, arith}
-use Rattle.ipcz_cell.proofs.Counting.{claim_may}
+use Rattle.std.proofs.Common.{arith}
+use Rattle.ipcz_cell.proofs.NumberClaims.{claim_may}
 use Rattle.ipcz_cell.proofs.claims.claim_here.Goals as goal
 
-pub exchange_step-requires-clause-inside : goal.exchange_step-requires-clause-inside
-exchange_step-requires-clause-inside g c = let words = c.fabric.invariant.5.words in let size = c.fabric.invariant.4 in omega (arith, words, size)
-
-pub exchange_step-requires-clause-may : goal.exchange_step-requires-clause-may
-exchange_step-requires-clause-may g c = claim_may g.F.FabricName.table _ _ c.args.serial c.args.count _ _ c.requires.picked c.requires.whole c.requires.can c.requires.few (sym c.fabric.invariant.4)
+pub claim_step-requires-clause-may : goal.claim_step-requires-clause-may
+claim_step-requires-clause-may g c =
+    let laid = c.fabric.invariant.5 in
+    let few = laid.limits.words in
+    claim_may g.F.FabricName.table _ c.args.count c.args.number c.args.serial _ _ c.requires.picked laid (omega (arith, few)) c.requires.whole c.requires.can c.requires.number c.requires.slot

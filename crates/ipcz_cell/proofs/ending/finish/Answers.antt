@@ -11,7 +11,7 @@ close-requires-clause-all g c =
     let n = g.F.FabricName.table.count in
     let ordered : is_in_order n 0 c.args.cells.items ≡ true =
     ap (λ (l : List CellState). is_in_order n 0 l) (sym c.as_slice.ensures.value) ∙ (sym c.are_all.ensures ∙ c.if-not-are_all.false) in
-    subst (λ (k : ℕ). AreAll k c.join_all-states.result.seat.me.0.parts) (sym c.fabric.invariant.3)
+    subst (λ (k : ℕ). AreAll k c.join_all-states.result.seat.me.0.view.parts) (sym c.fabric.invariant.3)
     (subst (AreAll n) (sym c.join_all-states.ensures.parts) (all_parts n c.args.cells.items ordered))
 
 pub close-requires-clause-states : goal.close-requires-clause-states

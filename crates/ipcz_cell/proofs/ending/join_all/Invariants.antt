@@ -8,7 +8,7 @@ abbrev pub invariant-loop-node : goal.invariant-loop-node
 invariant-loop-node g l = record {
   own : l.seat.table_id ≡ g.F.FabricName.table.id;
   slots : l.seat.me.1 ≡ [];
-  union : IsUnion l.fn.cells.items l.cells.items l.seat.me.0 l.states.items l.hands.items;
+  union : IsUnion l.fn.cells.items l.cells.items l.seat.me.0.view l.states.items l.hands.items;
   left : deque_len l.cells ≡ g.F.FabricName.table.count - l._node;
   states_len : vec_len l.states ≡ l._node;
   states_room : g.F.FabricName.table.count ≤ vec_capacity l.states;

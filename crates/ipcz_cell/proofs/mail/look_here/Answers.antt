@@ -5,4 +5,4 @@ use Rattle.ipcz_cell.proofs.mail.look_here.Goals as goal
 pub exchange_step-requires-clause-may : goal.exchange_step-requires-clause-may
 exchange_step-requires-clause-may g c =
     let t = g.F.FabricName.table in
-    look_may t _ _ _ c.args.node c.args.from _ c.requires.picked c.requires.whole c.requires.node.0 c.requires.from c.requires.idle (sym (c.word_of-word.ensures.word ∙ ap (λ (k : ℕ). t.size + 1 + t.count + k) c.slot_of-slot.ensures.slot))
+    look_may t _ _ _ c.args.node c.args.from _ c.requires.picked c.requires.whole c.requires.node.0 c.requires.from c.requires.idle (sym (c.place_of-place.ensures.word ∙ ap (λ (k : ℕ). t.size + 1 + t.count + k) c.slot_of-slot.ensures.slot))

@@ -1,9 +1,10 @@
-use Rattle.std.proofs.Common.{arith}
+use Rattle.ipcz_router.specs.declared.act.RouterAct.TheVariants as router_acts
+use Rattle.ipcz_cell.proofs.Slotting.{router_slotted}
 use Rattle.ipcz_cell.proofs.Wording.{unlock_may}
 use Rattle.ipcz_cell.proofs.words.unlock_here.Goals as goal
 
-pub keep_step-requires-clause-inside : goal.keep_step-requires-clause-inside
-keep_step-requires-clause-inside g c = let words = c.fabric.invariant.5.words in let inside = c.requires.inside in omega (arith, words, inside)
+pub keep_link-requires-clause-slotted : goal.keep_link-requires-clause-slotted
+keep_link-requires-clause-slotted g c = router_slotted g.F.FabricName.table _ c.args.i c.args.serial c.args.side router_acts.Unlock _ c.requires.whole c.requires.can
 
-pub keep_step-requires-clause-may : goal.keep_step-requires-clause-may
-keep_step-requires-clause-may g c = unlock_may g.F.FabricName.table _ c.args.i c.args.serial _ c.args.side _ _ c.requires.picked c.requires.whole c.requires.can c.requires.inside c.unlock_mask-kept.ensures
+pub keep_link-requires-clause-may : goal.keep_link-requires-clause-may
+keep_link-requires-clause-may g c = unlock_may g.F.FabricName.table _ c.args.i c.args.serial _ c.args.side _ _ c.requires.picked c.requires.whole c.requires.can c.requires.inside c.unlock_mask-kept.ensures

@@ -22,4 +22,4 @@ pub returns : goal.returns
 returns g c =
     let most = c.load_count-count.ensures.most in
     let other = (λ (e : c.load_count-count.result ≡ g.F.FabricName.table.size). c.if-count-from.false (e ∙ sym (c.from.ensures ∙ c.fabric.invariant.4))) in
-    for_open g.F.FabricName.table.size c.load_count-count.result _ _ _ _ (omega (arith, most, other)) c.load_count-count.ensures.reached c.load_count-count.ensures.seen c.claim_at.ensures.claims
+    for_open g.F.FabricName.table c.load_count-count.result _ _ _ _ (omega (arith, most, other)) c.load_count-count.ensures.reached c.load_count-count.ensures.seen c.claim_at.ensures.claims

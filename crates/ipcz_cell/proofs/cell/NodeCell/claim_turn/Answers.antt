@@ -5,7 +5,7 @@ use Rattle.ipcz_cell.proofs.cell.NodeCell.claim_turn.Goals as goal
 pub unreachable-requires : goal.unreachable-requires
 unreachable-requires g c =
     let t = g.F.FabricName.table in
-    let below = claim_below t.size c.args.serial c.in-Ok.count c.args.self.now c.word_claim_for.new.self c.in-Ok.ensures in
+    let below = claim_below t c.args.serial c.in-Ok.count c.args.self.now c.word_claim_for.new.self c.in-Ok.ensures in
     let most = c.fabric.invariant.5.limits.words in
     c.in_default.ensures (omega (arith, below, most))
 

@@ -7,6 +7,7 @@ use Rattle.ipcz_cell.specs.Cells.{IsCell}
 use Rattle.ipcz_cell.proofs.Seating.{number_is, number_inside, own_sound}
 use Rattle.ipcz_cell.proofs.Posting.{handed_cell, hand_first}
 use Rattle.ipcz_cell.proofs.cell.NodeCell.handle_any.Goals as goal
+use Rattle.ipcz_cell.specs.Seats.{mine_of}
 
 pub deliver-requires : goal.deliver-requires
 deliver-requires g c =
@@ -33,16 +34,16 @@ pub hand_here-requires-clause-slot : goal.hand_here-requires-clause-slot
 hand_here-requires-clause-slot g c =
     let was = c.self.invariant in
     let t = g.F.FabricName.table in
-    let node : c.number-node.result ≡ (part_in c.self.inside.seat.me.0).node = c.number-node.ensures ∙ number_is _ _ _ _ was.seated in
-    hand_first t c.self.inside.state.node c.self.inside.state.node c.self.inside.message c.self.inside.probed c.self.inside.seat.table_id c.self.inside.seat.table_id c.self.inside.seat.me was refl c.turn_over.new.seat.me c.args.from _ _
+    let node : c.number-node.result ≡ (part_in c.self.inside.seat.me.0.view).node = c.number-node.ensures ∙ number_is _ _ _ _ was.seated in
+    hand_first t c.self.inside.state.node c.self.inside.state.node c.self.inside.message c.self.inside.probed c.self.inside.seat.table_id c.self.inside.seat.table_id (mine_of c.self.inside.seat.me) was refl (mine_of c.turn_over.new.seat.me) c.args.from _ _
     (ap (λ (z : CellState). z.part.state.hand) c.self.view_is ∙ c.requires.hand) c.len.ensures.length (ap (λ (k : ℕ). c.args.from * t.count + k) node) c.turn_over.ensures.me
 
 pub invariant_of-self : goal.invariant_of-self
 invariant_of-self g c =
     let was = c.self.invariant in
     let t = g.F.FabricName.table in
-    let message : (part_in c.self.inside.seat.me.0).message ≡ Some c.in-Some.message = was.message ∙ (sym c.replace.ensures.value ∙ c.in-Some.is) in
-    let cell = handed_cell t c.self.inside.state.node c.deliver.new.self.node c.self.inside.message c.self.inside.probed c.self.inside.seat.table_id c.hand_here.new.seat.table_id c.self.inside.seat.me was
-    (c.hand_here.ensures.table ∙ c.turn_over.ensures.table) c.turn_over.new.seat.me c.hand_here.new.seat.me c.args.from _ c.args.source c.in-Some.message c.hand_here.ensures.sound
+    let message : (part_in c.self.inside.seat.me.0.view).message ≡ Some c.in-Some.message = was.message ∙ (sym c.replace.ensures.value ∙ c.in-Some.is) in
+    let cell = handed_cell t c.self.inside.state.node c.deliver.new.self.node c.self.inside.message c.self.inside.probed c.self.inside.seat.table_id c.hand_here.new.seat.table_id (mine_of c.self.inside.seat.me) was
+    (c.hand_here.ensures.table ∙ c.turn_over.ensures.table) (mine_of c.turn_over.new.seat.me) (mine_of c.hand_here.new.seat.me) c.args.from _ c.args.source c.in-Some.message c.hand_here.ensures.sound
     (ap (λ (z : CellState). z.part.state.hand) c.self.view_is ∙ c.requires.hand) message c.len.ensures.length c.turn_over.ensures.me c.hand_here.ensures.done c.in-Ok.ensures.ok in
-    subst (λ (o : Option Message). IsCell t c.deliver.new.self.node o c.self.inside.probed c.hand_here.new.seat.table_id c.hand_here.new.seat.me) (sym c.replace.ensures.after) cell
+    subst (λ (o : Option Message). IsCell t c.deliver.new.self.node o c.self.inside.probed c.hand_here.new.seat.table_id (mine_of c.hand_here.new.seat.me)) (sym c.replace.ensures.after) cell

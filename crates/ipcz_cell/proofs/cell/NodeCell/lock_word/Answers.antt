@@ -17,6 +17,7 @@ use Rattle.ipcz_world.specs.WordAnswers.{word_answer}
 use Rattle.ipcz_word.specs.Layout.{word_of_bits}
 use Rattle.ipcz_node.proofs.Growing.{grows_not}
 use Rattle.ipcz_cell.proofs.cell.NodeCell.lock_word.Goals as goal
+use Rattle.ipcz_cell.specs.Seats.{mine_of}
 
 pub word_here-word-requires-clause-grows : goal.word_here-word-requires-clause-grows
 word_here-word-requires-clause-grows g c = grows_not _ c.args.serial router_acts.Lock refl
@@ -40,11 +41,11 @@ invariant_of-self g c =
     let i = c.word_here-word.result.0 in
     let side = c.word_here-word.result.1 in
     let n = c.status_here-found.result in
-    let me = c.self.inside.seat.me in
+    let me = (mine_of c.self.inside.seat.me) in
     let loaded = c.status_here-found.ensures in
     let refused = c.is_refused-refused.ensures in
     let done = status_told n side c.source_of-source.result c.try_lock-plan.result true _ _ c.try_lock-plan.ensures.plan (sym refused ∙ c.if-refused.true) loaded.done.2 in
-    acted_cell t _ _ _ _ me was _ c.status_here-found.new.seat.me loaded.table loaded.sound c.commit_word.new.state.node i c.args.serial n side c.source_of-source.result router_acts.Lock c.answer_act-answered.result.answer done c.answer_act-answered.ensures.answer
+    acted_cell t _ _ _ _ me was _ (mine_of c.status_here-found.new.seat.me) loaded.table loaded.sound c.commit_word.new.state.node i c.args.serial n side c.source_of-source.result router_acts.Lock c.answer_act-answered.result.answer done c.answer_act-answered.ensures.answer
     (c.commit_word.ensures ∙ ap (λ (z : Node). commit z (acts.Router c.args.serial router_acts.Lock) c.answer_act-answered.result.answer) c.word_here-word.ensures.node)
 
 pub returns-then-refused : goal.returns-then-refused
@@ -54,7 +55,7 @@ returns-then-refused g c =
     let i = c.word_here-word.result.0 in
     let side = c.word_here-word.result.1 in
     let n = c.status_here-found.result in
-    let me = c.self.inside.seat.me in
+    let me = (mine_of c.self.inside.seat.me) in
     let loaded = c.status_here-found.ensures in
     let named : word_side c.args.self.now.part.state c.args.serial ≡ Some (i, side) = ap (λ (z : CellState). word_side z.part.state c.args.serial) (sym c.self.view_is) ∙ (ap (λ (z : Node). word_side z c.args.serial) was.seated.state ∙ c.word_here-word.ensures.named) in
     let own : c.source_of-source.result ≡ source_in c.args.self.now.part.state c.args.serial = c.source_of-source.ensures ∙ (ap (λ (z : Node). source_in z c.args.serial) (c.word_here-word.ensures.node ∙ sym was.seated.state) ∙ ap (λ (z : CellState). source_in z.part.state c.args.serial) c.self.view_is) in
@@ -69,7 +70,7 @@ returns-then-refused g c =
       named = named;
       inside = inside;
       is_word = loaded.done.0;
-      tried = refused_tells i n c.args.serial side c.source_of-source.result (source_in c.args.self.now.part.state c.args.serial) c.try_lock-plan.result me c.status_here-found.new.seat.me c.self.inside.state.room c.commit_word.new.state.room c.args.self.now own c.self.view_is c.try_lock-plan.ensures.plan (sym refused ∙ c.if-refused.true) done;
+      tried = refused_tells i n c.args.serial side c.source_of-source.result (source_in c.args.self.now.part.state c.args.serial) c.try_lock-plan.result me (mine_of c.status_here-found.new.seat.me) c.self.inside.state.room c.commit_word.new.state.room c.args.self.now own c.self.view_is c.try_lock-plan.ensures.plan (sym refused ∙ c.if-refused.true) done;
       told = (refl, refl);
     }
 
@@ -80,7 +81,7 @@ lock_here-now-requires-clause-can g c =
     let i = c.word_here-word.result.0 in
     let side = c.word_here-word.result.1 in
     let n = c.status_here-found.result in
-    let me = c.self.inside.seat.me in
+    let me = (mine_of c.self.inside.seat.me) in
     let loaded = c.status_here-found.ensures in
     let free = sym c.is_refused-refused.ensures ∙ c.if-refused.false in
     let seen = status_told n side c.source_of-source.result c.try_lock-plan.result false _ _ c.try_lock-plan.ensures.plan free loaded.done.2 in
@@ -102,14 +103,14 @@ invariant_of-self-then-now-found g c =
     let i = c.word_here-word.result.0 in
     let side = c.word_here-word.result.1 in
     let n = c.status_here-found.result in
-    let me = c.self.inside.seat.me in
+    let me = (mine_of c.self.inside.seat.me) in
     let loaded = c.status_here-found.ensures in
     let free = sym c.is_refused-refused.ensures ∙ c.if-refused.false in
     let seen = status_told n side c.source_of-source.result c.try_lock-plan.result false _ _ c.try_lock-plan.ensures.plan free loaded.done.2 in
     let now = c.lock_here-now.result in
     let miss = told_miss _ n _ _ c.if-now-found.true c.lock_here-now.ensures.done.2 in
     let done = miss ∙ ap (λ (m : Mine). (saw i now m.0, m.1)) seen in
-    raced_cell t _ _ _ _ me was _ c.lock_here-now.new.seat.me (c.lock_here-now.ensures.table ∙ loaded.table) c.lock_here-now.ensures.sound c.word_here-word.new.state.node i n now me.0 done c.word_here-word.ensures.node
+    raced_cell t _ _ _ _ me was _ (mine_of c.lock_here-now.new.seat.me) (c.lock_here-now.ensures.table ∙ loaded.table) c.lock_here-now.ensures.sound c.word_here-word.new.state.node i n now me.0 done c.word_here-word.ensures.node
 
 pub returns-then-now-found : goal.returns-then-now-found
 returns-then-now-found g c =
@@ -118,7 +119,7 @@ returns-then-now-found g c =
     let i = c.word_here-word.result.0 in
     let side = c.word_here-word.result.1 in
     let n = c.status_here-found.result in
-    let me = c.self.inside.seat.me in
+    let me = (mine_of c.self.inside.seat.me) in
     let loaded = c.status_here-found.ensures in
     let named : word_side c.args.self.now.part.state c.args.serial ≡ Some (i, side) = ap (λ (z : CellState). word_side z.part.state c.args.serial) (sym c.self.view_is) ∙ (ap (λ (z : Node). word_side z c.args.serial) was.seated.state ∙ c.word_here-word.ensures.named) in
     let own : c.source_of-source.result ≡ source_in c.args.self.now.part.state c.args.serial = c.source_of-source.ensures ∙ (ap (λ (z : Node). source_in z c.args.serial) (c.word_here-word.ensures.node ∙ sym was.seated.state) ∙ ap (λ (z : CellState). source_in z.part.state c.args.serial) c.self.view_is) in
@@ -136,7 +137,7 @@ returns-then-now-found g c =
       named = named;
       inside = inside;
       is_word = loaded.done.0;
-      tried = raced_tells i n now c.args.serial side c.source_of-source.result (source_in c.args.self.now.part.state c.args.serial) me c.lock_here-now.new.seat.me c.self.inside.state.room c.word_here-word.new.state.room c.args.self.now own c.self.view_is c.if-now-found.true done;
+      tried = raced_tells i n now c.args.serial side c.source_of-source.result (source_in c.args.self.now.part.state c.args.serial) me (mine_of c.lock_here-now.new.seat.me) c.self.inside.state.room c.word_here-word.new.state.room c.args.self.now own c.self.view_is c.if-now-found.true done;
       told = tt;
     }
 
@@ -150,7 +151,7 @@ invariant_of-self-2 g c =
     let i = c.word_here-word.result.0 in
     let side = c.word_here-word.result.1 in
     let n = c.status_here-found.result in
-    let me = c.self.inside.seat.me in
+    let me = (mine_of c.self.inside.seat.me) in
     let loaded = c.status_here-found.ensures in
     let free = sym c.is_refused-refused.ensures ∙ c.if-refused.false in
     let seen = status_told n side c.source_of-source.result c.try_lock-plan.result false _ _ c.try_lock-plan.ensures.plan free loaded.done.2 in
@@ -158,7 +159,7 @@ invariant_of-self-2 g c =
     let hit = told_hit _ n _ _ c.if-now-found.false c.lock_here-now.ensures.done.2 in
     let done = hit ∙ ap (λ (m : Mine). (act_view i c.args.serial side c.source_of-source.result router_acts.Lock now m.0, m.1)) seen in
     let word = subst (λ (k : ℕ). c.answer_act-answered.result.answer ≡ word_answer (word_of_bits k) side c.source_of-source.result router_acts.Lock) (sym c.if-now-found.false) c.answer_act-answered.ensures.answer in
-    tried_cell t _ _ _ _ me was _ c.lock_here-now.new.seat.me (c.lock_here-now.ensures.table ∙ loaded.table) c.lock_here-now.ensures.sound c.commit_word-2.new.state.node i c.args.serial n now side c.source_of-source.result router_acts.Lock c.answer_act-answered.result.answer done word
+    tried_cell t _ _ _ _ me was _ (mine_of c.lock_here-now.new.seat.me) (c.lock_here-now.ensures.table ∙ loaded.table) c.lock_here-now.ensures.sound c.commit_word-2.new.state.node i c.args.serial n now side c.source_of-source.result router_acts.Lock c.answer_act-answered.result.answer done word
     (c.commit_word-2.ensures ∙ ap (λ (z : Node). commit z (acts.Router c.args.serial router_acts.Lock) c.answer_act-answered.result.answer) c.word_here-word.ensures.node)
 
 pub returns : goal.returns
@@ -168,7 +169,7 @@ returns g c =
     let i = c.word_here-word.result.0 in
     let side = c.word_here-word.result.1 in
     let n = c.status_here-found.result in
-    let me = c.self.inside.seat.me in
+    let me = (mine_of c.self.inside.seat.me) in
     let loaded = c.status_here-found.ensures in
     let named : word_side c.args.self.now.part.state c.args.serial ≡ Some (i, side) = ap (λ (z : CellState). word_side z.part.state c.args.serial) (sym c.self.view_is) ∙ (ap (λ (z : Node). word_side z c.args.serial) was.seated.state ∙ c.word_here-word.ensures.named) in
     let own : c.source_of-source.result ≡ source_in c.args.self.now.part.state c.args.serial = c.source_of-source.ensures ∙ (ap (λ (z : Node). source_in z c.args.serial) (c.word_here-word.ensures.node ∙ sym was.seated.state) ∙ ap (λ (z : CellState). source_in z.part.state c.args.serial) c.self.view_is) in
@@ -186,7 +187,7 @@ returns g c =
       named = named;
       inside = inside;
       is_word = loaded.done.0;
-      tried = tried_tells i n now c.args.serial side c.source_of-source.result (source_in c.args.self.now.part.state c.args.serial) c.try_lock-plan.result me c.lock_here-now.new.seat.me c.self.inside.state.room c.commit_word-2.new.state.room c.args.self.now own c.self.view_is c.try_lock-plan.ensures.plan free c.if-now-found.false done;
+      tried = tried_tells i n now c.args.serial side c.source_of-source.result (source_in c.args.self.now.part.state c.args.serial) c.try_lock-plan.result me (mine_of c.lock_here-now.new.seat.me) c.self.inside.state.room c.commit_word-2.new.state.room c.args.self.now own c.self.view_is c.try_lock-plan.ensures.plan free c.if-now-found.false done;
       told = (refl, refl);
     }
 

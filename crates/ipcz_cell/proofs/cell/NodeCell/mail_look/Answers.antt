@@ -7,6 +7,7 @@ use Rattle.ipcz_cell.proofs.Seating.{number_is, number_inside}
 use Rattle.ipcz_cell.proofs.Mailing.{told_hit, told_miss, load_tells, look_tells}
 use Rattle.ipcz_cell.proofs.Posting.{looked_cell}
 use Rattle.ipcz_cell.proofs.cell.NodeCell.mail_look.Goals as goal
+use Rattle.ipcz_cell.specs.Seats.{mine_of}
 
 pub look_here-found-requires-clause-node : goal.look_here-found-requires-clause-node
 look_here-found-requires-clause-node g c =
@@ -35,11 +36,11 @@ invariant_of-self-2 g c =
     let done = c.look_here-found.ensures in
     let hit = told_hit _ 1 _ _ c.if-found-ne1.false done.done in
     let swapped = c.exchange.ensures in
-    let node : c.number-node.result ≡ (part_in c.self.inside.seat.me.0).node = c.number-node.ensures ∙ number_is _ _ _ _ was.seated in
+    let node : c.number-node.result ≡ (part_in c.self.inside.seat.me.0.view).node = c.number-node.ensures ∙ number_is _ _ _ _ was.seated in
     let idle = ap (λ (z : CellState). z.part.state.hand) c.self.view_is ∙ c.requires.idle in
-    looked_cell t c.self.inside.state.node c.look.new.self.node c.self.inside.message c.self.inside.probed c.self.inside.seat.table_id c.turn_over.new.seat.table_id c.self.inside.seat.me was
-    (c.turn_over.ensures.table ∙ (swapped.0 ∙ done.table)) c.look_here-found.new.seat.me c.exchange.new.seat.me c.turn_over.new.seat.me c.args.from _ _ _ c.slot_of-slot.result hit.0 c.exchange.result done.sound
-    (c.slot_of-slot.ensures.slot ∙ ap (λ (k : ℕ). c.args.from * t.count + k) node) idle hit.1 swapped.2 swapped.3 c.turn_over.ensures.me c.look.ensures
+    looked_cell t c.self.inside.state.node c.look.new.self.node c.self.inside.message c.self.inside.probed c.self.inside.seat.table_id c.turn_over.new.seat.table_id (mine_of c.self.inside.seat.me) was
+    (c.turn_over.ensures.table ∙ (swapped.0 ∙ done.table)) (mine_of c.look_here-found.new.seat.me) (mine_of c.exchange.new.seat.me) (mine_of c.turn_over.new.seat.me) c.args.from _ _ _ c.slot_of-slot.result hit.0 c.exchange.result done.sound
+    (c.slot_of-slot.ensures.slot ∙ ap (λ (k : ℕ). c.args.from * t.count + k) node) idle hit.1 swapped.2 (ap mine_of swapped.3) c.turn_over.ensures.me c.look.ensures
 
 pub returns : goal.returns
 returns g c =
@@ -47,8 +48,8 @@ returns g c =
     let t = g.F.FabricName.table in
     let hit = told_hit _ 1 _ _ c.if-found-ne1.false c.look_here-found.ensures.done in
     let node : c.number-node.result ≡ c.args.self.now.part.node = c.number-node.ensures ∙ (number_is _ _ _ _ was.seated ∙ ap (λ (z : CellState). z.part.node) c.self.view_is) in
-    look_tells _ (mail_word t c.args.from c.number-node.result) _ c.args.from _ hit.0 c.self.inside.seat.me c.look_here-found.new.seat.me c.turn_over.new.seat.me c.self.inside.state.room c.look.new.self.room _ c.self.view_is
-    c.if-found-ne1.false (ap (λ (n : ℕ). mail_word t c.args.from n) node) hit.1 (ap (λ (m : Mine). m.0) c.turn_over.ensures.me ∙ ap (λ (m : Mine). m.0) c.exchange.ensures.3)
+    look_tells _ (mail_word t c.args.from c.number-node.result) _ c.args.from _ hit.0 (mine_of c.self.inside.seat.me) (mine_of c.look_here-found.new.seat.me) (mine_of c.turn_over.new.seat.me) c.self.inside.state.room c.look.new.self.room _ c.self.view_is
+    c.if-found-ne1.false (ap (λ (n : ℕ). mail_word t c.args.from n) node) hit.1 (ap (λ (m : Mine). m.0) c.turn_over.ensures.me ∙ ap (λ (m : Mine). m.0) (ap mine_of c.exchange.ensures.3))
 
 pub returns-then-found-ne1 : goal.returns-then-found-ne1
 returns-then-found-ne1 g c =
@@ -56,4 +57,4 @@ returns-then-found-ne1 g c =
     let t = g.F.FabricName.table in
     let node : c.number-node.result ≡ c.args.self.now.part.node = c.number-node.ensures ∙ (number_is _ _ _ _ was.seated ∙ ap (λ (z : CellState). z.part.node) c.self.view_is) in
     let miss = told_miss _ 1 _ _ c.if-found-ne1.true c.look_here-found.ensures.done in
-    (c.look_here-found.result, c.if-found-ne1.true, load_tells _ (mail_word t c.args.from c.number-node.result) _ c.self.inside.seat.me c.look_here-found.new.seat.me c.self.inside.state.room c.self.inside.state.room _ c.self.view_is refl (ap (λ (n : ℕ). mail_word t c.args.from n) node) miss)
+    (c.look_here-found.result, c.if-found-ne1.true, load_tells _ (mail_word t c.args.from c.number-node.result) _ (mine_of c.self.inside.seat.me) (mine_of c.look_here-found.new.seat.me) c.self.inside.state.room c.self.inside.state.room _ c.self.view_is refl (ap (λ (n : ℕ). mail_word t c.args.from n) node) miss)

@@ -14,6 +14,7 @@ use Rattle.ipcz_cell.proofs.Seating.{own_sound}
 use Rattle.ipcz_cell.proofs.Wording.{mark_answers, acted_cell}
 use Rattle.ipcz_node.proofs.Growing.{grows_not}
 use Rattle.ipcz_cell.proofs.cell.NodeCell.word_mark.Goals as goal
+use Rattle.ipcz_cell.specs.Seats.{mine_of}
 
 pub word_here-i-requires-clause-grows : goal.word_here-i-requires-clause-grows
 word_here-i-requires-clause-grows g c = grows_not _ c.args.serial router_acts.Mark refl
@@ -34,7 +35,7 @@ pub invariant_of-self : goal.invariant_of-self
 invariant_of-self g c =
     let was = c.self.invariant in
     let done = c.mark_here-found.ensures in
-    acted_cell g.F.FabricName.table _ _ _ _ c.self.inside.seat.me was _ c.mark_here-found.new.seat.me done.table done.sound c.commit_word.new.state.node c.word_here-i.result.0 c.args.serial c.mark_here-found.result c.word_here-i.result.1 None router_acts.Mark c.answer_act-answered.result.answer done.done.2 c.answer_act-answered.ensures.answer
+    acted_cell g.F.FabricName.table _ _ _ _ (mine_of c.self.inside.seat.me) was _ (mine_of c.mark_here-found.new.seat.me) done.table done.sound c.commit_word.new.state.node c.word_here-i.result.0 c.args.serial c.mark_here-found.result c.word_here-i.result.1 None router_acts.Mark c.answer_act-answered.result.answer done.done.2 c.answer_act-answered.ensures.answer
     (c.commit_word.ensures ∙ ap (λ (z : Node). commit z (acts.Router c.args.serial router_acts.Mark) c.answer_act-answered.result.answer) c.word_here-i.ensures.node)
 
 pub returns : goal.returns

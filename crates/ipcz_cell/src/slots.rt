@@ -1,0 +1,173 @@
+//! The slots of a table's link words: taken, emptied and given back.
+ghost use Rattle.std.specs.Prelude.{◌≡◌, ◌<◌, ◌⊎◌, true, false, IfSome, is_some};
+ghost use Rattle.ipcz_slots.specs.Slots.{has_number, let_go_word};
+ghost use Rattle.ipcz_rule.specs.Rule.{Mine};
+ghost use Rattle.ipcz_cell.specs.Claims.{IsNumberAt, HasFreeSlot};
+ghost use Rattle.ipcz_cell.specs.Seats.{mine_of, sizes_of};
+
+use crate::fabric::{Fabric, FabricName};
+use crate::making::BOTH_SIDES;
+use crate::seat::TableSeat;
+use atomic_table::Play;
+use ipcz_base::Message;
+use ipcz_rule::View;
+use ipcz_slots::{Own, next_number, slot_of};
+use std::marker::PhantomData;
+
+// A step that takes a slot which both sides have let go, if it finds it so.
+struct Takes<F> {
+    of: PhantomData<F>,
+}
+
+impl<F: FabricName> Play<Option<Message>, Own<View>> for Takes<F> {
+    ghost use Rattle.ipcz_cell.specs.Seats.{Taken};
+
+    ghost then = { λ st m n m'. Taken F.table st.word m n m' };
+}
+
+// A step that empties the word of a slot that was taken.
+struct Empties<F> {
+    of: PhantomData<F>,
+}
+
+impl<F: FabricName> Play<Option<Message>, Own<View>> for Empties<F> {
+    ghost use Rattle.ipcz_cell.specs.Seats.{Emptied};
+
+    ghost then = { λ st m n m'. Emptied st.word m m' };
+}
+
+// A step that gives a slot back.
+struct Returns<F> {
+    of: PhantomData<F>,
+}
+
+impl<F: FabricName> Play<Option<Message>, Own<View>> for Returns<F> {
+    ghost use Rattle.ipcz_cell.specs.Seats.{SameBut};
+
+    ghost then = { λ st m n m'. SameBut m m' };
+}
+
+// How far behind the words of the links, of the counts and of the mailboxes that of a slot's let-go bits is.
+fn let_go_word<F: FabricName>(fabric: &Fabric<F>, slot: u32) -> usize
+    requires { slot < F.table.slots }
+    ensures word { result ≡ let_go_word (sizes_of F.table) slot }
+    ensures inside { result < F.table.id.words }
+{
+    let nodes = fabric.nodes as usize;
+    fabric.slots as usize + (1 + nodes + nodes * nodes) + slot as usize
+}
+
+// Takes a slot that both sides have let go, and tells whether it was one.
+fn take_step<F: FabricName>(seat: &mut TableSeat, fabric: &Fabric<F>, slot: u32) -> bool
+    requires own { seat.old.table_id ≡ F.table.id }
+    requires reuses { F.table.reuses ≡ true }
+    requires inside { slot < F.table.slots }
+    ensures table { (seat.new.table_id ≡ seat.old.table_id) × (seat.new.id ≡ seat.old.id) }
+    ensures me { ◌≡◌ {A = Mine} (mine_of seat.new.me) (mine_of seat.old.me) }
+    ensures taken { result ≡ true → has_number seat.new.me.0.dirty slot ≡ true }
+{
+    let word = let_go_word(fabric, slot);
+    let found = fabric
+        .table
+        .shared
+        .compare_exchange::<Takes<F>>(seat, word, BOTH_SIDES, 0);
+    found == BOTH_SIDES
+}
+
+// Empties the word of a slot that was taken.
+fn empty_step<F: FabricName>(seat: &mut TableSeat, fabric: &Fabric<F>, slot: u32)
+    requires own { seat.old.table_id ≡ F.table.id }
+    requires reuses { F.table.reuses ≡ true }
+    requires inside { slot < F.table.slots }
+    requires taken { has_number seat.old.me.0.dirty slot ≡ true }
+    ensures table { (seat.new.table_id ≡ seat.old.table_id) × (seat.new.id ≡ seat.old.id) }
+    ensures me { ◌≡◌ {A = Mine} (mine_of seat.new.me) (mine_of seat.old.me) }
+    ensures free { has_number seat.new.me.0.free slot ≡ true }
+{
+    let _slots = fabric.slots;
+    fabric
+        .table
+        .shared
+        .store::<Empties<F>>(seat, slot as usize, 0);
+}
+
+// Gives a slot back that is the seat's, to whoever wants it.
+pub(crate) fn return_step<F: FabricName>(seat: &mut TableSeat, fabric: &Fabric<F>, slot: u32)
+    requires own { seat.old.table_id ≡ F.table.id }
+    requires reuses { F.table.reuses ≡ true }
+    requires inside { slot < F.table.slots }
+    requires had { (has_number seat.old.me.0.dirty slot ≡ true) ⊎ (has_number seat.old.me.0.free slot ≡ true) }
+    ensures table { (seat.new.table_id ≡ seat.old.table_id) × (seat.new.id ≡ seat.old.id) }
+    ensures me { ◌≡◌ {A = Mine} (mine_of seat.new.me) (mine_of seat.old.me) }
+{
+    let word = let_go_word(fabric, slot);
+    fabric
+        .table
+        .shared
+        .store::<Returns<F>>(seat, word, BOTH_SIDES);
+}
+
+// A slot that both sides have let go, looked for from one on; it is emptied, and the seat's.
+fn find_slot<F: FabricName>(seat: &mut TableSeat, fabric: &Fabric<F>, first: u32) -> Option<u32>
+    requires own { seat.old.table_id ≡ F.table.id }
+    requires reuses { F.table.reuses ≡ true }
+    requires inside { first < F.table.slots }
+    ensures table { (seat.new.table_id ≡ seat.old.table_id) × (seat.new.id ≡ seat.old.id) }
+    ensures me { ◌≡◌ {A = Mine} (mine_of seat.new.me) (mine_of seat.old.me) }
+    ensures free { IfSome result (λ slot. (slot < F.table.slots) × (has_number seat.new.me.0.free slot ≡ true)) }
+{
+    let mut slot = first;
+    for _tried in 0..fabric.slots {
+        if take_step(seat, fabric, slot) {
+            empty_step(seat, fabric, slot);
+            return Some(slot);
+        }
+        slot = if slot + 1 < fabric.slots { slot + 1 } else { 0 };
+    }
+    None
+}
+
+/// The number that a claim is for at a claim count; if slots are used again its slot is the seat's then. There is none if no slot is to be had.
+pub(crate) fn number_at<F: FabricName>(
+    seat: &mut TableSeat,
+    fabric: &Fabric<F>,
+    count: u64,
+) -> Option<u32>
+    requires own { seat.old.table_id ≡ F.table.id }
+    requires few { count < F.table.size }
+    ensures table { (seat.new.table_id ≡ seat.old.table_id) × (seat.new.id ≡ seat.old.id) }
+    ensures me { ◌≡◌ {A = Mine} (mine_of seat.new.me) (mine_of seat.old.me) }
+    ensures number { IfSome result (λ n. IsNumberAt F.table count n × HasFreeSlot F.table seat.new.me.0.free n) }
+    ensures order { F.table.reuses ≡ false → is_some result ≡ true }
+{
+    if !fabric.reuses {
+        let Ok(number) = u32::try_from(count) else {
+            unreachable!()
+        };
+        return Some(number);
+    }
+    let slots = u64::from(fabric.slots);
+    let slot = find_slot(seat, fabric, slot_of(count, slots) as u32)?;
+    let Some(number) = next_number(count, u64::from(slot), slots, u64::from(fabric.words)) else {
+        return_step(seat, fabric, slot);
+        return None;
+    };
+    let Ok(number) = u32::try_from(number) else {
+        unreachable!()
+    };
+    Some(number)
+}
+
+/// Gives the slot of a number back that was to be claimed.
+pub(crate) fn leave_slot<F: FabricName>(seat: &mut TableSeat, fabric: &Fabric<F>, number: u32)
+    requires own { seat.old.table_id ≡ F.table.id }
+    requires below { number < F.table.size }
+    requires slot { HasFreeSlot F.table seat.old.me.0.free number }
+    ensures table { (seat.new.table_id ≡ seat.old.table_id) × (seat.new.id ≡ seat.old.id) }
+    ensures me { ◌≡◌ {A = Mine} (mine_of seat.new.me) (mine_of seat.old.me) }
+{
+    if fabric.reuses {
+        let slot = slot_of(u64::from(number), u64::from(fabric.slots));
+        return_step(seat, fabric, slot as u32);
+    }
+}
