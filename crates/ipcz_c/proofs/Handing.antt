@@ -1,5 +1,5 @@
 -- The cells of a new table: how many they are, and what a create makes of naming the table.
-use Rattle.std.proofs.Common.{◌≡◌, ℕ, List, [], map, length, ap, sym, subst, ◌∙◌, inl, inr}
+use Rattle.std.proofs.Common.{◌≡◌, ℕ, Bool, false, List, [], map, length, ap, sym, subst, ◌∙◌, inl, inr}
 use Rattle.std.specs.Prelude.{Result, Ok, Err, OnOk, OnErr, IfErr}
 use Rattle.std.proofs.lemmas.List.{length-map, length-replicate}
 use Rattle.ipcz_base.specs.declared.refusal.Refusal.{Refusal}
@@ -17,8 +17,9 @@ as_many f xs ys is = sym (length-map xs f) ∙ ap length is
 pub many_first : (count : ℕ) (cells : List CellState) → AreFirst count count cells → length cells ≡ count
 many_first count cells are = as_many (λ (c : CellState). c.seen) cells _ are.seen ∙ length-replicate count []
 
-pub made_of : (answer : Result (Unit {0}) Refusal) (status size words : ℕ) (old new : List CellHandle) → status ≡ outcome_of answer → size ≡ words →
-    OnOk answer (AreMade size new) → IfErr answer (λ e. e ≡ OutOfMemory) → OnErr answer (new ≡ old) → CellsAreMade words old status new
+pub made_of : (answer : Result (Unit {0}) Refusal) (status size words : ℕ) (reuses : Bool) (old new : List CellHandle) → status ≡ outcome_of answer → size ≡ words →
+    reuses ≡ false → OnOk answer (AreMade size reuses new) → IfErr answer (λ e. e ≡ OutOfMemory) → OnErr answer (new ≡ old) → CellsAreMade words old status new
 unfolding outcome_of
-made_of (Ok u) status size words old new is same made why back = inl (is, subst (λ (w : ℕ). AreMade w new) same made)
-made_of (Err e) status size words old new is same made why back = inr (is ∙ ap code_of why, back)
+made_of (Ok u) status size words reuses old new is same whole made why back =
+    inl (is, subst (λ (b : Bool). AreMade words b new) whole (subst (λ (w : ℕ). AreMade w reuses new) same made))
+made_of (Err e) status size words reuses old new is same whole made why back = inr (is ∙ ap code_of why, back)

@@ -91,16 +91,17 @@ holds_each t cells = map (λ (c : CellState). Some (record { table = t; cell = c
 abbrev pub AreHeld : TableName → List CellState → List CellHandle → Type 0
 AreHeld t cells handles = cells_of handles ≡ holds_each t cells
 
--- the handles have the cells of a new table of so many words, one for each node
-pub record AreMade (words : ℕ) (handles : List CellHandle) : Type 0 where
+-- the handles have the cells of a new table of so many words, which come back or not, one for each node
+pub record AreMade (words : ℕ) (reuses : Bool) (handles : List CellHandle) : Type 0 where
   pub table : TableName
   pub cells : List CellState
   pub count : table.count ≡ length handles
   pub size : table.size ≡ words
+  pub reused : table.reuses ≡ reuses
   pub first : AreFirst table.count table.count cells
   pub held : AreHeld table cells handles
 
 -- a create within the limits, on handles that have no cell: a new table, or no memory was found
 abbrev pub CellsAreMade : ℕ → List CellHandle → ℕ → List CellHandle → Type 0
 CellsAreMade words old status new =
-    ((status ≡ 0) × AreMade words new) ⊎ ((status ≡ code_of OutOfMemory) × (new ≡ old))
+    ((status ≡ 0) × AreMade words false new) ⊎ ((status ≡ code_of OutOfMemory) × (new ≡ old))
