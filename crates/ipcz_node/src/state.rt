@@ -1,5 +1,5 @@
 ghost use Rattle.std.specs.Prelude.{◌≡◌, ◌≤◌, ◌-◌, Some, None, true, map, vec_len};
-ghost use Rattle.std.specs.Prelude.{vec_capacity, IfSome, IfNone, IsSomeAnd};
+ghost use Rattle.std.specs.Prelude.{vec_capacity, option_copied, option_map, IfSome, IfNone, IsSomeAnd};
 ghost use Rattle.std.specs.FinMap.{len};
 ghost use Rattle.ipcz_base.specs.Limits.{no_number};
 ghost use Rattle.ipcz_router.specs.Router.{IsOpenTerminal, router_has};
@@ -122,6 +122,14 @@ impl NodeState {
         ensures rising { AreRising 0 self.now.node.next_router result.now }
     {
         self.routers.entries()
+    }
+
+    /// The router of a serial, to read.
+    #[inline(always)]
+    pub fn find_router(&self, serial: u64) -> Option<&Router>
+        ensures { option_map (λ r. r.router) (option_copied result) ≡ router_in self.now.node serial }
+    {
+        self.routers.router(serial)
     }
 
     /// How many routers it has.

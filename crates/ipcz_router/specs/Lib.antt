@@ -6,6 +6,7 @@ pub mod Calls
 pub mod Carrying
 pub mod Closing
 pub mod Hearing
+pub mod LettingGo
 pub mod Lone
 pub mod Numbers
 pub mod RoomyRouters

@@ -13,6 +13,7 @@ mod bypass;
 mod calls;
 mod carrying;
 mod hearing;
+mod letting;
 mod outlook;
 mod passing;
 mod turns;

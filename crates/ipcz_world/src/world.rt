@@ -210,7 +210,7 @@ impl World {
 
     /// How many acts are enough to settle, if no parcel that wasn't got carries portals; none if this is no number of 64 bits. It is read
     /// off the world: 6 for each number that has still to pass a router, 17 for each terminal and 61 for each proxy, 38 for each message
-    /// under way, and 3 for each close that is pending. For each end of a router's pair two numbers are counted in addition to those that
+    /// that waits to be posted and 37 for each in a mailbox, and 3 for each close that is pending. For each end of a router's pair two numbers are counted in addition to those that
     /// were put: its mark's and Gone's.
     ///
     /// A settle with this limit, or a higher one, is settled or refused, unless begins or retires found no memory: each of those takes
