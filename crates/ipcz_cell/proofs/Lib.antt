@@ -25,5 +25,7 @@ pub mod TurnParts
 pub mod TurnChains
 pub mod OpenSteps
 pub mod Slotting
+pub mod GivenUps
+pub mod Lettings
 pub mod Unfolding
 pub mod NumberClaims

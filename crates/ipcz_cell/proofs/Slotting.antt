@@ -1,5 +1,5 @@
 -- A step on the table that is folded, as one on the table with slots.
-use Rattle.std.specs.Prelude.{◌≡◌, ◌<◌, ◌⊎◌, ◌+◌, ◌*◌, ◌%◌, ℕ, Bool, true, false, [], ◌∷◌, Some, MatchBool, eqb, slice_index, refl}
+use Rattle.std.specs.Prelude.{◌≡◌, ◌<◌, ◌⊎◌, ◌+◌, ◌*◌, ◌%◌, ℕ, Bool, true, false, [], ◌∷◌, Some, MatchBool, eqb, List, slice_index, refl}
 use prog.Atomic.{either}
 use mathlib.Core.Option.{some}
 use lib.ListN.{get_elem?}
@@ -133,16 +133,26 @@ return_may n w k r slots word t id m p en ew ek er es at again low had =
     let h = (reusing t.slots m.0.dirty m.0.free (omega (arith, low)) t.count t.size t.id.slots id p (mine_of m)).2 had s l deep there small in
     (h.0, h.1, h.2, h.3.0, (ap (λ (q : Me Slot (Own View)). q.0.view) h.4, ap (λ (q : Me Slot (Own View)). q.1) h.4)))))
 
--- a claim tells that its nodes are sound
-pub counts_may : (n w k : ℕ) (r : Bool) (slots word : ℕ) (t : TableName) (id : ℕ) (m : Me Slot (Own View)) (f : ℕ → ℕ) (told Kept : ℕ → Me Slot (Own View) → Type 0) →
-    n ≡ t.count → w ≡ t.size → k ≡ t.slots → r ≡ t.reuses → slots ≡ t.id.slots → word ≡ t.slots + 0 →
-    Allows (LastingRules t.count t.size t.slots t.reuses) t.id.slots id m (t.slots + 0) f (λ j m'. told j m' × Kept j m') →
+-- a step on the word z tells that the seat's nodes are sound
+pub seat_may : (n w k : ℕ) (r : Bool) (slots word z : ℕ) (t : TableName) (id : ℕ) (m : Me Slot (Own View)) (f : ℕ → ℕ) (told Kept : ℕ → Me Slot (Own View) → Type 0) →
+    n ≡ t.count → w ≡ t.size → k ≡ t.slots → r ≡ t.reuses → slots ≡ t.id.slots → word ≡ z →
+    Allows (LastingRules t.count t.size t.slots t.reuses) t.id.slots id m z f (λ j m'. told j m' × Kept j m') →
     Allows (LastingRules n w k r) slots id m word f (λ j m'. told j m' × AreSound t.count t.size m'.0.view × Kept j m')
-counts_may n w k r slots word t id m f told Kept en ew ek er es at may =
+seat_may n w k r slots word z t id m f told Kept en ew ek er es at may =
     at_own n w k r slots t id m word f (λ j m'. told j m' × AreSound t.count t.size m'.0.view × Kept j m') en ew ek er es
-    (subst (λ (z : ℕ). Allows (LastingRules t.count t.size t.slots t.reuses) t.id.slots id m z f (λ j m'. told j m' × AreSound t.count t.size m'.0.view × Kept j m')) (sym at)
+    (subst (λ (y : ℕ). Allows (LastingRules t.count t.size t.slots t.reuses) t.id.slots id m y f (λ j m'. told j m' × AreSound t.count t.size m'.0.view × Kept j m')) (sym at)
     (λ s l deep there small.
     let h = may s l deep there small in
-    let s' : State Slot (Own View) = stepped s (t.slots + 0) (f (slice_index s.words (t.slots + 0))) id m.1 h.0 h.1 in
+    let s' : State Slot (Own View) = stepped s z (f (slice_index s.words z)) id m.1 h.0 h.1 in
     let here : get_elem? s'.views id ≡ some h.0 = set_here s.views id h.0 (at_inside s.views id m.0 there) in
     (h.0, h.1, h.2, h.3, (h.4.0, sound_at t.count t.size h.3.0 h.3.1 id h.0.view (view_at (virtual t.count t.size) (sizes_of t) s' h.3.0 h.3.1 h.3.2 id h.0 here), h.4.1))))
+
+-- a step on the word z that leaves the seat's slots
+pub slots_stay : (n w k : ℕ) (r : Bool) (slots word z : ℕ) (t : TableName) (id : ℕ) (m : Me Slot (Own View)) (f : ℕ → ℕ) (told : ℕ → Mine → Type 0) →
+    n ≡ t.count → w ≡ t.size → k ≡ t.slots → r ≡ t.reuses → slots ≡ t.id.slots → word ≡ z →
+    Allows (LastingRules t.count t.size t.slots t.reuses) t.id.slots id m z f (λ j m'. told j (mine_of m') × (m'.0.dirty ≡ m.0.dirty) × (m'.0.free ≡ m.0.free)) →
+    Allows (LastingRules n w k r) slots id m word f (Told t told m)
+slots_stay n w k r slots word z t id m f told en ew ek er es at may s l deep there small =
+    let h = seat_may n w k r slots word z t id m f (λ j m'. told j (mine_of m')) (λ j m'. (◌≡◌ {A = List ℕ} m'.0.dirty m.0.dirty) × (◌≡◌ {A = List ℕ} m'.0.free m.0.free)) en ew ek er es at
+    (λ s l deep there small. let q = may s l deep there small in (q.0, q.1, q.2, q.3, (q.4.0, (q.4.1, q.4.2)))) s l deep there small in
+    (h.0, h.1, h.2, h.3, (h.4.0, h.4.1, h.4.2.0, h.4.2.1))

@@ -1,5 +1,7 @@
 pub mod Races
 pub mod Seats
+pub mod Lettings
+pub mod GivenUp
 pub mod TableNames
 pub mod CellStates
 pub mod Cells

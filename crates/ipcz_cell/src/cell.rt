@@ -16,6 +16,7 @@ ghost use Rattle.ipcz_cell.specs.Claims.{CanClaim};
 ghost use Rattle.ipcz_cell.specs.Outcomes.{IsPicked, touched};
 
 use crate::fabric::{Fabric, FabricName};
+use crate::letting::{act_step, given_up};
 use crate::plays::{Outcome, load_step};
 use crate::probed::Probed;
 use crate::seat::TableSeat;
@@ -52,8 +53,12 @@ impl<F: FabricName> Model for NodeCell<F> {
     ghost invariant = { λ c. IsCell F.table c.state.node c.message c.probed c.seat.table_id (mine_of c.seat.me) };
 }
 
-// A step on the node's touch word.
-fn touch<F: FabricName, X: Outcome>(seat: &mut TableSeat, fabric: &Fabric<F>, node: u8) -> u64
+/// A step on the node's touch word.
+pub(crate) fn touch<F: FabricName, X: Outcome>(
+    seat: &mut TableSeat,
+    fabric: &Fabric<F>,
+    node: u8,
+) -> u64
     requires own { seat.old.table_id ≡ F.table.id }
     requires node { node < F.table.count }
     requires may { Keeps F.table.count F.table.size F.table.id.slots seat.old.id (mine_of seat.old.me) (F.table.size + 1 + node) (λ n. n)
@@ -156,7 +161,7 @@ fn close_here<F: FabricName, X: Outcome>(
     Ok(n)
 }
 
-// An act that touches no word, as a step on the touch word. X is what it tells.
+// An act that touches no word, as a step on the touch word, or on the let-go word of what it gives up. X is what it tells.
 fn act_here<F: FabricName, X: Outcome>(
     state: &mut NodeState,
     seat: &mut TableSeat,
@@ -174,13 +179,14 @@ fn act_here<F: FabricName, X: Outcome>(
     ensures done { (mine_of seat.new.me) ≡ (change_part (act_part act Answer.Plain) seat.old.me.0.view, seat.old.me.1) }
 {
     let node = state.number();
+    let given = given_up(state, fabric, act);
     let (event, _) = state.commit(act, Answer::Plain);
-    touch::<F, X>(seat, fabric, node);
+    act_step::<F, X>(seat, fabric, node, act, given);
     event
 }
 
-// An act of a router that touches no word, made ready and done, as a step on the touch word. X is what the step tells, and T says whether
-// what happened is told.
+// An act of a router that touches no word, made ready and done, as such a step. X is what the step tells, and T says whether what happened
+// is told.
 fn plain_here<F: FabricName, X: Outcome, T: Told>(
     state: &mut NodeState,
     seat: &mut TableSeat,
@@ -202,9 +208,10 @@ fn plain_here<F: FabricName, X: Outcome, T: Told>(
     ensures err { OnErr result ((state.new.node ≡ state.old.node) × ((mine_of seat.new.me) ≡ (mine_of seat.old.me))) }
 {
     let node = state.number();
+    let given = given_up(state, fabric, Act::Router(serial, act));
     let done = state.act_plainly(serial, act);
     if done.is_ok() {
-        touch::<F, X>(seat, fabric, node);
+        act_step::<F, X>(seat, fabric, node, Act::Router(serial, act), given);
     }
     done
 }

@@ -10,6 +10,7 @@ mod ending;
 mod fabric;
 mod holds;
 pub mod laws;
+mod letting;
 mod mail;
 mod making;
 mod opens;

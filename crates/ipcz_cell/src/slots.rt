@@ -1,5 +1,5 @@
 //! The slots of a table's link words: taken, emptied and given back.
-ghost use Rattle.std.specs.Prelude.{◌≡◌, ◌<◌, ◌⊎◌, true, false, IfSome, is_some};
+ghost use Rattle.std.specs.Prelude.{◌≡◌, ◌<◌, ◌%◌, ◌⊎◌, true, false, IfSome, is_some};
 ghost use Rattle.ipcz_slots.specs.Slots.{has_number, let_go_word};
 ghost use Rattle.ipcz_rule.specs.Rule.{Mine};
 ghost use Rattle.ipcz_cell.specs.Claims.{IsNumberAt, HasFreeSlot};
@@ -47,14 +47,23 @@ impl<F: FabricName> Play<Option<Message>, Own<View>> for Returns<F> {
     ghost then = { λ st m n m'. SameBut m m' };
 }
 
-// How far behind the words of the links, of the counts and of the mailboxes that of a slot's let-go bits is.
-fn let_go_word<F: FabricName>(fabric: &Fabric<F>, slot: u32) -> usize
+/// Where the word of a slot's let-go bits stands: behind those of the links, of the counts and of the mailboxes.
+pub(crate) fn let_go_word<F: FabricName>(fabric: &Fabric<F>, slot: u32) -> usize
     requires { slot < F.table.slots }
     ensures word { result ≡ let_go_word (sizes_of F.table) slot }
     ensures inside { result < F.table.id.words }
 {
     let nodes = fabric.nodes as usize;
     fabric.slots as usize + (1 + nodes + nodes * nodes) + slot as usize
+}
+
+/// The slot of a number.
+pub(crate) fn number_slot<F: FabricName>(fabric: &Fabric<F>, number: u32) -> u32
+    requires { F.table.reuses ≡ true }
+    ensures slot { result ≡ number % F.table.slots }
+    ensures inside { result < F.table.slots }
+{
+    slot_of(u64::from(number), u64::from(fabric.slots)) as u32
 }
 
 // Takes a slot that both sides have let go, and tells whether it was one.
@@ -167,7 +176,6 @@ pub(crate) fn leave_slot<F: FabricName>(seat: &mut TableSeat, fabric: &Fabric<F>
     ensures me { ◌≡◌ {A = Mine} (mine_of seat.new.me) (mine_of seat.old.me) }
 {
     if fabric.reuses {
-        let slot = slot_of(u64::from(number), u64::from(fabric.slots));
-        return_step(seat, fabric, slot as u32);
+        return_step(seat, fabric, number_slot(fabric, number));
     }
 }
