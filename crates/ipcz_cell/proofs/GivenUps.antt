@@ -9,7 +9,6 @@ use Rattle.ipcz_base.specs.declared.link_id.LinkId.TheVariants.{Central, Periphe
 use Rattle.ipcz_base.specs.declared.link_end.LinkEnd.{LinkEnd}
 use Rattle.ipcz_base.specs.Links.{word_of, has_link}
 use Rattle.ipcz_base.specs.Sides.{same_side}
-use Rattle.ipcz_edge.specs.Edge.{Edge, edge_has}
 use Rattle.ipcz_router.specs.Router.{Router}
 use Rattle.ipcz_router.specs.ActEffects.{leaves_by}
 use Rattle.ipcz_router.specs.LettingGo.{word_end, first_of, edge_end, let_go_end}

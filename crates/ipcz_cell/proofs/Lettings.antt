@@ -18,14 +18,14 @@ use Rattle.ipcz_slots.specs.declared.own.Own.{Own}
 use Rattle.ipcz_slots.specs.Slots.{let_go_word, has_number}
 use Rattle.ipcz_slots.specs.SlotKinds.{side_bit}
 use Rattle.ipcz_rule.specs.declared.view.View.{View}
-use Rattle.ipcz_rule.specs.Rule.{Slot, Mine}
+use Rattle.ipcz_rule.specs.Rule.{Slot}
 use Rattle.ipcz_rule.specs.Steps.{CanAct, act_part, is_touch_act}
 use Rattle.ipcz_rule.specs.Lasting.{LastingRules, side_of}
 use Rattle.ipcz_rule.proofs.Dropping.{touches_acts_turns}
 use Rattle.ipcz_rule.proofs.Lasts.{letting_go, leaving}
 use Rattle.ipcz_rule.proofs.LastsAll.{ends}
 use Rattle.ipcz_cell.specs.CellStates.{part_in}
-use Rattle.ipcz_cell.specs.GivenUp.{left_spare, given_up}
+use Rattle.ipcz_cell.specs.GivenUp.{given_up}
 use Rattle.ipcz_cell.specs.Lettings.{MayLetGo, MayLeave}
 use Rattle.ipcz_cell.specs.Outcomes.{Tells, IsPicked, touched}
 use Rattle.ipcz_cell.specs.Seats.{mine_of, sizes_of}

@@ -1,5 +1,5 @@
 -- What an act gives up of the link words, where slots are used again.
-use Rattle.std.specs.Prelude.{ℕ, nat_eq, Bool, true, false, if◌then◌else◌, Option, Some, None}
+use Rattle.std.specs.Prelude.{ℕ, nat_eq, Bool, true, if◌then◌else◌, Option, Some, None}
 use Rattle.ipcz_base.specs.declared.side.Side.{Side}
 use Rattle.ipcz_router.specs.Router.{Router}
 use Rattle.ipcz_router.specs.LettingGo.{let_go_end}

@@ -1,12 +1,8 @@
-use Rattle.std.specs.Prelude.{◌≡◌}
-use Rattle.std.proofs.Common.{ℕ, ap, sym, subst, ◌∙◌}
+use Rattle.std.proofs.Common.{ℕ, sym, subst, ◌∙◌}
 use Rattle.ipcz_rule.specs.Rule.{Mine}
 use Rattle.ipcz_cell.specs.Cells.{AreSound}
-use Rattle.ipcz_cell.specs.GivenUp.{given_up}
 use Rattle.ipcz_cell.specs.Lettings.{MayLeave}
-use Rattle.ipcz_cell.specs.CellStates.{part_in}
 use Rattle.ipcz_cell.specs.Seats.{mine_of}
-use Rattle.ipcz_cell.specs.declared.letting.GivenUp.{GivenUp}
 use Rattle.ipcz_cell.proofs.Forms.{acts_touch}
 use Rattle.ipcz_cell.proofs.Lettings.{may_let_go, may_leave}
 use Rattle.ipcz_cell.proofs.Seating.{may_by}
