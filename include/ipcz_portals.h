@@ -105,6 +105,7 @@ enum {
 
 #define IPCZ_MAX_NODES 8
 #define IPCZ_MAX_WORDS 4096
+#define IPCZ_MAX_SLOTS 1048576
 #define IPCZ_MAX_BYTES 65536  /* of a parcel */
 #define IPCZ_MAX_PRINTED_BYTES 256  /* of a parcel that ipcz_put_printed puts, each from 0x20 to 0x7E */
 #define IPCZ_MAX_PORTALS 8  /* of a parcel */
@@ -188,6 +189,17 @@ bool ipcz_holder(ipcz_world *world, ipcz_portal portal, uint8_t *node);
  *   cells, nodes  handles of no cell, and how many: 1 to IPCZ_MAX_NODES. All have cells if the status is IPCZ_OK, and else all still none
  * IPCZ_ALREADY_CREATED, IPCZ_TOO_MANY, IPCZ_OUT_OF_MEMORY. */
 ipcz_status ipcz_cells_create(uint32_t words, ipcz_cell *cells, size_t nodes);
+
+/* Makes a table whose link words come back, and the cells of its nodes: what a program that stays up takes. A link's slot is used again once both
+ * nodes have let the link go: they do so as they take turns, after a portal has moved and after both portals of a pair are closed.
+ *   slots  for how many links there is room at once, 16 bytes each: at least 1 and nodes * (nodes - 1) / 2, at most IPCZ_MAX_SLOTS. Each pair
+ *          takes one while it is open, and so does each bypass until it is done. If none is to be had, an open is refused IPCZ_NO_WORD and may be
+ *          tried again; a node that a portal came through, and finds none, stays in its way until the pair is closed
+ *   cells, nodes  as for ipcz_cells_create
+ * There can be 4,294,967,295 links in the life of the table: then each open is refused IPCZ_NO_WORD. Each open and each bypass makes one, and
+ * some numbers are passed over.
+ * IPCZ_ALREADY_CREATED, IPCZ_TOO_MANY, IPCZ_OUT_OF_MEMORY. */
+ipcz_status ipcz_cells_create_lasting(uint32_t slots, ipcz_cell *cells, size_t nodes);
 
 /* Frees what only this cell has, if the handle has one; with the last cell of the table, the table. The handle has none then. The other nodes
  * go on, but nothing goes through this one any more, and no other cell can be made for it. */

@@ -160,11 +160,12 @@ class Cell {
   public:
     // The cells of a new table, by node.
     static std::vector<Cell> make(std::uint8_t nodes, std::uint32_t words) {
-        std::vector<::ipcz_cell> made(nodes + 1u, ::ipcz_cell IPCZ_CELL_INIT);
-        std::vector<Cell> cells(nodes);
-        check(::ipcz_cells_create(words, made.data(), nodes));
-        for (std::size_t i = 0; i < nodes; i++) cells[i].cell_ = made[i];
-        return cells;
+        return make_by(::ipcz_cells_create, nodes, words);
+    }
+
+    // The cells of a new table whose link words come back, by node: with room for so many links at once.
+    static std::vector<Cell> make_lasting(std::uint8_t nodes, std::uint32_t slots) {
+        return make_by(::ipcz_cells_create_lasting, nodes, slots);
     }
 
     Cell() = default;
@@ -241,6 +242,14 @@ class Cell {
     ::ipcz_cell *handle() noexcept { return &cell_; }
 
   private:
+    static std::vector<Cell> make_by(ipcz_status create(std::uint32_t, ::ipcz_cell *, std::size_t), std::uint8_t nodes, std::uint32_t links) {
+        std::vector<::ipcz_cell> made(nodes + 1u, ::ipcz_cell IPCZ_CELL_INIT);
+        std::vector<Cell> cells(nodes);
+        check(create(links, made.data(), nodes));
+        for (std::size_t i = 0; i < nodes; i++) cells[i].cell_ = made[i];
+        return cells;
+    }
+
     mutable ::ipcz_cell cell_ = IPCZ_CELL_INIT;
 };
 

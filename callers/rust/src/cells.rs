@@ -12,9 +12,24 @@ unsafe impl Send for Cell {}
 
 /// The cells of a new table, by node: 1 to 8 nodes, and of at least a link word for each two of them and at most 4096, else `TooMany`.
 pub fn cells(nodes: usize, words: u32) -> Result<Vec<Cell>, Refused> {
+    cells_by(raw::ipcz_cells_create, nodes, words)
+}
+
+/// The cells of a new table whose link words come back, by node: what a program that stays up takes. There is room for `slots` links at once, at
+/// least 1 and one for each two nodes, and at most 1,048,576, else `TooMany`. A link's slot is used again once both nodes have let it go, as they
+/// take turns; if none is to be had, an open is refused `NoWord` and may be tried again. There can be 4,294,967,295 links in the table's life.
+pub fn lasting_cells(nodes: usize, slots: u32) -> Result<Vec<Cell>, Refused> {
+    cells_by(raw::ipcz_cells_create_lasting, nodes, slots)
+}
+
+fn cells_by(
+    create: unsafe extern "C" fn(u32, *mut raw::CellHandle, usize) -> u32,
+    nodes: usize,
+    links: u32,
+) -> Result<Vec<Cell>, Refused> {
     let mut made: Vec<Cell> = (0..nodes).map(|_| Cell(raw::CellHandle::EMPTY)).collect();
     // SAFETY: a `Cell` lies as its handle does, and each was made EMPTY; the pointer of a `Vec` isn't null.
-    answer(unsafe { raw::ipcz_cells_create(words, made.as_mut_ptr().cast(), nodes) })?;
+    answer(unsafe { create(links, made.as_mut_ptr().cast(), nodes) })?;
     Ok(made)
 }
 

@@ -13,7 +13,7 @@ mod raw;
 
 use std::fmt;
 
-pub use cells::{cells, Cell};
+pub use cells::{cells, lasting_cells, Cell};
 pub use raw::Portal;
 
 const MAX_PRINTED_BYTES: usize = 256;

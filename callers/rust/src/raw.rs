@@ -104,6 +104,7 @@ unsafe extern "C" {
     pub fn ipcz_holder(world: *mut Handle, portal: Portal, node: *mut u8) -> bool;
 
     pub fn ipcz_cells_create(words: u32, cells: *mut CellHandle, nodes: usize) -> u32;
+    pub fn ipcz_cells_create_lasting(slots: u32, cells: *mut CellHandle, nodes: usize) -> u32;
     pub fn ipcz_cell_destroy(cell: *mut CellHandle);
     pub fn ipcz_cell_open(cell: *mut CellHandle, first: *mut Portal, second: *mut Portal) -> u32;
     pub fn ipcz_cell_put_parcel(

@@ -58,6 +58,18 @@ most_words = 4096
 abbrev pub is_within : ℕ → ℕ → Bool
 is_within nodes words = nat_le 1 nodes && nat_le nodes node_limit && nat_le (first_pair_count nodes) words && nat_le words most_words
 
+-- how many slots for links a table may have that C makes, whose link words come back: IPCZ_MAX_SLOTS of the header; and how many links there can be in
+-- its life
+abbrev pub most_slots : ℕ
+most_slots = 1048576
+
+abbrev pub all_links : ℕ
+all_links = 4294967295
+
+-- whether such a table may have so many nodes and slots
+abbrev pub has_slots : ℕ → ℕ → Bool
+has_slots nodes slots = nat_le 1 nodes && nat_le nodes node_limit && nat_le 1 slots && nat_le (first_pair_count nodes) slots && nat_le slots most_slots
+
 -- a create within the limits, on a handle of no world: a new world, or no memory was found
 abbrev pub Creates : ℕ → ℕ → ℕ → Option World → Type 0
 Creates nodes words status new =

@@ -15,7 +15,7 @@ use Rattle.ipcz_cell.specs.TableNames.{TableName}
 use Rattle.ipcz_cell.specs.TurnChains.{RunsTurns}
 use Rattle.ipcz_c.specs.declared.cell_handle.CellHandle.{CellHandle}
 use Rattle.ipcz_c.specs.declared.portal.Portal.{Portal}
-use Rattle.ipcz_c.specs.Calls.{IsRefused, written}
+use Rattle.ipcz_c.specs.Calls.{IsRefused, written, all_links}
 use Rattle.ipcz_c.specs.CellSteps.{PutsAt, GetsAt, ClosesAt}
 use Rattle.ipcz_c.specs.HeldCells.{HeldCell, Moves}
 use Rattle.ipcz_c.specs.Named.{named, ends_of}
@@ -91,17 +91,26 @@ holds_each t cells = map (λ (c : CellState). Some (record { table = t; cell = c
 abbrev pub AreHeld : TableName → List CellState → List CellHandle → Type 0
 AreHeld t cells handles = cells_of handles ≡ holds_each t cells
 
--- the handles have the cells of a new table of so many words, which come back or not, one for each node
-pub record AreMade (words : ℕ) (reuses : Bool) (handles : List CellHandle) : Type 0 where
+-- the handles have the cells of a new table for so many links, with so many slots, which are used again or not, one for each node
+pub record AreMade (words slots : ℕ) (reuses : Bool) (handles : List CellHandle) : Type 0 where
   pub table : TableName
   pub cells : List CellState
   pub count : table.count ≡ length handles
   pub size : table.size ≡ words
+  pub slots : table.slots ≡ slots
   pub reused : table.reuses ≡ reuses
   pub first : AreFirst table.count table.count cells
   pub held : AreHeld table cells handles
 
 -- a create within the limits, on handles that have no cell: a new table, or no memory was found
+abbrev pub MakesCells : ℕ → ℕ → Bool → List CellHandle → ℕ → List CellHandle → Type 0
+MakesCells words slots reuses old status new =
+    ((status ≡ 0) × AreMade words slots reuses new) ⊎ ((status ≡ code_of OutOfMemory) × (new ≡ old))
+
+-- each link has a word of its own
 abbrev pub CellsAreMade : ℕ → List CellHandle → ℕ → List CellHandle → Type 0
-CellsAreMade words old status new =
-    ((status ≡ 0) × AreMade words false new) ⊎ ((status ≡ code_of OutOfMemory) × (new ≡ old))
+CellsAreMade words = MakesCells words words false
+
+-- link words come back
+abbrev pub CellsLast : ℕ → List CellHandle → ℕ → List CellHandle → Type 0
+CellsLast slots = MakesCells all_links slots true

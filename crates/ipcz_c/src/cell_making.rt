@@ -73,7 +73,7 @@ pub(crate) fn seat<F: FabricName>(
     requires named { blank ≡ F.table }
     requires many { F.table.count ≡ length handles.old }
     requires only { IsOnly F }
-    ensures made { OnOk result (AreMade blank.size blank.reuses handles.new) }
+    ensures made { OnOk result (AreMade blank.size blank.slots blank.reuses handles.new) }
     ensures why { IfErr result (λ e. e ≡ Refusal.OutOfMemory) }
     ensures back { OnErr result (handles.new ≡ handles.old) }
 {

@@ -2,7 +2,7 @@
 //!
 //! A handle that has no cell is answered `NOT_CREATED`, 0 or `false`. C passes nothing for `alloc`. Each call names the table of its cell
 //! anew, by the type `Brand`: its proof says which table that is.
-ghost use Rattle.std.specs.Prelude.{◌≡◌, None, Some, IsSome, true, false, length};
+ghost use Rattle.std.specs.Prelude.{◌≡◌, ◌<◌, None, Some, IsSome, IfOk, IfErr, if◌then◌else◌, true, false, length};
 ghost use Rattle.std.specs.Option.{IsNone};
 ghost use Rattle.ipcz_base.specs.Refusals.{code_of};
 ghost use Rattle.ipcz_node.specs.Node.{holds_end};
@@ -10,21 +10,36 @@ ghost use Rattle.ipcz_cell.specs.Opens.{FindsQuiet};
 ghost use Rattle.ipcz_c.specs.Named.{named};
 ghost use Rattle.ipcz_c.specs.Statuses.{not_created, already_created};
 ghost use Rattle.ipcz_c.specs.Told.{room_of, fits};
-ghost use Rattle.ipcz_c.specs.Calls.{IsRefused, is_within, LacksRoom};
+ghost use Rattle.ipcz_c.specs.Calls.{IsRefused, is_within, has_slots, LacksRoom};
 ghost use Rattle.ipcz_c.specs.CellSteps.{CountsClaimed};
 ghost use Rattle.ipcz_c.specs.HeldCells.{HeldCell, Moves, cell_sizes};
-ghost use Rattle.ipcz_c.specs.CellCalls.{CellOpens, CellPuts, CellGets, CellCloses, CellActs, CellReads, are_vacant, CellsAreMade};
+ghost use Rattle.ipcz_c.specs.CellCalls.{CellOpens, CellPuts, CellGets, CellCloses, CellActs, CellReads, are_vacant, CellsAreMade, CellsLast};
 
 use crate::cell_handle::CellHandle;
 use crate::cell_making::{are_vacant, seat};
-use crate::making::{are_within, lists_of};
+use crate::making::{are_within, have_slots, lists_of};
 use crate::portal::Portal;
 use crate::status::{ALREADY_CREATED, NOT_CREATED, TOO_SMALL, refused, status};
 use crate::tell::{got, lacking, outcome, tell_ends, tell_got, tell_number};
 use ipcz_base::{Profile, Refusal};
-use ipcz_cell::start;
+use ipcz_cell::{start, start_lasting};
 use std::alloc::Global;
 use std::marker::Brand;
+
+// How many nodes the table has whose cells these handles get; or the status of what stands against it.
+fn node_count(cells: &[CellHandle]) -> Result<u8, u32>
+    ensures nodes { IfOk result (λ n. (n ≡ length cells.now) × (are_vacant cells.now ≡ true)) }
+    ensures why { IfErr result (λ status. status ≡ (if are_vacant cells.now then code_of Refusal.TooMany else already_created)) }
+    ensures many { IfErr result (λ status. are_vacant cells.now ≡ true → 255 < length cells.now) }
+{
+    if !are_vacant(cells) {
+        return Err(ALREADY_CREATED);
+    }
+    match u8::try_from(cells.len()) {
+        Ok(nodes) => Ok(nodes),
+        Err(_) => Err(refused(Refusal::TooMany)),
+    }
+}
 
 /// Makes a table of so many words, and a node for each handle.
 #[unsafe(no_mangle)]
@@ -35,16 +50,40 @@ pub extern "C" fn ipcz_cells_create(alloc: Global, words: u32, cells: &mut [Cell
         IsRefused (code_of Refusal.TooMany) cells.old result cells.new }
     ensures held { are_vacant cells.old ≡ false → IsRefused already_created cells.old result cells.new }
 {
-    if !are_vacant(cells) {
-        return ALREADY_CREATED;
-    }
-    let Ok(nodes) = u8::try_from(cells.len()) else {
-        return refused(Refusal::TooMany);
+    let nodes = match node_count(cells) {
+        Ok(nodes) => nodes,
+        Err(status) => return status,
     };
     if !are_within(nodes, words) {
         return refused(Refusal::TooMany);
     }
     match start(alloc, nodes, words) {
+        Ok(blank) => outcome(seat::<Brand>(alloc, blank, cells)),
+        Err(why) => refused(why),
+    }
+}
+
+/// Makes the cells of a table whose link words come back, with so many slots for links, one cell for each node.
+#[unsafe(no_mangle)]
+#[tactic(auto, using(crate::proofs::SameOwner::brand_only))]
+pub extern "C" fn ipcz_cells_create_lasting(
+    alloc: Global,
+    slots: u32,
+    cells: &mut [CellHandle],
+) -> u32
+    ensures made { are_vacant cells.old ≡ true → has_slots (length cells.old) slots ≡ true → CellsLast slots cells.old result cells.new }
+    ensures many { are_vacant cells.old ≡ true → has_slots (length cells.old) slots ≡ false →
+        IsRefused (code_of Refusal.TooMany) cells.old result cells.new }
+    ensures held { are_vacant cells.old ≡ false → IsRefused already_created cells.old result cells.new }
+{
+    let nodes = match node_count(cells) {
+        Ok(nodes) => nodes,
+        Err(status) => return status,
+    };
+    if !have_slots(nodes, slots) {
+        return refused(Refusal::TooMany);
+    }
+    match start_lasting(alloc, nodes, slots, u32::MAX) {
         Ok(blank) => outcome(seat::<Brand>(alloc, blank, cells)),
         Err(why) => refused(why),
     }

@@ -2,7 +2,7 @@
 ghost use Rattle.std.specs.Prelude.{◌≡◌, IfOk, IfErr, true};
 ghost use Rattle.ipcz_world.specs.World.{new_world};
 ghost use Rattle.ipcz_c.specs.Named.{ends_of};
-ghost use Rattle.ipcz_c.specs.Calls.{is_within};
+ghost use Rattle.ipcz_c.specs.Calls.{is_within, has_slots};
 
 use crate::portal::{Portal, ends_of};
 use ipcz_base::{Bytes, Ends, Refusal};
@@ -15,6 +15,13 @@ pub(crate) fn are_within(nodes: u8, words: u32) -> bool
     ensures { result ≡ is_within nodes words }
 {
     1 <= nodes && nodes <= 8 && first_pair_count(nodes) <= words && words <= 4096
+}
+
+// Whether a table that C makes, whose link words come back, may have so many nodes, and slots for links.
+pub(crate) fn have_slots(nodes: u8, slots: u32) -> bool
+    ensures { result ≡ has_slots nodes slots }
+{
+    1 <= nodes && nodes <= 8 && 1 <= slots && first_pair_count(nodes) <= slots && slots <= 1_048_576
 }
 
 // A new world in a box.

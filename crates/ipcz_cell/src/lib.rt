@@ -28,4 +28,4 @@ pub use bells::{Bells, Ticket};
 pub use cell::NodeCell;
 pub use ending::finish;
 pub use fabric::{Fabric, FabricName};
-pub use making::{Blank, start};
+pub use making::{Blank, start, start_lasting};

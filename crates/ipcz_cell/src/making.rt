@@ -59,7 +59,7 @@ impl Model for Blank {
 /// the start, 8 bytes each. Its only refusal is `OutOfMemory`.
 pub fn start(alloc: Global, nodes: u8, words: u32) -> Result<Blank, Refusal>
     requires limits { IsWithinLimits nodes words }
-    ensures size { IfOk result (λ b. (b.count ≡ nodes) × (b.size ≡ words) × (b.reuses ≡ false)) }
+    ensures size { IfOk result (λ b. (b.count ≡ nodes) × (b.size ≡ words) × (b.slots ≡ words) × (b.reuses ≡ false)) }
     ensures why { IfErr result (λ e. e ≡ Refusal.OutOfMemory) }
 {
     let Ok(numbers) = whole_words(alloc, nodes, words) else {

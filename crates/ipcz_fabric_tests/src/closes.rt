@@ -42,12 +42,16 @@ fn awaits<F: FabricName>(
     None
 }
 
-// Opens a pair, however often another thread comes between.
+// Opens a pair, however often another thread comes between, or has still to let the slots of links go.
 fn opens<F: FabricName>(fabric: &Fabric<F>, cell: &mut NodeCell<F>) -> Option<(End, End)> {
     for _try in 0..TRIES {
         match cell.open_pair(fabric) {
             Ok(pair) => return Some(pair),
             Err(Refusal::Raced) => yield_now(),
+            Err(Refusal::NoWord) => {
+                let _turned = cell.turn(fabric);
+                yield_now();
+            }
             Err(_) => return None,
         }
     }
@@ -93,9 +97,10 @@ fn sends_all<F: FabricName>(
     fabric: &Fabric<F>,
     cell: &mut NodeCell<F>,
     alloc: Global,
+    pairs: u64,
     done: &AtomicU64,
 ) -> bool {
-    for _pair in 0..PAIRS {
+    for _pair in 0..pairs {
         if !sends_and_closes(fabric, cell, alloc) {
             return false;
         }
@@ -116,8 +121,13 @@ fn acts_until<F: FabricName>(fabric: &Fabric<F>, cell: &mut NodeCell<F>, done: &
     false
 }
 
-fn gets_all<F: FabricName>(fabric: &Fabric<F>, cell: &mut NodeCell<F>, done: &AtomicU64) -> bool {
-    for _pair in 0..PAIRS {
+fn gets_all<F: FabricName>(
+    fabric: &Fabric<F>,
+    cell: &mut NodeCell<F>,
+    pairs: u64,
+    done: &AtomicU64,
+) -> bool {
+    for _pair in 0..pairs {
         if !gets_and_closes(fabric, cell) {
             return false;
         }
@@ -132,12 +142,13 @@ fn both_close<F: FabricName + Send + Sync, R: Threads>(
     fabric: &Fabric<F>,
     left: &mut NodeCell<F>,
     right: &mut NodeCell<F>,
+    pairs: u64,
 ) -> bool {
     let done = AtomicU64::new(0);
     let (sent, got) = join(
         rt,
-        || sends_all(fabric, left, alloc, &done),
-        || gets_all(fabric, right, &done),
+        || sends_all(fabric, left, alloc, pairs, &done),
+        || gets_all(fabric, right, pairs, &done),
     );
     sent && got
 }
@@ -162,16 +173,17 @@ fn come_to_rest<F: FabricName>(
     false
 }
 
-// Whether all pairs are closed by two threads, and all comes to rest by the cells' turns.
-fn close_all<F: FabricName + Send + Sync, R: Threads>(
+/// Whether so many pairs are closed by two threads, and all comes to rest by the cells' turns.
+pub(crate) fn close_all<F: FabricName + Send + Sync, R: Threads>(
     rt: &R,
     alloc: Global,
     fabric: &Fabric<F>,
     cells: &mut [NodeCell<F>],
+    pairs: u64,
 ) -> bool {
     match cells {
         [left, right] => {
-            both_close(rt, alloc, fabric, left, right) && come_to_rest(fabric, left, right)
+            both_close(rt, alloc, fabric, left, right, pairs) && come_to_rest(fabric, left, right)
         }
         _ => false,
     }
@@ -186,7 +198,7 @@ fn left_over<F: FabricName + Send + Sync, R: Threads>(
     requires { blank ≡ F.table }
 {
     let mut it = named::<F>(blank)?;
-    let closed = close_all(rt, alloc, &it.fabric, it.cells.as_mut_slice());
+    let closed = close_all(rt, alloc, &it.fabric, it.cells.as_mut_slice(), PAIRS);
     let routers = routers_of(it)?;
     closed.then_some(routers)
 }

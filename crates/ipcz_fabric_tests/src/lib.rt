@@ -21,6 +21,8 @@ mod hub_waits;
 #[cfg(test)]
 mod hubs;
 #[cfg(test)]
+mod lasting;
+#[cfg(test)]
 mod locks;
 #[cfg(test)]
 mod opens;

@@ -1,0 +1,166 @@
+//! Tables whose link words come back: many more pairs are opened, moved and closed than there are slots for their links.
+ghost use Rattle.std.specs.Prelude.{◌≡◌};
+
+use crate::cell_tables::{named, put};
+use crate::closes::close_all;
+use ipcz_base::{End, Refusal, Side};
+use ipcz_cell::{Blank, Fabric, FabricName, NodeCell, finish, start_lasting};
+use std::alloc::Global;
+use std::marker::Brand;
+use std::test::Fail;
+use std::thread::Threads;
+
+/// How many requests are made; each opens a pair, and moves an end of it.
+const REQUESTS: u32 = 1_000;
+
+/// How many slots there are for links: for the pair that the requests go over, for that of a request, and for its bypass.
+const SLOTS: u32 = 3;
+
+/// How many numbers links can have: enough for all requests.
+const NUMBERS: u32 = 4_000_000_000;
+
+const PASSES: u64 = 1000;
+
+const LEFT: End = End {
+    pair: 0,
+    side: Side::A,
+};
+
+const RIGHT: End = End {
+    pair: 0,
+    side: Side::B,
+};
+
+// Whether both come to rest.
+fn come_to_rest<F: FabricName>(
+    fabric: &Fabric<F>,
+    left: &mut NodeCell<F>,
+    right: &mut NodeCell<F>,
+) -> bool {
+    for _pass in 0..PASSES {
+        let (Ok(by_left), Ok(by_right)) = (left.acts(fabric, PASSES), right.acts(fabric, PASSES))
+        else {
+            return false;
+        };
+        if by_left == 0 && by_right == 0 {
+            return true;
+        }
+    }
+    false
+}
+
+// Whether a request comes with a portal for its answer, which is answered there and closed.
+fn answers<F: FabricName>(fabric: &Fabric<F>, cell: &mut NodeCell<F>, alloc: Global) -> bool {
+    let Ok((_, request)) = cell.get(fabric, RIGHT) else {
+        return false;
+    };
+    let Some(end) = request.ends.as_slice().first().copied() else {
+        return false;
+    };
+    put(fabric, cell, alloc, end, b"yes", &[]).is_some() && cell.close(fabric, end).is_ok()
+}
+
+// Whether the answer comes to the end that was kept, which is closed then.
+fn hears<F: FabricName>(fabric: &Fabric<F>, cell: &mut NodeCell<F>, kept: End) -> bool {
+    let Ok((_, answer)) = cell.get(fabric, kept) else {
+        return false;
+    };
+    answer.bytes.as_slice() == b"yes".as_slice()
+        && matches!(cell.get(fabric, kept), Err(Refusal::PeerClosed))
+        && cell.close(fabric, kept).is_ok()
+}
+
+// Whether a request with a fresh portal is answered, and nothing of it is left to do.
+fn request<F: FabricName>(
+    fabric: &Fabric<F>,
+    left: &mut NodeCell<F>,
+    right: &mut NodeCell<F>,
+    alloc: Global,
+) -> bool {
+    let Ok((kept, sent)) = left.open_pair(fabric) else {
+        return false;
+    };
+    put(fabric, left, alloc, LEFT, b"is it so?", &[sent]).is_some()
+        && come_to_rest(fabric, left, right)
+        && answers(fabric, right, alloc)
+        && come_to_rest(fabric, left, right)
+        && hears(fabric, left, kept)
+        && come_to_rest(fabric, left, right)
+}
+
+// How many link words all requests have claimed, if each was answered.
+fn requests<F: FabricName>(
+    fabric: &Fabric<F>,
+    cells: &mut [NodeCell<F>],
+    alloc: Global,
+) -> Option<u32> {
+    let [left, right] = cells else {
+        return None;
+    };
+    for _request in 0..REQUESTS {
+        if !request(fabric, left, right, alloc) {
+            return None;
+        }
+    }
+    Some(left.claimed(fabric))
+}
+
+fn claimed_by_requests<F: FabricName>(blank: Blank, alloc: Global) -> Option<u32>
+    requires { blank ≡ F.table }
+{
+    let mut it = named::<F>(blank)?;
+    requests(&it.fabric, it.cells.as_mut_slice(), alloc)
+}
+
+#[test]
+fn a_request_with_a_portal_for_its_answer_works_for_ever(rt: HostRuntime) -> Result<(), Fail> {
+    let blank = start_lasting(rt.alloc(), 2, SLOTS, NUMBERS)?;
+    let claimed = claimed_by_requests::<Brand>(blank, rt.alloc());
+    // The pair that is there at the start; then each request's pair and its bypass, with no number passed over or more.
+    assert!(rt; claimed.is_some_and(|count| count > 2 * REQUESTS));
+    Ok(())
+}
+
+// Whether two threads, each with a cell of its own, open, move and close so many pairs, and all comes to rest.
+fn threads_close<F: FabricName + Send + Sync, R: Threads>(
+    rt: &R,
+    alloc: Global,
+    blank: Blank,
+    pairs: u64,
+) -> Option<u32>
+    requires { blank ≡ F.table }
+{
+    let mut it = named::<F>(blank)?;
+    let cells = it.cells.as_mut_slice();
+    if !close_all(rt, alloc, &it.fabric, cells, pairs) {
+        return None;
+    }
+    Some(cells.first_mut()?.claimed(&it.fabric))
+}
+
+#[test]
+fn two_threads_close_more_pairs_than_there_are_slots(rt: HostRuntime) -> Result<(), Fail> {
+    let blank = start_lasting(rt.alloc(), 2, 12, NUMBERS)?;
+    let claimed = threads_close::<Brand, _>(&rt, rt.alloc(), blank, 200);
+    assert!(rt; claimed.is_some_and(|count| count > 200));
+    Ok(())
+}
+
+// Why such a table gives no world.
+fn gives_no_world<F: FabricName>(blank: Blank) -> Option<Refusal>
+    requires { blank ≡ F.table }
+{
+    let mut it = named::<F>(blank)?;
+    let shown = it.cells.as_mut_slice().first_mut()?.word(&it.fabric, 0);
+    match finish(it.fabric, it.cells) {
+        Err((why, _, _)) if shown.is_none() => Some(why),
+        _ => None,
+    }
+}
+
+#[test]
+fn a_table_whose_words_come_back_shows_none(rt: HostRuntime) -> Result<(), Fail> {
+    let blank = start_lasting(rt.alloc(), 2, SLOTS, NUMBERS)?;
+    assert!(rt; gives_no_world::<Brand>(blank) == Some(Refusal::NoWord));
+    Ok(())
+}
