@@ -11,7 +11,7 @@ use std::test::Fail;
 use std::thread::Threads;
 
 /// How many requests are made; each opens a pair, and moves an end of it.
-const REQUESTS: u32 = 1_000;
+const REQUESTS: u32 = 100_000;
 
 /// How many slots there are for links: for the pair that the requests go over, for that of a request, and for its bypass.
 const SLOTS: u32 = 3;
@@ -141,8 +141,8 @@ fn threads_close<F: FabricName + Send + Sync, R: Threads>(
 #[test]
 fn two_threads_close_more_pairs_than_there_are_slots(rt: HostRuntime) -> Result<(), Fail> {
     let blank = start_lasting(rt.alloc(), 2, 12, NUMBERS)?;
-    let claimed = threads_close::<Brand, _>(&rt, rt.alloc(), blank, 200);
-    assert!(rt; claimed.is_some_and(|count| count > 200));
+    let claimed = threads_close::<Brand, _>(&rt, rt.alloc(), blank, 20_000);
+    assert!(rt; claimed.is_some_and(|count| count > 20_000));
     Ok(())
 }
 
