@@ -56,7 +56,7 @@ impl Model for Blank {
 /// The table of so many nodes and link words, which shows the world at the start (`World::new`).
 ///
 /// `nodes` is 1 to 8; `words` is from the number of first pairs, `nodes * (nodes - 1) / 2`, to 2^32 - 1. The table holds all of them from
-/// the start, 8 bytes each. Its only refusal is `OutOfMemory`.
+/// the start, 16 bytes each. Its only refusal is `OutOfMemory`.
 pub fn start(alloc: Global, nodes: u8, words: u32) -> Result<Blank, Refusal>
     requires limits { IsWithinLimits nodes words }
     ensures size { IfOk result (λ b. (b.count ≡ nodes) × (b.size ≡ words) × (b.slots ≡ words) × (b.reuses ≡ false)) }
