@@ -1,5 +1,5 @@
 -- A closed table in which each number has its slot: its words but the last are those of the table that was folded.
-use Rattle.std.specs.Prelude.{◌≡◌, ◌<◌, ◌+◌, ◌-◌, ◌*◌, ℕ, Bool, false, List, length, map, slice_index, refl, Option}
+use Rattle.std.specs.Prelude.{◌≡◌, ◌<◌, ◌+◌, ◌-◌, ◌*◌, ℕ, Bool, true, false, MatchBool, List, length, map, slice_index, refl, Option}
 use Rattle.std.proofs.Common.{arith, ap, ◌∙◌, sym, subst}
 use mathlib.Core.Option.{some}
 use mathlib.Core.Logic.{dite}
@@ -94,3 +94,8 @@ module _ (count size id : ℕ) (o : Own View) (ws : List ℕ) (xs : List Slot) (
   whole_comes_back states states_is hands hands_is boxes boxes_many boxes_read =
       comes_back count size id o.view u.words xs u.last all states states_is hands hands_is bits many read_first claimed claims_first boxes boxes_many
       (λ mail r. boxes_read mail (reads_same count (size + 1 + count) u.words ws xs hands mail (λ k l. u.same (size + 1 + count + k) (omega (arith, l))) (λ from to lf lt. below_square from to count lf lt) r))
+
+-- where slots aren't used again a word is shown as it is read
+pub shown_word : (b : Bool) (P Q : Type 0) → b ≡ false → Q → MatchBool b P Q
+shown_word true P Q e q = absurd (cc)
+shown_word false P Q e q = q

@@ -1,13 +1,18 @@
-use Rattle.std.proofs.Common.{[], ◌∷◌, ◌++◌, ap, ◌∙◌, arith}
+use Rattle.std.proofs.Common.{[], ◌∷◌, ◌++◌, ap, sym, ◌∙◌, arith}
+use Rattle.ipcz_cell.proofs.Unfolding.{shown_word}
 use Rattle.ipcz_cell.proofs.cell.NodeCell.word.Goals as goal
 
 pub returns-then-count-from : goal.returns-then-count-from
-returns-then-count-from g c = let count = c.load_count-count.ensures in (c.load_count-count.result, count.most, count.reached, ((let less = c.if-count-from.true in let is = c.from.ensures in omega (arith, less, is)), count.seen))
+returns-then-count-from g c =
+    let count = c.load_count-count.ensures in
+    shown_word _ _ _ (sym c.fabric.invariant.9 ∙ c.if-fabric.false)
+    (c.load_count-count.result, count.most, count.reached, ((let less = c.if-count-from.true in let is = c.from.ensures in omega (arith, less, is)), count.seen))
 
 pub returns : goal.returns
 returns g c =
     let count = c.load_count-count.ensures in
-    let word = c.load_word.ensures in (
+    let word = c.load_word.ensures in
+    shown_word _ _ _ (sym c.fabric.invariant.9 ∙ c.if-fabric.false) (
       c.load_count-count.result,
       count.most,
       count.reached,
