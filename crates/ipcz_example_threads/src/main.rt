@@ -5,15 +5,15 @@
 mod cells;
 mod hub;
 
-use ipcz_fabric::start;
+use ipcz_fabric::start_lasting;
 use std::marker::Brand;
 use std::str;
 
 fn main(rt: HostRuntime) -> anyhow::Result<()> {
-    let blank = start(rt.alloc(), 2, 8)?;
+    let blank = start_lasting(rt.alloc(), 2, 8, u32::MAX)?;
     let answer = cells::talk_by_cells::<Brand, _>(&rt, rt.alloc(), blank)?;
     println!(rt; "cells: {}", str::from_utf8(answer.as_slice())?)?;
-    let blank = start(rt.alloc(), 2, 8)?;
+    let blank = start_lasting(rt.alloc(), 2, 8, u32::MAX)?;
     let answer = hub::talk_by_hub::<Brand, _>(&rt, rt.alloc(), blank)?;
     println!(rt; "hub: {}", str::from_utf8(answer.as_slice())?)?;
     Ok(())

@@ -588,8 +588,8 @@ fn acts_and_closes<F: FabricName, R: Wait>(rt: &R, hub: &Hub<F>, portal: Portal<
     portal.close(rt, hub).ok()
 }
 
-// The numbers of the marks when a portal of a pair is moved to node 1, and both are closed.
-fn moves_and_closes<F: FabricName, R: Wait>(
+/// The numbers of the marks when a portal of a pair is moved to node 1, and both are closed.
+pub(crate) fn moves_and_closes<F: FabricName, R: Wait>(
     rt: &R,
     hub: &Hub<F>,
     alloc: Global,

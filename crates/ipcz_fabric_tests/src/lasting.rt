@@ -3,10 +3,13 @@ ghost use Rattle.std.specs.Prelude.{◌≡◌};
 
 use crate::cell_tables::{named, put};
 use crate::closes::close_all;
+use crate::hub_tables::{both, hub_of};
+use crate::hubs::moves_and_closes;
 use ipcz_base::{End, Refusal, Side};
 use ipcz_cell::{Blank, Fabric, FabricName, NodeCell, finish, start_lasting};
 use std::alloc::Global;
 use std::marker::Brand;
+use std::sync::Wait;
 use std::test::Fail;
 use std::thread::Threads;
 
@@ -18,6 +21,9 @@ const SLOTS: u32 = 3;
 
 /// How many numbers links can have: enough for all requests.
 const NUMBERS: u32 = 4_000_000_000;
+
+/// How often a portal goes to the other node and back.
+const LAPS: u32 = 50_000;
 
 const PASSES: u64 = 1000;
 
@@ -118,6 +124,89 @@ fn a_request_with_a_portal_for_its_answer_works_for_ever(rt: HostRuntime) -> Res
     let claimed = claimed_by_requests::<Brand>(blank, rt.alloc());
     // The pair that is there at the start; then each request's pair and its bypass, with no number passed over or more.
     assert!(rt; claimed.is_some_and(|count| count > 2 * REQUESTS));
+    Ok(())
+}
+
+// The end that comes with the next parcel at another, sent on at a third.
+fn passes_on<F: FabricName>(
+    fabric: &Fabric<F>,
+    cell: &mut NodeCell<F>,
+    alloc: Global,
+    at: End,
+) -> Option<()> {
+    let (_, parcel) = cell.get(fabric, at).ok()?;
+    let end = parcel.ends.as_slice().first().copied()?;
+    put(fabric, cell, alloc, at, b"on", &[end])?;
+    Some(())
+}
+
+// Whether a portal goes to the other node and back so many times, and then has a parcel that was put for it.
+fn travels<F: FabricName>(
+    fabric: &Fabric<F>,
+    left: &mut NodeCell<F>,
+    right: &mut NodeCell<F>,
+    alloc: Global,
+) -> Option<bool> {
+    let (kept, sent) = left.open_pair(fabric).ok()?;
+    put(fabric, left, alloc, LEFT, b"on", &[sent])?;
+    for _lap in 0..LAPS {
+        if !come_to_rest(fabric, left, right) {
+            return None;
+        }
+        passes_on(fabric, right, alloc, RIGHT)?;
+        if !come_to_rest(fabric, left, right) {
+            return None;
+        }
+        passes_on(fabric, left, alloc, LEFT)?;
+    }
+    put(fabric, left, alloc, kept, b"there", &[])?;
+    let rests = come_to_rest(fabric, left, right);
+    let (_, parcel) = right.get(fabric, RIGHT).ok()?;
+    let end = parcel.ends.as_slice().first().copied()?;
+    let came = right.get(fabric, end).ok()?.1;
+    Some(rests && came.bytes.as_slice() == b"there".as_slice())
+}
+
+fn travelled<F: FabricName>(blank: Blank, alloc: Global) -> Option<bool>
+    requires { blank ≡ F.table }
+{
+    let mut it = named::<F>(blank)?;
+    let [left, right] = it.cells.as_mut_slice() else {
+        return None;
+    };
+    travels(&it.fabric, left, right, alloc)
+}
+
+#[test]
+fn a_portal_travels_for_ever(rt: HostRuntime) -> Result<(), Fail> {
+    let blank = start_lasting(rt.alloc(), 2, SLOTS, NUMBERS)?;
+    assert!(rt; travelled::<Brand>(blank, rt.alloc()) == Some(true));
+    Ok(())
+}
+
+// How many of so many pairs of a hub, one after the other, are moved to the other node and closed.
+fn closed_one_by_one<F: FabricName, R: Wait>(
+    rt: &R,
+    alloc: Global,
+    blank: Blank,
+    pairs: u64,
+) -> Option<u64>
+    requires { blank ≡ F.table }
+{
+    let (hub, portals) = hub_of::<F>(blank)?;
+    let (here, there) = both(portals)?;
+    for done in 0..pairs {
+        if moves_and_closes(rt, &hub, alloc, &here, &there) != Some((0, 0)) {
+            return Some(done);
+        }
+    }
+    Some(pairs)
+}
+
+#[test]
+fn a_hub_opens_and_closes_pairs_for_ever(rt: HostRuntime) -> Result<(), Fail> {
+    let blank = start_lasting(rt.alloc(), 2, 8, NUMBERS)?;
+    assert!(rt; closed_one_by_one::<Brand, _>(&rt, rt.alloc(), blank, 20_000) == Some(20_000));
     Ok(())
 }
 
