@@ -16,15 +16,10 @@ const TRIES: u64 = 10_000_000;
 /// How many pairs are opened: each takes a word, and one more for its bypass.
 const PAIRS: u64 = 200;
 
-const LEFT: End = End {
-    pair: 0,
-    side: Side::A,
-};
-
-const RIGHT: End = End {
-    pair: 0,
-    side: Side::B,
-};
+// The end of a first pair at a side.
+fn end(pair: u32, side: Side) -> End {
+    End { pair, side }
+}
 
 // Takes turns until a get answers something else than that nothing has come.
 fn awaits<F: FabricName>(
@@ -58,16 +53,17 @@ fn opens<F: FabricName>(fabric: &Fabric<F>, cell: &mut NodeCell<F>) -> Option<(E
     None
 }
 
-// Opens a pair, sends one of its ends and a parcel after it, and closes the other once the peer is closed.
+// Opens a pair, sends one of its ends over another and a parcel after it, and closes the other once the peer is closed.
 fn sends_and_closes<F: FabricName>(
     fabric: &Fabric<F>,
     cell: &mut NodeCell<F>,
     alloc: Global,
+    at: End,
 ) -> bool {
     let Some((kept, sent)) = opens(fabric, cell) else {
         return false;
     };
-    if put(fabric, cell, alloc, LEFT, &[], &[sent]).is_none()
+    if put(fabric, cell, alloc, at, &[], &[sent]).is_none()
         || put(fabric, cell, alloc, kept, &[], &[]).is_none()
     {
         return false;
@@ -82,8 +78,8 @@ fn carried(parcel: &Parcel) -> Option<End> {
 }
 
 // Gets an end and the parcel that comes to it, and closes it.
-fn gets_and_closes<F: FabricName>(fabric: &Fabric<F>, cell: &mut NodeCell<F>) -> bool {
-    let Some(Ok((_, parcel))) = awaits(fabric, cell, RIGHT) else {
+fn gets_and_closes<F: FabricName>(fabric: &Fabric<F>, cell: &mut NodeCell<F>, at: End) -> bool {
+    let Some(Ok((_, parcel))) = awaits(fabric, cell, at) else {
         return false;
     };
     let Some(end) = carried(&parcel) else {
@@ -97,11 +93,12 @@ fn sends_all<F: FabricName>(
     fabric: &Fabric<F>,
     cell: &mut NodeCell<F>,
     alloc: Global,
+    at: End,
     pairs: u64,
     done: &AtomicU64,
 ) -> bool {
     for _pair in 0..pairs {
-        if !sends_and_closes(fabric, cell, alloc) {
+        if !sends_and_closes(fabric, cell, alloc, at) {
             return false;
         }
     }
@@ -124,31 +121,33 @@ fn acts_until<F: FabricName>(fabric: &Fabric<F>, cell: &mut NodeCell<F>, done: &
 fn gets_all<F: FabricName>(
     fabric: &Fabric<F>,
     cell: &mut NodeCell<F>,
+    at: End,
     pairs: u64,
     done: &AtomicU64,
 ) -> bool {
     for _pair in 0..pairs {
-        if !gets_and_closes(fabric, cell) {
+        if !gets_and_closes(fabric, cell, at) {
             return false;
         }
     }
     acts_until(fabric, cell, done)
 }
 
-// Whether each pair goes to the other thread and is closed there, each thread with a cell of its own.
-fn both_close<F: FabricName + Send + Sync, R: Threads>(
+/// Whether so many pairs go over a first pair to the other thread and are closed there, each thread with a cell of its own.
+pub(crate) fn both_close<F: FabricName + Send + Sync, R: Threads>(
     rt: &R,
     alloc: Global,
     fabric: &Fabric<F>,
     left: &mut NodeCell<F>,
     right: &mut NodeCell<F>,
+    over: u32,
     pairs: u64,
 ) -> bool {
     let done = AtomicU64::new(0);
     let (sent, got) = join(
         rt,
-        || sends_all(fabric, left, alloc, pairs, &done),
-        || gets_all(fabric, right, pairs, &done),
+        || sends_all(fabric, left, alloc, end(over, Side::A), pairs, &done),
+        || gets_all(fabric, right, end(over, Side::B), pairs, &done),
     );
     sent && got
 }
@@ -183,7 +182,8 @@ pub(crate) fn close_all<F: FabricName + Send + Sync, R: Threads>(
 ) -> bool {
     match cells {
         [left, right] => {
-            both_close(rt, alloc, fabric, left, right, pairs) && come_to_rest(fabric, left, right)
+            both_close(rt, alloc, fabric, left, right, 0, pairs)
+                && come_to_rest(fabric, left, right)
         }
         _ => false,
     }

@@ -2,7 +2,7 @@
 ghost use Rattle.std.specs.Prelude.{◌≡◌};
 
 use crate::cell_tables::{named, put};
-use crate::closes::close_all;
+use crate::closes::{both_close, close_all};
 use crate::hub_tables::{both, hub_of};
 use crate::hubs::moves_and_closes;
 use ipcz_base::{End, Refusal, Side};
@@ -11,7 +11,7 @@ use std::alloc::Global;
 use std::marker::Brand;
 use std::sync::Wait;
 use std::test::Fail;
-use std::thread::Threads;
+use std::thread::{Threads, join};
 
 /// How many requests are made; each opens a pair, and moves an end of it.
 const REQUESTS: u32 = 100_000;
@@ -230,8 +230,37 @@ fn threads_close<F: FabricName + Send + Sync, R: Threads>(
 #[test]
 fn two_threads_close_more_pairs_than_there_are_slots(rt: HostRuntime) -> Result<(), Fail> {
     let blank = start_lasting(rt.alloc(), 2, 12, NUMBERS)?;
-    let claimed = threads_close::<Brand, _>(&rt, rt.alloc(), blank, 20_000);
-    assert!(rt; claimed.is_some_and(|count| count > 20_000));
+    let claimed = threads_close::<Brand, _>(&rt, rt.alloc(), blank, 2_000);
+    assert!(rt; claimed.is_some_and(|count| count > 2_000));
+    Ok(())
+}
+
+// Whether four threads, each with a cell of its own, two by two open, move and close so many pairs, with one claim count for all.
+fn four_close<F: FabricName + Send + Sync, R: Threads + Sync>(
+    rt: &R,
+    alloc: Global,
+    blank: Blank,
+    pairs: u64,
+) -> Option<bool>
+    requires { blank ≡ F.table }
+{
+    let mut it = named::<F>(blank)?;
+    let fabric = &it.fabric;
+    let [first, second, third, fourth] = it.cells.as_mut_slice() else {
+        return None;
+    };
+    let (left, right) = join(
+        rt,
+        || both_close(rt, alloc, fabric, first, second, 0, pairs),
+        || both_close(rt, alloc, fabric, third, fourth, 5, pairs),
+    );
+    Some(left && right)
+}
+
+#[test]
+fn four_threads_close_more_pairs_than_there_are_slots(rt: HostRuntime) -> Result<(), Fail> {
+    let blank = start_lasting(rt.alloc(), 4, 24, NUMBERS)?;
+    assert!(rt; four_close::<Brand, _>(&rt, rt.alloc(), blank, 500) == Some(true));
     Ok(())
 }
 
