@@ -108,7 +108,10 @@ impl<F: FabricName> NodeCell<F> {
             | RouterAct::Lock
             | RouterAct::Claim
             | RouterAct::Begin
-            | RouterAct::Retire => untold(self.router_turn(fabric, serial, act)),
+            | RouterAct::Retire
+            | RouterAct::Discard
+            | RouterAct::FinishOut
+            | RouterAct::Leave => untold(self.router_turn(fabric, serial, act)),
             _ => self.plain_untold(fabric, serial, act),
         }
     }

@@ -1,12 +1,14 @@
 //! What an act gives up of the link words, and the step by which it does.
-ghost use Rattle.std.specs.Prelude.{◌≡◌, ◌<◌, ℕ, [], ◌∷◌, true, false};
+ghost use Rattle.std.specs.Prelude.{◌≡◌, ◌<◌, ℕ, [], ◌∷◌, true, false, Some, None};
+ghost use Rattle.ipcz_router.specs.Router.{Router as RouterRecord};
+ghost use Rattle.ipcz_router.specs.LettingGo.{let_go_end};
 ghost use Rattle.ipcz_slots.specs.Slots.{has_number};
 ghost use Rattle.ipcz_node.specs.Acts.{act_lacks_serials};
 ghost use Rattle.ipcz_node.specs.RoomyNodes.{IsPossibleAct};
 ghost use Rattle.ipcz_rule.specs.Steps.{act_part, is_touch_act};
 ghost use Rattle.ipcz_cell.specs.CellStates.{part_in, change_part};
 ghost use Rattle.ipcz_cell.specs.Cells.{AreSound};
-ghost use Rattle.ipcz_cell.specs.GivenUp.{given_up, left_spare};
+ghost use Rattle.ipcz_cell.specs.GivenUp.{given_up, given_of, left_spare};
 ghost use Rattle.ipcz_cell.specs.Lettings.{bit_of_side, MayLetGo, MayLeave};
 ghost use Rattle.ipcz_cell.specs.Outcomes.{IsPicked, touched};
 ghost use Rattle.ipcz_cell.specs.Seats.{mine_of};
@@ -44,25 +46,45 @@ fn left_spare(router: &Router, act: RouterAct) -> Option<u32>
     None
 }
 
-/// What an act of a node gives up, as the node stands before it.
+// Whether an act may give something up.
+#[inline(always)]
+#[tactic(auto, unfolding(ipcz_router::specs::LettingGo::let_go_end, ipcz_router::specs::ActEffects::leaves_by))]
+fn may_give_up(act: RouterAct) -> bool
+    ensures { result ≡ false → (r : RouterRecord) → let_go_end r act ≡ None }
+{
+    match act {
+        RouterAct::FinishOut | RouterAct::Discard | RouterAct::Leave | RouterAct::Retire => true,
+        _ => false,
+    }
+}
+
+// What an act of a router gives up.
+fn given_of(router: &Router, act: RouterAct) -> GivenUp
+    ensures { result ≡ given_of (Some router.now.router) act }
+{
+    let Some((word, side)) = router.let_go_end(act) else {
+        return GivenUp::Nothing;
+    };
+    match left_spare(router, act) {
+        Some(spare) if spare != word => GivenUp::EndAndSpare(word, side, spare),
+        _ => GivenUp::End(word, side),
+    }
+}
+
+/// What an act of a node gives up, as the node stands before it. Most acts give nothing up, and aren't asked for more than which they are.
+#[inline(always)]
 pub(crate) fn given_up<F: FabricName>(state: &NodeState, fabric: &Fabric<F>, act: Act) -> GivenUp
     ensures { result ≡ given_up F.table.reuses state.now.node act }
 {
-    if !fabric.reuses {
-        return GivenUp::Nothing;
-    }
     let Act::Router(serial, deed) = act else {
         return GivenUp::Nothing;
     };
-    let Some(router) = state.find_router(serial) else {
+    if !may_give_up(deed) || !fabric.reuses {
         return GivenUp::Nothing;
-    };
-    let Some((word, side)) = router.let_go_end(deed) else {
-        return GivenUp::Nothing;
-    };
-    match left_spare(router, deed) {
-        Some(spare) if spare != word => GivenUp::EndAndSpare(word, side, spare),
-        _ => GivenUp::End(word, side),
+    }
+    match state.find_router(serial) {
+        Some(router) => given_of(router, deed),
+        None => GivenUp::Nothing,
     }
 }
 
@@ -152,6 +174,7 @@ fn leave_step<F: FabricName, X: Outcome, S: SlotName>(
 
 /// The step of an act that touches no link word: on the node's touch word, or, if it gives an end of a link word up, on the let-go word of
 /// that word's slot. A slot that only the act's router had is given back then. X is what the step tells.
+#[inline(always)]
 pub(crate) fn act_step<F: FabricName, X: Outcome>(
     seat: &mut TableSeat,
     fabric: &Fabric<F>,
