@@ -25,8 +25,10 @@ close-requires-clause-hands g c =
 pub returns-clause-shown : goal.returns-clause-shown
 returns-clause-shown g c =
     let t = g.F.FabricName.table in
-    let ps = map rested (parts_of c.args.cells.items) in
-    (sym c.fabric.invariant.9 ∙ c.if-fabric.false, shown_before t.count t.size (parts_of c.args.cells.items) c.close.result
-    (subst (λ (n : ℕ). IsShown n t.size ps c.close.result) c.fabric.invariant.3
-    (subst (λ (m : ℕ). IsShown c.fabric.inside.nodes m ps c.close.result) c.fabric.invariant.4
-    (subst (λ (l : List Part). IsShown c.fabric.inside.nodes c.fabric.inside.words l c.close.result) c.join_all-states.ensures.parts c.close.ensures))))
+    let ps = map rested (parts_of c.args.cells.items) in (
+      sym c.fabric.invariant.9 ∙ c.if-fabric.false,
+      shown_before t.count t.size (parts_of c.args.cells.items) c.close.result
+          (subst (λ (n : ℕ). IsShown n t.size ps c.close.result) c.fabric.invariant.3
+          (subst (λ (m : ℕ). IsShown c.fabric.inside.nodes m ps c.close.result) c.fabric.invariant.4
+          (subst (λ (l : List Part). IsShown c.fabric.inside.nodes c.fabric.inside.words l c.close.result) c.join_all-states.ensures.parts c.close.ensures))),
+    )
