@@ -137,3 +137,21 @@ pub both_router : (reuses : Bool) (x : Node) (act : Act) (i : ℕ) (s : Side) (j
 both_router true x (acts.Router serial deed) i s j h = (serial, deed, refl)
 both_router true x other i s j h = absurd (cc)
 both_router false x act i s j h = absurd (cc)
+
+keeps_end : (r : Router) (act : RouterAct) → act ≢ router_acts.FinishOut → act ≢ router_acts.Discard → act ≢ router_acts.Leave → act ≢ router_acts.Retire → let_go_end r act ≡ None
+unfolding let_go_end leaves_by
+keeps_end r router_acts.FinishOut finish discard leave retire = absurd (finish refl)
+keeps_end r router_acts.Discard finish discard leave retire = absurd (discard refl)
+keeps_end r router_acts.Leave finish discard leave retire = absurd (leave refl)
+keeps_end r router_acts.Retire finish discard leave retire = absurd (retire refl)
+keeps_end r other finish discard leave retire = refl
+
+keeps_all : (o : Option Router) (act : RouterAct) → act ≢ router_acts.FinishOut → act ≢ router_acts.Discard → act ≢ router_acts.Leave → act ≢ router_acts.Retire → given.Nothing ≡ given_of o act
+keeps_all None act finish discard leave retire = refl
+keeps_all (Some r) act finish discard leave retire = ap (λ (e : Option (ℕ × Side)). given_by e (left_spare r act)) (sym (keeps_end r act finish discard leave retire))
+
+-- the other acts give nothing up
+pub nothing_given : (reuses : Bool) (x : Node) (serial : ℕ) (act : RouterAct) → act ≢ router_acts.FinishOut → act ≢ router_acts.Discard → act ≢ router_acts.Leave → act ≢ router_acts.Retire →
+    given.Nothing ≡ given_up reuses x (acts.Router serial act)
+nothing_given true x serial act finish discard leave retire = keeps_all (router_in x serial) act finish discard leave retire
+nothing_given false x serial act finish discard leave retire = refl

@@ -3,11 +3,13 @@ ghost use Rattle.std.specs.Prelude.{◌≡◌, ◌<◌, true, Some, None};
 ghost use Rattle.ipcz_node.specs.Acts.{has_mail_for, stand_in};
 ghost use Rattle.ipcz_node.specs.RoomyNodes.{IsPossibleAct};
 ghost use Rattle.ipcz_world.specs.Wordless.{is_wordless};
+ghost use Rattle.ipcz_cell.specs.GivenUp.{given_up};
 ghost use Rattle.ipcz_cell.specs.TurnChains.{acted, untold, Does, TriesTurn, RunsTurns};
 
 use crate::bells::{Ringer, Unheard, Waking};
 use crate::cell::NodeCell;
 use crate::fabric::{Fabric, FabricName};
+use crate::letting::GivenUp;
 use ipcz_base::Refusal;
 use ipcz_node::{Act, Happened};
 use ipcz_router::act::RouterAct;
@@ -74,7 +76,7 @@ impl<F: FabricName> NodeCell<F> {
         Ok(())
     }
 
-    // Lets a router do an act that touches no word.
+    // Lets a router do an act that touches no word and gives nothing up.
     #[inline(always)]
     fn plain_untold(
         &mut self,
@@ -84,10 +86,11 @@ impl<F: FabricName> NodeCell<F> {
     ) -> Result<(), Refusal>
         requires touch { is_wordless act ≡ true }
         requires alone { Act.Router serial act ≡ stand_in (Act.Router serial act) }
+        requires keeps { GivenUp.Nothing ≡ given_up F.table.reuses self.old.part.state (Act.Router serial act) }
         requires possible { IsPossibleAct self.old.part.state (Act.Router serial act) }
         ensures { Does F.table (Act.Router serial act) self.old result self.new }
     {
-        self.act_plainly(fabric, serial, act)
+        self.act_giving(fabric, serial, act, GivenUp::Nothing)
     }
 
     // Lets a router do an act.

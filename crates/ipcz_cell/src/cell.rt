@@ -13,10 +13,11 @@ ghost use Rattle.ipcz_world.specs.Wordless.{is_wordless};
 ghost use Rattle.ipcz_cell.specs.Parts.{got_part};
 ghost use Rattle.ipcz_rule.specs.Steps.{is_touch_act};
 ghost use Rattle.ipcz_cell.specs.Claims.{CanClaim};
+ghost use Rattle.ipcz_cell.specs.GivenUp.{given_up};
 ghost use Rattle.ipcz_cell.specs.Outcomes.{IsPicked, touched};
 
 use crate::fabric::{Fabric, FabricName};
-use crate::letting::{act_step, given_up};
+use crate::letting::{GivenUp, act_step, given_up};
 use crate::plays::{Outcome, load_step};
 use crate::probed::Probed;
 use crate::seat::TableSeat;
@@ -193,7 +194,9 @@ fn plain_here<F: FabricName, X: Outcome, T: Told>(
     fabric: &Fabric<F>,
     serial: u64,
     act: RouterAct,
+    given: GivenUp,
 ) -> Result<T, Refusal>
+    requires given { given ≡ given_up F.table.reuses state.old.node (Act.Router serial act) }
     requires picked { IsPicked X.tells (touched (act_part (Act.Router serial act) Answer.Plain)) }
     requires seated { IsSeated F.table state.old.node seat.old.table_id (mine_of seat.old.me) }
     requires touch { is_wordless act ≡ true }
@@ -208,7 +211,6 @@ fn plain_here<F: FabricName, X: Outcome, T: Told>(
     ensures err { OnErr result ((state.new.node ≡ state.old.node) × ((mine_of seat.new.me) ≡ (mine_of seat.old.me))) }
 {
     let node = state.number();
-    let given = given_up(state, fabric, Act::Router(serial, act));
     let done = state.act_plainly(serial, act);
     if done.is_ok() {
         act_step::<F, X>(seat, fabric, node, Act::Router(serial, act), given);
@@ -329,6 +331,30 @@ impl<F: FabricName> NodeCell<F> {
         ensures err { OnErr result (self.new.part ≡ self.old.part) }
         ensures seen { self.new.seen ≡ self.old.seen }
     {
-        plain_here::<F, Brand, T>(&mut self.state, &mut self.seat, fabric, serial, act)
+        let given = given_up(&self.state, fabric, Act::Router(serial, act));
+        self.act_giving(fabric, serial, act, given)
+    }
+
+    // The same, where it is known what the act gives up.
+    #[inline(always)]
+    pub(crate) fn act_giving<T: Told>(
+        &mut self,
+        fabric: &Fabric<F>,
+        serial: u64,
+        act: RouterAct,
+        given: GivenUp,
+    ) -> Result<T, Refusal>
+        requires given { given ≡ given_up F.table.reuses self.old.part.state (Act.Router serial act) }
+        requires touch { is_wordless act ≡ true }
+        requires possible { IsPossibleAct self.old.part.state (Act.Router serial act) }
+        ensures event { IfOk result (λ told. T.tells (event_of self.old.part.state (Act.Router serial act) Answer.Plain) told) }
+        ensures ok { OnOk result (self.new.part ≡ act_part (Act.Router serial act) Answer.Plain self.old.part) }
+        ensures why { IfErr result
+            (λ e. e ≡ (if act_lacks_serials self.old.part.state (Act.Router serial act) then Refusal.NumbersEnd else Refusal.OutOfMemory)) }
+        ensures grows { act_grows self.old.part.state (Act.Router serial act) ≡ false → IsOk result }
+        ensures err { OnErr result (self.new.part ≡ self.old.part) }
+        ensures seen { self.new.seen ≡ self.old.seen }
+    {
+        plain_here::<F, Brand, T>(&mut self.state, &mut self.seat, fabric, serial, act, given)
     }
 }

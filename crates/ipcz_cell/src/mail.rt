@@ -20,7 +20,7 @@ ghost use Rattle.ipcz_cell.specs.Outcomes.{IsPicked, probed, posted, looked, sou
 use crate::bells::{Ringer, Waking};
 use crate::cell::NodeCell;
 use crate::fabric::{Fabric, FabricName};
-use crate::plays::{Outcome, exchange_step, load_link, load_step, store_step};
+use crate::plays::{Outcome, exchange_step, load_behind, load_link, store_step};
 use crate::seat::TableSeat;
 use ipcz_base::{Message, Refusal};
 use ipcz_node::{Act, Handed, Happened, NodeState};
@@ -212,12 +212,13 @@ fn hand_here<F: FabricName, X: Outcome>(
 }
 
 impl<F: FabricName> NodeCell<F> {
-    // Loads the word that is so far behind the link words.
-    pub(crate) fn load_at(&mut self, fabric: &Fabric<F>, place: usize) -> u64
-        requires { place < 1 + F.table.count + F.table.count * F.table.count }
+    // Loads the word that is so far behind the link words, of which there are so many slots.
+    pub(crate) fn load_at(&mut self, fabric: &Fabric<F>, slots: u32, place: usize) -> u64
+        requires slots { slots ≡ F.table.slots }
+        requires inside { place < 1 + F.table.count + F.table.count * F.table.count }
         ensures { HasSeen (F.table.size + place) result self.old self.new }
     {
-        load_step::<F, Brand>(&mut self.seat, fabric, place)
+        load_behind::<F, Brand>(&mut self.seat, fabric, slots, place)
     }
 
     // Loads the word of the mailbox from one node to another.
@@ -227,7 +228,7 @@ impl<F: FabricName> NodeCell<F> {
         ensures { HasSeen (mail_word F.table from to) result self.old self.new }
     {
         let place = mail_place::<F>(fabric.nodes, from, to);
-        self.load_at(fabric, place)
+        self.load_at(fabric, fabric.slots, place)
     }
 
     /// Takes the empty mailbox to a node, or has it already. It answers false only if the mailbox was found at another value than 0.

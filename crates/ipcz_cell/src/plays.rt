@@ -145,8 +145,29 @@ pub(crate) fn load_step<F: FabricName, X: Outcome>(
     ensures done { X.tells (mine_of seat.old.me) result (mine_of seat.new.me) }
     ensures sound { AreSound F.table.count F.table.size seat.new.me.0.view }
 {
-    let word = fabric.slots as usize + place;
-    fabric.table.shared.load::<By<F, X>>(seat, word)
+    load_behind::<F, X>(seat, fabric, fabric.slots, place)
+}
+
+/// The same, by how many slots there are, so that who loads several reads it once.
+pub(crate) fn load_behind<F: FabricName, X: Outcome>(
+    seat: &mut TableSeat,
+    fabric: &Fabric<F>,
+    slots: u32,
+    place: usize,
+) -> u64
+    requires own { seat.old.table_id ≡ F.table.id }
+    requires slots { slots ≡ F.table.slots }
+    requires inside { place < 1 + F.table.count + F.table.count * F.table.count }
+    requires may { Keeps F.table.count F.table.size F.table.id.slots seat.old.id (mine_of seat.old.me) (F.table.size + place) (λ n. n)
+        (X.tells (mine_of seat.old.me)) }
+    ensures table { seat.new.table_id ≡ seat.old.table_id }
+    ensures done { X.tells (mine_of seat.old.me) result (mine_of seat.new.me) }
+    ensures sound { AreSound F.table.count F.table.size seat.new.me.0.view }
+{
+    fabric
+        .table
+        .shared
+        .load::<By<F, X>>(seat, slots as usize + place)
 }
 
 /// Stores a number in a word behind the claim count.

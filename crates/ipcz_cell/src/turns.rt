@@ -25,9 +25,10 @@ impl<F: FabricName> NodeCell<F> {
     {
         let node = self.node();
         let nodes = fabric.nodes;
+        let slots = fabric.slots;
         for from in 0..nodes {
             let place = mail_place::<F>(nodes, from, node);
-            if self.load_at(fabric, place) == 1 {
+            if self.load_at(fabric, slots, place) == 1 {
                 return Some(from);
             }
         }

@@ -4,6 +4,6 @@ use Rattle.ipcz_cell.proofs.cell.NodeCell.plain_untold.Goals as goal
 
 pub returns : goal.returns
 returns g c =
-    let done = c.act_plainly.ensures in
-    plain_does g.F.FabricName.table (acts.Router c.args.serial c.args.act) c.args.self.now c.act_plainly.new.self c.act_plainly.result c.requires.touch c.requires.alone
+    let done = c.act_giving.ensures in
+    plain_does g.F.FabricName.table (acts.Router c.args.serial c.args.act) c.args.self.now c.act_giving.new.self c.act_giving.result c.requires.touch c.requires.alone
     done.ok done.why done.grows done.err done.seen

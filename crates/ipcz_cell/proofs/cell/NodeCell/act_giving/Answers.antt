@@ -2,7 +2,7 @@ use Rattle.ipcz_router.specs.declared.act.Answer.TheVariants.{Plain}
 use Rattle.std.proofs.Common.{refl}
 use Rattle.ipcz_cell.proofs.Seating.{touched_or_same}
 use Rattle.ipcz_cell.proofs.Keeping.{router_act_keeps}
-use Rattle.ipcz_cell.proofs.cell.NodeCell.act_plainly.Goals as goal
+use Rattle.ipcz_cell.proofs.cell.NodeCell.act_giving.Goals as goal
 
 pub invariant_of-self : goal.invariant_of-self
 invariant_of-self g c =
