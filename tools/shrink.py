@@ -81,13 +81,15 @@ def smaller_scripts(script: dict) -> Iterator[dict]:
     yield from (script | {"nodes": fewer} for fewer in smaller_numbers(script["nodes"]))
 
 
-def shrunk(script: dict, fails: Fails) -> dict:
-    while True:
-        script = without_commands(script, fails)
-        smaller = next(filter(fails, smaller_scripts(script)), None)
-        if smaller is None:
-            return script
+def with_smaller_values(script: dict, fails: Fails) -> dict:
+    while smaller := next(filter(fails, smaller_scripts(script)), None):
         script = smaller
+    return script
+
+
+def shrunk(script: dict, fails: Fails) -> dict:
+    smaller = with_smaller_values(without_commands(script, fails), fails)
+    return smaller if smaller == script else shrunk(smaller, fails)
 
 
 def printed(script: dict) -> str:

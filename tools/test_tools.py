@@ -9,10 +9,12 @@ import pathlib
 import re
 import subprocess
 import sys
+import tempfile
 
 import asked
 import model
 import ready
+import shrink
 from asked import TOP
 
 HERE = pathlib.Path(__file__).resolve().parent
@@ -97,6 +99,26 @@ def faults_of_readme() -> list[str]:
     return [] if shown and shown[1].strip() == source.partition("fn main(")[0].strip() else ["README.md doesn't show crates/ipcz_example but for its main"]
 
 
+def faults_of_cases() -> list[str]:
+    """Each case has the model's transcript; and of a script on which a command fails that looks for a text in the transcript, the shortest is found."""
+    faults = []
+    with tempfile.TemporaryDirectory() as folder:
+        made = call("make_cases.py", folder, "--times", "1", "--most", "12")
+        cases = sorted(pathlib.Path(folder).glob("*.json"))
+        if made.returncode not in (0, 1) or not made.stdout.startswith(f"{len(cases)} cases\n") or not cases:
+            faults.append(f"make_cases: status {made.returncode}, {made.stdout[:60]!r} {made.stderr[-200:]}")
+        faults += [f"make_cases: {case.name}" for case in cases if model.answer(case.read_bytes())[0] != case.with_suffix(".txt").read_text()]
+        script = pathlib.Path(folder, "script")
+        script.write_text('{"nodes":3,"words":9,"commands":[["open",0,"x","y"],["put","x","a",["2>1"]],["put","0>1","b"],["close","0>1"],["settle",100],["get","1>0"],["get","1>0"],["show"]]}')
+        smaller = shrink.shrunk(model.read_json(script.read_text()), lambda it: model.first_fault(it) is None and "get 1>0 PeerClosed" in model.transcript(it)[0])
+        if smaller != {"nodes": 2, "words": 1, "commands": [["close", "0>1"], ["settle", LEAST_SETTLE], ["get", "1>0"]]}:
+            faults.append(f"shrink: {smaller}")
+        passing = call("shrink.py", str(script), "--", "true")
+        if passing.returncode != 1 or "no script on which the command fails" not in passing.stderr:
+            faults.append(f"shrink of what passes: status {passing.returncode}, {passing.stderr[-200:]}")
+    return faults
+
+
 def titles(page: pathlib.Path) -> list[str]:
     """What the parts of a page are called: its headings, and what stands in bold."""
     return [one or other for one, other in re.findall(r"^#+ (.*)$|\*\*(.+?)\.?\*\*", page.read_text(), re.MULTILINE)]
@@ -130,7 +152,7 @@ def faults_of_quotes() -> list[str]:
 def main() -> None:
     asked.parser(__doc__).parse_args()
     tools = sorted(path.stem for path in HERE.glob("*.py") if path.stem not in SHARED)
-    faults = [fault for tool in tools for fault in faults_of(tool)] + faults_of_a_missing_program() + faults_of_ready() + faults_of_the_model() + faults_of_readme() + faults_of_links() + faults_of_quotes()
+    faults = [fault for tool in tools for fault in faults_of(tool)] + faults_of_a_missing_program() + faults_of_ready() + faults_of_the_model() + faults_of_readme() + faults_of_links() + faults_of_quotes() + faults_of_cases()
     if faults:
         sys.exit("\n".join(faults))
 
