@@ -1,5 +1,6 @@
 """Tests the tools themselves: what they say to whoever calls them wrongly, and that the model writes the stored transcript. And whether each
-link of a page, and each part of a page that a page or a comment names, is there; and what a page shows as out of a file stands in it.
+link of a page, and each part of a page that a page or a comment names, is there; what a page shows as out of a file stands in it; and the
+scripts that a page shows print, by the model, what stands beneath them.
 
     python3 tools/test_tools.py    prints what is otherwise, and fails if there is something
 
@@ -13,6 +14,7 @@ import sys
 import asked
 import model
 import ready
+import try_pages
 from asked import TOP
 
 HERE = pathlib.Path(__file__).resolve().parent
@@ -23,7 +25,7 @@ NAMED = re.compile(r'([A-Z_]+)\.md\)?,\s+(?:(?://[/!]?|--|#)\s+)?"([^"]+)"(?: an
 # What a page shows as out of a file.
 QUOTED = re.compile(r"^<!-- out of (\S+) -->\n```\w*\n(.*?)^```$", re.MULTILINE | re.DOTALL)
 # Tools that run a program which is given to them.
-OF_A_PROGRAM = ("benchmark", "compare_with_model", "refuse_growth", "soak")
+OF_A_PROGRAM = ("benchmark", "compare_with_model", "refuse_growth", "soak", "try_pages")
 # What the model answers of bytes that are no script, or barely one, by docs/PROTOCOL.md, "The script".
 SCRIPT = b'{"nodes":1,"words":1,"commands":[["put","x",%s]]}'
 TEXTS = {
@@ -122,7 +124,7 @@ def faults_of_quotes() -> list[str]:
     faults = []
     for page in [TOP / "README.md", *sorted((TOP / "docs").glob("*.md"))]:
         for name, shown in QUOTED.findall(page.read_text()):
-            if not (TOP / name).is_file() or f"\n{shown}" not in (TOP / name).read_text():
+            if not (TOP / name).is_file() or f"\n{shown}" not in "\n" + (TOP / name).read_text():
                 faults.append(f"{page.name}: what it shows as out of {name} doesn't stand there: {shown.splitlines()[0]}")
     return faults
 
@@ -130,7 +132,9 @@ def faults_of_quotes() -> list[str]:
 def main() -> None:
     asked.parser(__doc__).parse_args()
     tools = sorted(path.stem for path in HERE.glob("*.py") if path.stem not in SHARED)
-    faults = [fault for tool in tools for fault in faults_of(tool)] + faults_of_a_missing_program() + faults_of_ready() + faults_of_the_model() + faults_of_readme() + faults_of_links() + faults_of_quotes()
+    faults = [fault for tool in tools for fault in faults_of(tool)]
+    faults += faults_of_a_missing_program() + faults_of_ready() + faults_of_the_model()
+    faults += faults_of_readme() + faults_of_links() + faults_of_quotes() + try_pages.faults(try_pages.by_model)
     if faults:
         sys.exit("\n".join(faults))
 
