@@ -1,6 +1,7 @@
 """Tests the tools themselves: what they say to whoever calls them wrongly, and that the model writes the stored transcript. And whether each
 link of a page, and each part of a page that a page or a comment names, is there; what a page shows as out of a file stands in it; and the
-scripts that a page shows print, by the model, what stands beneath them, and those of docs/TOUR.md what a turned model prints.
+scripts that a page shows print, by the model, what stands beneath them, and those of docs/TOUR.md what a turned model prints; docs/reference is
+what the sources say.
 
     python3 tools/test_tools.py    prints what is otherwise, and fails if there is something
 
@@ -12,6 +13,7 @@ import subprocess
 import sys
 
 import asked
+import make_reference
 import model
 import ready
 import tour
@@ -106,7 +108,7 @@ def titles(page: pathlib.Path) -> list[str]:
 
 
 def faults_of_links() -> list[str]:
-    pages = [*sorted(TOP.glob("*.md")), *sorted((TOP / "docs").glob("*.md"))]
+    pages = [*sorted(TOP.glob("*.md")), *sorted((TOP / "docs").rglob("*.md"))]
     code = [path for folder in ("crates", "callers", "include", "tools") for path in (TOP / folder).rglob("*") if "out" not in path.parts and path.is_file()]
     named = {page.stem: titles(page) for page in pages}
     faults = []
@@ -135,7 +137,8 @@ def main() -> None:
     tools = sorted(path.stem for path in HERE.glob("*.py") if path.stem not in SHARED)
     faults = [fault for tool in tools for fault in faults_of(tool)]
     faults += faults_of_a_missing_program() + faults_of_ready() + faults_of_the_model()
-    faults += faults_of_readme() + faults_of_links() + faults_of_quotes() + try_pages.faults(try_pages.by_model) + tour.faults()
+    faults += faults_of_readme() + faults_of_links() + faults_of_quotes()
+    faults += try_pages.faults(try_pages.by_model) + tour.faults() + make_reference.faults()
     if faults:
         sys.exit("\n".join(faults))
 
