@@ -1,7 +1,7 @@
 """Tests the tools themselves: what they say to whoever calls them wrongly, and that the model writes the stored transcript. And whether each
 link of a page, and each part of a page that a page or a comment names, is there; what a page shows as out of a file stands in it; and the
 scripts that a page shows print, by the model, what stands beneath them, and those of docs/TOUR.md what a turned model prints; docs/reference
-and docs/theorem.html are what the sources say.
+and docs/theorem.html are what the sources say, and docs/SIZES.md is so nearly.
 
     python3 tools/test_tools.py    prints what is otherwise, and fails if there is something
 
@@ -13,6 +13,7 @@ import subprocess
 import sys
 
 import asked
+import count_sizes
 import make_reference
 import make_theorem
 import model
@@ -139,7 +140,7 @@ def main() -> None:
     faults = [fault for tool in tools for fault in faults_of(tool)]
     faults += faults_of_a_missing_program() + faults_of_ready() + faults_of_the_model()
     faults += faults_of_readme() + faults_of_links() + faults_of_quotes()
-    faults += try_pages.faults(try_pages.by_model) + tour.faults() + make_reference.faults() + make_theorem.faults()
+    faults += try_pages.faults(try_pages.by_model) + tour.faults() + make_reference.faults() + make_theorem.faults() + count_sizes.faults()
     if faults:
         sys.exit("\n".join(faults))
 
