@@ -1,7 +1,8 @@
 """Tests the tools themselves: what they say to whoever calls them wrongly, and that the model writes the stored transcript. And whether each
 link of a page, and each part of a page that a page or a comment names, is there; what a page shows as out of a file stands in it; and the
 scripts that a page shows print, by the model, what stands beneath them, and those of docs/TOUR.md what a turned model prints; docs/reference
-and docs/theorem.html are what the sources say, and docs/SIZES.md is so nearly.
+and docs/theorem.html are what the sources say, and docs/SIZES.md is so nearly; the table of what is
+taken as given counts docs/trusted.txt, and no crate has an axiom of its own.
 
     python3 tools/test_tools.py    prints what is otherwise, and fails if there is something
 
@@ -19,6 +20,7 @@ import make_theorem
 import model
 import ready
 import tour
+import trusted
 import try_pages
 from asked import TOP
 
@@ -140,7 +142,7 @@ def main() -> None:
     faults = [fault for tool in tools for fault in faults_of(tool)]
     faults += faults_of_a_missing_program() + faults_of_ready() + faults_of_the_model()
     faults += faults_of_readme() + faults_of_links() + faults_of_quotes()
-    faults += try_pages.faults(try_pages.by_model) + tour.faults() + make_reference.faults() + make_theorem.faults() + count_sizes.faults()
+    faults += try_pages.faults(try_pages.by_model) + tour.faults() + make_reference.faults() + make_theorem.faults() + count_sizes.faults() + trusted.faults()
     if faults:
         sys.exit("\n".join(faults))
 
