@@ -23,7 +23,7 @@ from list_statements import START, Key, closure, definitions, imports
 PAGE = TOP / "docs/theorem.html"
 ROOTS = {
     "The promise": ("ipcz_promise/specs/Promise.antt", "What a caller of the library may rely on: a plain machine, in which nodes, routes and messages don’t occur."),
-    "The theorem": ("ipcz_world/specs/Theorem.antt", "What holds of the nodes inside, after any list of steps. The promise is proved from it."),
+    "The theorem": ("ipcz_world/specs/Theorem.antt", "What holds of the nodes inside, after any list of steps."),
 }
 SIGNS = [
     ("f x y", "the call f(x, y)"), ("A → B", "a function from A to B; of facts, “if A then B”"), ("(x : T) → P", "for each x of T, P"),
@@ -39,7 +39,7 @@ STYLE = """
 body { background: var(--ground); color: var(--ink); font: 15px/1.5 system-ui, sans-serif; margin: 2rem auto; max-width: 90rem; padding: 0 1rem }
 h2 { border-top: 1px solid var(--line); padding-top: 1rem } h3 { font-size: 1rem; margin: 1.5rem 0 .3rem } a { color: var(--link); text-decoration: none } a:hover { text-decoration: underline }
 .row { display: grid; grid-template-columns: minmax(14rem, 2fr) 5fr; gap: 1.2rem; border-top: 1px solid var(--line); padding: .4rem 0 }
-.row p { margin: 0; color: var(--dim); font-size: .92rem } .alone { max-width: 60rem; padding: .4rem 0 } code { font: 13px ui-monospace, Menlo, Consolas, monospace } pre { margin: 0; background: var(--code); padding: .3rem .6rem; overflow-x: auto; font: 13px/1.5 ui-monospace, Menlo, Consolas, monospace }
+.row p { margin: 0; color: var(--dim); font-size: .92rem } .alone { max-width: 60rem; padding: .4rem 0 } code { font: 13px ui-monospace, Menlo, Consolas, monospace } pre { margin: 0; background: var(--code); padding: .3rem .6rem; overflow-x: auto; white-space: pre-wrap; font: 13px/1.5 ui-monospace, Menlo, Consolas, monospace }
 .row:target { background: var(--lit) } td { padding: .1rem 1.2rem .1rem 0; vertical-align: top } td:first-child { font-family: ui-monospace, Menlo, Consolas, monospace; white-space: nowrap }
 @media (max-width: 50rem) { .row { grid-template-columns: 1fr } }
 """
