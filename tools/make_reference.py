@@ -1,11 +1,12 @@
-"""Makes the pages of docs/reference: each public call of worlds, cells, hubs and portals, and of the header for C.
+"""Makes the pages of docs/reference: each public call of worlds, cells, hubs and portals, of the promise, and of the header for C.
 
     python3 tools/make_reference.py            compares the pages with what is there; prints what differs, and fails if something does
     python3 tools/make_reference.py --write    writes them
 
 Of a call the page has its signature with what it requires, its doc comment, the refusals in their order, the names of its clauses, and a line of code
 that calls it and is proved or run by the gate. All of it is read out of the sources, but for when a refusal of a call in Rattle is answered,
-which tools/data/refusals.json says. A call that may be refused and isn't in that file is a fault, and so is a name there that no call has.
+which tools/data/refusals.json says. A call that may be refused, of which neither that file nor its own comment says why, is a fault, and so is a name there
+that no call has.
 """
 from __future__ import annotations
 
@@ -28,7 +29,7 @@ FOLDER = TOP / "docs/reference"
 REFUSALS = TOP / "tools/data/refusals.json"
 HEADER = TOP / "include/ipcz_portals.h"
 # Where a call is looked for that may stand as an example: what a reader may take over comes first.
-CALLERS = ("ipcz_example", "ipcz_example_threads", "ipcz_world_tests", "ipcz_fabric_tests", "ipcz_faults", "ipcz_threads", "ipcz_bench", "ipcz_bench_threads", "ipcz_fabric")
+CALLERS = ("ipcz_example", "ipcz_example_threads", "ipcz_promise_tests", "ipcz_world_tests", "ipcz_fabric_tests", "ipcz_faults", "ipcz_threads", "ipcz_bench", "ipcz_bench_threads", "ipcz_fabric")
 C_CALLERS = ("hello.c", "travels.c", "own_nodes.c", "cells.c", "sleeping.c", "two_threads.c")
 FUNCTION = re.compile(r"^(?P<indent> *)pub fn (?P<name>\w+)", re.MULTILINE)
 BLOCK = re.compile(r"^impl(?:<[^>]*>)? (?P<type>\w+)(?:<[^>]*>)? \{", re.MULTILINE)
@@ -43,6 +44,13 @@ class Section:
     owner: str
     files: list[str]
     receiver: str
+    # what stands before a call's name, if not its owner
+    crate: str = ""
+
+    def key(self, name: str) -> str:
+        """The name of a call as pages and tools/data/refusals.json have it."""
+        before = self.owner or self.crate
+        return f"{before}::{name}" if before else name
 
 
 @dataclasses.dataclass
@@ -55,6 +63,9 @@ class Page:
 
 CELL_FILES = [f"ipcz_cell/src/{it}.rt" for it in ("cell", "acts", "turns", "opens", "quiet", "waits", "holds", "sizes", "ending", "mail", "words")]
 PAGES = [
+    Page("PROMISE", "The promise", "A world by calls of which a caller has to believe one page only, [Promise.antt](../../crates/ipcz_promise/specs/Promise.antt). `ipcz_promise`.", [
+        Section("Calls", "", "", ["ipcz_promise/src/calls.rt"], r"", "ipcz_promise"),
+    ]),
     Page("WORLD", "A world", "All nodes behind one value, for one thread. `ipcz_world`, with the types of `ipcz_node` and `ipcz_base`.", [
         Section("World", "", "World", ["ipcz_world/src/world.rt"], r"\bworld"),
     ]),
@@ -148,7 +159,7 @@ def call_lines(section: Section, path: pathlib.Path, text: str, found: re.Match[
             is_kept = "requires" in line
         if is_kept:
             kept.append(line.rstrip())
-    key = f"{section.owner}::{found['name']}" if section.owner else found["name"]
+    key = section.key(found["name"])
     lines = [f"### {key}", "", "```rust", *kept, "```", "", doc_above(text, found.start()), *when_refused(key)]
     called = rf"(?:{section.receiver}\.|\b{section.owner}(?:::<[^>]*>)?::)" if section.owner else r"(?<![\w.])"
     pattern = rf"{called}{found['name']}(?:::<[^>]*>+)?\("
@@ -220,10 +231,10 @@ def header_page() -> str:
 
 def index_page() -> str:
     """Which page has what, and which calls answer each refusal."""
-    lines = ["# Reference", "", "Each public call of worlds, cells, hubs and portals, and of the header for C: what it does, when it is refused, and a line of code that calls it.",
+    lines = ["# Reference", "", "Each public call of worlds, cells, hubs and portals, of the promise, and of the header for C: what it does, when it is refused, and a line of code that calls it.",
              "These pages are made by `tools/make_reference.py` out of the sources, and the gate tests that they are what it makes.", "", "| page | calls |", "|---|---|"]
     for page in PAGES:
-        names = [f"`{section.owner + '::' if section.owner else ''}{found['name']}`" for section in page.sections for _, _, found in calls_of(section)]
+        names = [f"`{section.key(found['name'])}`" for section in page.sections for _, _, found in calls_of(section)]
         lines.append(f"| [{page.title}]({page.name}.md) | {', '.join(names)} |")
     in_c = ", ".join(f"`{it['name']}`" for it in C_CALL.finditer(HEADER.read_text()))
     lines += [f"| [The header for C](HEADER.md) | {in_c} |", "", "## Which calls answer which refusal", "", "| refusal | calls in Rattle |", "|---|---|"]
@@ -243,16 +254,16 @@ def pages() -> dict[pathlib.Path, str]:
 def faults() -> list[str]:
     """What isn't as it must be: pages, and what tools/data/refusals.json says of calls."""
     found = []
-    refusable, every = set(), set()
+    refusable, told, names = set[str](), set[str](), set(refusal_names())
     for page in PAGES:
         for section in page.sections:
             for _, text, it in calls_of(section):
-                key = f"{section.owner}::{it['name']}" if section.owner else it["name"]
-                every.add(key)
+                key = section.key(it["name"])
                 if is_refusable(head_of(text, it.start())[0]):
                     refusable.add(key)
-    calls, names = refusals()["calls"], set(refusal_names())
-    found += [f"refusals.json: {key} may be refused, and isn't there" for key in sorted(refusable - calls.keys())]
+                    told.update({key} if set(re.findall(r"`(\w+)`", doc_above(text, it.start()))) & names else ())
+    calls = refusals()["calls"]
+    found += [f"{key} may be refused, and neither its comment nor refusals.json says why" for key in sorted(refusable - calls.keys() - told)]
     found += [f"refusals.json: there is no call {key} that may be refused" for key in sorted(calls.keys() - refusable)]
     rows = [*refusals()["kinds"].values(), *(it for it in calls.values() if isinstance(it, list))]
     found += [f"refusals.json: there is no refusal {name}" for row in rows for name, _ in row if name not in names]
