@@ -27,7 +27,8 @@ from asked import TOP
 from find_unused_imports import GHOST_USE, TOKEN, USE, end_of_group, names_of, without_comments
 
 PAGE = TOP / "docs/statements.txt"
-FUNCTION = re.compile(r"^(?P<indent> *)(?P<public>pub )?(?:const |unsafe |extern \"C\" )*fn (?P<name>\w+)", re.M)
+# (the text of an ABI is blanked with the other literals)
+FUNCTION = re.compile(r"^(?P<indent> *)(?P<public>pub )?(?:const |unsafe |extern +)*fn (?P<name>\w+)", re.M)
 CLAUSE = re.compile(r"\b(?:requires|ensures)\b\*?\s*(?P<word>\w*)\s*$|\bghost \w+:\s*$")
 OPENS = re.compile(r"[\[{;]")
 BLOCK = re.compile(r"^(?:pub )?(?P<kind>impl|trait)\b(?P<head>[^{]*)\{", re.M)

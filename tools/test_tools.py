@@ -1,5 +1,8 @@
 """Tests the tools themselves: what they say to whoever calls them wrongly, and that the model writes the stored transcript. And whether each
-link of a page, and each part of a page that a page or a comment names, is there; and what a page shows as out of a file stands in it.
+link of a page, and each part of a page that a page or a comment names, is there; what a page shows as out of a file stands in it; and the
+scripts that a page shows print, by the model, what stands beneath them, and those of docs/TOUR.md what a turned model prints; docs/reference
+and docs/theorem.html are what the sources say, and docs/SIZES.md is so nearly; the table of what is
+taken as given counts docs/trusted.txt, and no crate has an axiom of its own.
 
     python3 tools/test_tools.py    prints what is otherwise, and fails if there is something
 
@@ -12,9 +15,15 @@ import sys
 import tempfile
 
 import asked
+import count_sizes
+import make_reference
+import make_theorem
 import model
 import ready
 import shrink
+import tour
+import trusted
+import try_pages
 from asked import TOP
 
 HERE = pathlib.Path(__file__).resolve().parent
@@ -25,7 +34,7 @@ NAMED = re.compile(r'([A-Z_]+)\.md\)?,\s+(?:(?://[/!]?|--|#)\s+)?"([^"]+)"(?: an
 # What a page shows as out of a file.
 QUOTED = re.compile(r"^<!-- out of (\S+) -->\n```\w*\n(.*?)^```$", re.MULTILINE | re.DOTALL)
 # Tools that run a program which is given to them.
-OF_A_PROGRAM = ("benchmark", "compare_with_model", "refuse_growth", "soak")
+OF_A_PROGRAM = ("benchmark", "compare_with_model", "refuse_growth", "soak", "try_pages")
 # What the model answers of bytes that are no script, or barely one, by docs/PROTOCOL.md, "The script".
 SCRIPT = b'{"nodes":1,"words":1,"commands":[["put","x",%s]]}'
 TEXTS = {
@@ -126,7 +135,7 @@ def titles(page: pathlib.Path) -> list[str]:
 
 
 def faults_of_links() -> list[str]:
-    pages = [*sorted(TOP.glob("*.md")), *sorted((TOP / "docs").glob("*.md"))]
+    pages = [*sorted(TOP.glob("*.md")), *sorted((TOP / "docs").rglob("*.md"))]
     code = [path for folder in ("crates", "callers", "include", "tools") for path in (TOP / folder).rglob("*") if "out" not in path.parts and path.is_file()]
     named = {page.stem: titles(page) for page in pages}
     faults = []
@@ -145,7 +154,7 @@ def faults_of_quotes() -> list[str]:
     faults = []
     for page in [TOP / "README.md", *sorted((TOP / "docs").glob("*.md"))]:
         for name, shown in QUOTED.findall(page.read_text()):
-            if not (TOP / name).is_file() or f"\n{shown}" not in (TOP / name).read_text():
+            if not (TOP / name).is_file() or f"\n{shown}" not in "\n" + (TOP / name).read_text():
                 faults.append(f"{page.name}: what it shows as out of {name} doesn't stand there: {shown.splitlines()[0]}")
     return faults
 
@@ -153,7 +162,10 @@ def faults_of_quotes() -> list[str]:
 def main() -> None:
     asked.parser(__doc__).parse_args()
     tools = sorted(path.stem for path in HERE.glob("*.py") if path.stem not in SHARED)
-    faults = [fault for tool in tools for fault in faults_of(tool)] + faults_of_a_missing_program() + faults_of_ready() + faults_of_the_model() + faults_of_readme() + faults_of_links() + faults_of_quotes() + faults_of_cases()
+    faults = [fault for tool in tools for fault in faults_of(tool)]
+    faults += faults_of_a_missing_program() + faults_of_ready() + faults_of_the_model()
+    faults += faults_of_readme() + faults_of_links() + faults_of_quotes() + faults_of_cases()
+    faults += try_pages.faults(try_pages.by_model) + tour.faults() + make_reference.faults() + make_theorem.faults() + count_sizes.faults() + trusted.faults()
     if faults:
         sys.exit("\n".join(faults))
 

@@ -7,7 +7,8 @@
 The library is installed in a folder of its own by `tools/install_c.py`, this is moved and has a name with a space, and each caller is built
 from there, by the flags that pkg-config tells; one in C by CMake, too, which finds the package. What a caller of `callers/c` and `callers/cpp` prints is compared with the file beside it that ends in `.out`. It runs again under
 valgrind, which must find no error, and no memory that isn't freed, and one with a mutex under helgrind, which must find no race (it takes no
-account of atomic steps, and only these order the calls on two cells). The tests of `callers/rust` and of `callers/go` are run. A caller whose
+account of atomic steps, and only these order the calls on two cells). The tests of `callers/rust` and of `callers/go` are run, and so is what
+stands in `callers/rust/examples`. A caller whose
 compiler isn't on the machine is left out. The statuses of the header must be those of `Refusal`, the crate and CHANGELOG.md must have the header's version, and docs/C.md and README must
 show these callers.
 """
@@ -130,6 +131,10 @@ class Callers:
         env = {"CARGO_TARGET_DIR": f"{self.prefix}/cargo", "RUSTFLAGS": "-D warnings"}
         folder = {"PKG_CONFIG_PATH": f"{self.prefix}/lib/pkgconfig"} if self.has("pkg-config") else {"IPCZ_LIB": f"{self.prefix}/lib"}
         self.run("callers/rust", ["cargo", "test", "--offline", "--quiet"], {**env, **folder}, CALLERS / "rust")
+        for source in sorted((CALLERS / "rust/examples").glob("*.rs")):
+            what = str(source.relative_to(TOP))
+            command = ["cargo", "run", "--offline", "--quiet", "--example", source.stem]
+            self.compare(what, self.run(what, command, {**env, **folder}, CALLERS / "rust"), source.with_suffix(".out"))
         nowhere = {**os.environ, **env, "IPCZ_LIB": f"{self.prefix}/nowhere"}
         done = subprocess.run(["cargo", "build", "--offline", "--quiet"], env=nowhere, cwd=CALLERS / "rust", capture_output=True, text=True)
         if done.returncode == 0 or "there is no libipcz_portals.a in" not in done.stderr:
