@@ -89,7 +89,7 @@ impl Outline {
             Wrong::NoObject | Wrong::Missing(_) => Ok(self.whole),
             Wrong::Member(key) => { Ok(value_of(text, &self.members, key).unwrap_or(self.whole)) }
             Wrong::Extra => Ok(first_extra(text, &self.members).unwrap_or(self.whole)),
-            Wrong::NoList | Wrong::NoWord | Wrong::Number(_) => Ok(command),
+            Wrong::NoList | Wrong::NoWord | Wrong::Number { .. } => Ok(command),
             Wrong::UnknownWord => item_of(alloc, text, command, 0),
             Wrong::Value { place, .. } => item_of(alloc, text, command, place),
             Wrong::Item { place } => {

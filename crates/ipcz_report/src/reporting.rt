@@ -11,9 +11,9 @@ use crate::outline::{Outline, outline_of};
 use crate::remark::{Remark, push_remarks};
 use crate::telling::push_command;
 use crate::verdict::Verdict;
-use crate::words::{Bounds, push_wrong};
+use crate::words::{Bounds, push_spelling, push_wrong};
 use crate::wrong::Fault;
-use ipcz_places::push_excerpt;
+use ipcz_places::{excerpt, push_excerpt};
 use ipcz_script::{Command, OpenedNames, Script, ScriptFault, read_script};
 use serde_json::Value;
 use std::alloc::{AllocError, Global};
@@ -131,7 +131,10 @@ fn told_fault(
     let mut shown = Vec::new(alloc);
     push_excerpt(&mut shown, input, offset)?;
     let mut words = Vec::new(alloc);
-    let Ok(()) = push_wrong(&mut words, bounds, &shown, fault.wrong) else {
+    let (Ok(()), Ok(())) = (
+        push_wrong(&mut words, bounds, &shown, fault.wrong),
+        push_spelling(&mut words, fault.wrong, excerpt(input, offset)),
+    ) else {
         return Err(AllocError);
     };
     Ok(Remark {

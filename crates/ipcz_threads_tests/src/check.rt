@@ -163,7 +163,7 @@ fn tells_where_bytes_are_no_json(rt: HostRuntime) {
     assert!(rt; says(rt.alloc(), no_character, 2, words));
 }
 
-const NO_HEAD: [(&str, &str); 8] = [
+const NO_HEAD: [(&str, &str); 9] = [
     (
         "[]",
         "line 1, column 1: the script is no object; expected one with the members nodes, words and commands\n",
@@ -193,6 +193,10 @@ const NO_HEAD: [(&str, &str); 8] = [
         "line 2, column 1: unknown member \"note\"; expected nodes, words and commands only\n",
     ),
     (
+        "{\"nodes\":2.0,\"words\":1e3,\"commands\":[]}",
+        "line 1, column 10: nodes is 2.0; expected a number from 1 to 8 without sign, point or exponent\nline 1, column 22: words is 1e3; expected a number from 0 to 4096 without sign, point or exponent\n",
+    ),
+    (
         "{\"nodes\":2,\"nodes\":9,\"words\":1,\"commands\":[]}",
         "line 1, column 20: nodes is 9; expected a number from 1 to 8\n",
     ),
@@ -203,10 +207,10 @@ fn tells_what_is_wrong_with_members(rt: HostRuntime) {
     assert_eq!(rt; first_other(rt.alloc(), &NO_HEAD, 2), None);
 }
 
-const NO_COMMANDS: [(&str, &str); 10] = [
+const NO_COMMANDS: [(&str, &str); 11] = [
     (
         "{\"nodes\":2,\"words\":4,\"commands\":[[\"put\",\"x\"]]}",
-        "line 1, column 34: command 1: too few or too many values behind put; expected [\"put\", \"name\", \"data\"] or [\"put\", \"name\", \"data\", [\"name\", ..]]\n",
+        "line 1, column 34: command 1: 1 value stands behind put; expected 2 or 3, as in [\"put\", \"name\", \"data\"] or [\"put\", \"name\", \"data\", [\"name\", ..]]\n",
     ),
     (
         "{\"nodes\":2,\"words\":4,\"commands\":[[\"show\"],\n  [\"putt\",\"x\",\"y\"]]}",
@@ -214,11 +218,15 @@ const NO_COMMANDS: [(&str, &str); 10] = [
     ),
     (
         "{\"nodes\":2,\"words\":4,\"commands\":[[\"settle\"],[\"show\",1],[\"turn\",0],[\"get\"],[\"close\",\"x\",\"y\"],[\"open\",0,\"x\"]]}",
-        "line 1, column 34: command 1: too few or too many values behind settle; expected [\"settle\", limit]\nline 1, column 45: command 2: too few or too many values behind show; expected [\"show\"]\nline 1, column 56: command 3: too few or too many values behind turn; expected [\"turn\", node, count]\nline 1, column 67: command 4: too few or too many values behind get; expected [\"get\", \"name\"]\nline 1, column 75: command 5: too few or too many values behind close; expected [\"close\", \"name\"]\nline 1, column 93: command 6: too few or too many values behind open; expected [\"open\", node, \"name\", \"name\"]\n",
+        "line 1, column 34: command 1: no value stands behind settle; expected 1, as in [\"settle\", limit]\nline 1, column 45: command 2: 1 value stands behind show; expected none, as in [\"show\"]\nline 1, column 56: command 3: 1 value stands behind turn; expected 2, as in [\"turn\", node, count]\nline 1, column 67: command 4: no value stands behind get; expected 1, as in [\"get\", \"name\"]\nline 1, column 75: command 5: 2 values stand behind close; expected 1, as in [\"close\", \"name\"]\nline 1, column 93: command 6: 2 values stand behind open; expected 3, as in [\"open\", node, \"name\", \"name\"]\n",
     ),
     (
         "{\"nodes\":2,\"words\":4,\"commands\":[[\"open\",2,\"x\",\"y\"],[\"turn\",-1,5],[\"turn\",0,0],[\"settle\",1000001],[\"turn\",0.0,1]]}",
-        "line 1, column 42: command 1: 2 is no node; expected a number from 0 to 1\nline 1, column 61: command 2: -1 is no node; expected a number from 0 to 1\nline 1, column 77: command 3: 0 is no count of turns; expected a number from 1 to 1000000\nline 1, column 90: command 4: 1000001 is no limit; expected a number from 0 to 1000000\nline 1, column 107: command 5: 0.0 is no node; expected a number from 0 to 1\n",
+        "line 1, column 42: command 1: 2 is no node; expected a number from 0 to 1\nline 1, column 61: command 2: -1 is no node; expected a number from 0 to 1 without sign, point or exponent\nline 1, column 77: command 3: 0 is no count of turns; expected a number from 1 to 1000000\nline 1, column 90: command 4: 1000001 is no limit; expected a number from 0 to 1000000\nline 1, column 107: command 5: 0.0 is no node; expected a number from 0 to 1 without sign, point or exponent\n",
+    ),
+    (
+        "{\"nodes\":2,\"words\":4,\"commands\":[[\"settle\",100.0],[\"turn\",0,1E2],[\"settle\",\"2.0\"],[\"get\",-1],[\"settle\",11111111112222222222333333333344444444445]]}",
+        "line 1, column 44: command 1: 100.0 is no limit; expected a number from 0 to 1000000 without sign, point or exponent\nline 1, column 61: command 2: 1E2 is no count of turns; expected a number from 1 to 1000000 without sign, point or exponent\nline 1, column 76: command 3: \"2.0\" is no limit; expected a number from 0 to 1000000\nline 1, column 90: command 4: -1 is no name; expected 1 to 16 letters, digits, _ or > in quotes\nline 1, column 104: command 5: 1111111111222222222233333333334444444444.. is no limit; expected a number from 0 to 1000000\n",
     ),
     (
         "{\"nodes\":2,\"words\":4,\"commands\":[[\"open\",0,\"a-b\",\"y\"],[\"open\",0,\"x\",\"abcdefghijklmnopq\"],[\"get\",\"\"],[\"close\",7]]}",
