@@ -1,5 +1,6 @@
 pub mod Faults
 pub mod Judging
+pub mod Notes
 pub mod Outputs
 pub mod Remarks
 pub mod Reports

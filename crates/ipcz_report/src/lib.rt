@@ -2,6 +2,7 @@
 //! for its arguments and devices.
 #![tactic(auto)]
 
+mod again;
 mod faults;
 mod judging;
 mod no_json;

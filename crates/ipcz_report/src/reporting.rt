@@ -1,10 +1,14 @@
 //! What is written of some bytes.
 
-ghost use Rattle.std.specs.Prelude.{◌≡◌, ◌≤◌, ◌++◌, length, map, Err, IfOk, OnOk};
+ghost use Rattle.std.specs.Prelude.{◌≡◌, ◌≤◌, ◌++◌, List, ℕ, length, map, Err, IfOk, OnOk};
+ghost use Rattle.std.specs.List.{All};
+ghost use Rattle.ipcz_places.specs.Values.{MembersBegin};
 ghost use Rattle.ipcz_script.specs.Reading.{IsAnswer, IsScript, max_bytes};
 ghost use Rattle.ipcz_script.specs.declared.script_fault.ScriptFault.TheVariants as faults;
+ghost use Rattle.ipcz_report.specs.Notes.{AreNotes};
 ghost use Rattle.ipcz_report.specs.Reports.{long_text, numbers, valid_line, IsJsonText, IsRefusedText, IsReport, IsShapeText, IsValidText, TellsAll};
 
+use crate::again::notes;
 use crate::faults::{faults_of, least_words, nodes_in};
 use crate::no_json::json_remark;
 use crate::outline::{Outline, outline_of};
@@ -19,6 +23,22 @@ use serde_json::Value;
 use std::alloc::{AllocError, Global};
 use std::io;
 use std::io::Write;
+
+// ---- members that stand again
+
+// Adds the lines of the remarks on members whose names stand again behind them.
+fn push_notes(
+    alloc: Global,
+    out: &mut Vec<u8>,
+    input: &[u8],
+    parts: &Outline,
+) -> Result<(), AllocError>
+    requires members { All (MembersBegin input.now) parts.now.members.items }
+    ensures notes { OnOk result ((lines : List ℕ) × AreNotes input.now lines × (out.new.items ≡ out.old.items ++ lines)) }
+{
+    let notes = notes(alloc, input, parts.members())?;
+    push_remarks(out, input, &notes)
+}
 
 // ---- a script
 
@@ -80,6 +100,7 @@ fn valid_text(alloc: Global, input: &[u8], script: &Script) -> Result<Vec<u8>, A
     let remarks = told_commands(alloc, script.nodes, &parts, script.commands.as_slice())?;
     let mut text = Vec::new(alloc);
     push_remarks(&mut text, input, &remarks)?;
+    push_notes(alloc, &mut text, input, &parts)?;
     let Ok(()) = push_valid(&mut text, script.nodes, script.words, script.commands.len()) else {
         return Err(AllocError);
     };
@@ -148,15 +169,15 @@ fn told_fault(
 fn told_faults(
     alloc: Global,
     input: &[u8],
+    parts: &Outline,
     bounds: Bounds,
     faults: &[Fault],
 ) -> Result<Vec<Remark>, AllocError>
     ensures { IfOk result (λ remarks. TellsAll faults.now remarks.items) }
 {
-    let parts = outline_of(alloc, input)?;
     let mut remarks = Vec::new(alloc);
     for fault in faults {
-        remarks.push(told_fault(alloc, input, &parts, bounds, *fault)?)?;
+        remarks.push(told_fault(alloc, input, parts, bounds, *fault)?)?;
     }
     Ok(remarks)
 }
@@ -177,9 +198,11 @@ fn shape_text(alloc: Global, input: &[u8], first: u32) -> Result<Vec<u8>, AllocE
         return Err(AllocError);
     };
     let faults = faults_of(alloc, &value)?;
-    let remarks = told_faults(alloc, input, bounds_of(&value), &faults)?;
+    let parts = outline_of(alloc, input)?;
+    let remarks = told_faults(alloc, input, &parts, bounds_of(&value), &faults)?;
     let mut text = Vec::new(alloc);
     push_remarks(&mut text, input, &remarks)?;
+    push_notes(alloc, &mut text, input, &parts)?;
     Ok(text)
 }
 

@@ -198,7 +198,7 @@ const NO_HEAD: [(&str, &str); 9] = [
     ),
     (
         "{\"nodes\":2,\"nodes\":9,\"words\":1,\"commands\":[]}",
-        "line 1, column 20: nodes is 9; expected a number from 1 to 8\n",
+        "line 1, column 20: nodes is 9; expected a number from 1 to 8\nline 1, column 2: nodes stands again behind this; the last one counts\n",
     ),
 ];
 
@@ -259,7 +259,7 @@ fn tells_what_is_wrong_with_commands(rt: HostRuntime) {
     assert_eq!(rt; first_other(rt.alloc(), &NO_COMMANDS, 2), None);
 }
 
-const SCRIPTS: [(&str, &str); 2] = [
+const SCRIPTS: [(&str, &str); 3] = [
     (
         "{\"nodes\":2,\"words\":4,\"commands\":[[\"open\",0,\"left\",\"right\"],[\"put\",\"left\",\"hello\"],\n[\"put\",\"0>1\",\"\",[\"right\",\"x\"]],[\"settle\",100],[\"get\",\"1>0\"],[\"get\",\"nobody\"],[\"close\",\"0>2\"],[\"turn\",1,5],[\"show\"]]}",
         "line 1, column 34: command 1: opens the pair left and right on node 0\nline 1, column 60: command 2: puts a parcel of length 5 at left\nline 2, column 1: command 3: puts a parcel of length 0 at 0>1 with the portals right, x; no command before it opens x\nline 2, column 32: command 4: lets all nodes act until they rest, at most 100 times\nline 2, column 47: command 5: gets the next parcel at 1>0\nline 2, column 61: command 6: gets the next parcel at nobody; no command before it opens nobody\nline 2, column 78: command 7: closes 0>2; no command before it opens 0>2\nline 2, column 94: command 8: lets node 1 take turns, at most 5\nline 2, column 107: command 9: prints the link words\nvalid: nodes 2, words 4, commands 9\n",
@@ -267,6 +267,10 @@ const SCRIPTS: [(&str, &str); 2] = [
     (
         " {\"commands\":[],\n\"words\":0,\"nodes\":1}",
         "valid: nodes 1, words 0, commands 0\n",
+    ),
+    (
+        "{\"nodes\":2,\"nodes\":3,\"words\":9,\"commands\":[],\n\"nodes\":4,\"words\":10,\"commands\":[[\"show\"]]}",
+        "line 2, column 34: command 1: prints the link words\nline 1, column 2: nodes stands again behind this; the last one counts\nline 1, column 12: nodes stands again behind this; the last one counts\nline 1, column 22: words stands again behind this; the last one counts\nline 1, column 32: commands stands again behind this; the last one counts\nvalid: nodes 4, words 10, commands 1\n",
     ),
 ];
 
