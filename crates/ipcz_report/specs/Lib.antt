@@ -1,3 +1,4 @@
+pub mod Dooms
 pub mod Faults
 pub mod Judging
 pub mod Notes

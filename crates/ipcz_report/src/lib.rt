@@ -3,6 +3,9 @@
 #![tactic(auto)]
 
 mod again;
+mod before;
+mod doom;
+mod doubts;
 mod faults;
 mod judging;
 mod no_json;
@@ -16,6 +19,7 @@ mod verdict;
 mod words;
 mod wrong;
 
+pub use doom::{Doom, doom_of};
 pub use faults::faults_of;
 pub use judging::wrong_in;
 pub use reporting::report;

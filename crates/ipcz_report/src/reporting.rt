@@ -9,6 +9,7 @@ ghost use Rattle.ipcz_report.specs.Notes.{AreNotes};
 ghost use Rattle.ipcz_report.specs.Reports.{long_text, numbers, valid_line, IsJsonText, IsRefusedText, IsReport, IsShapeText, IsValidText, TellsAll};
 
 use crate::again::notes;
+use crate::before::Before;
 use crate::faults::{faults_of, least_words, nodes_in};
 use crate::no_json::json_remark;
 use crate::outline::{Outline, outline_of};
@@ -18,7 +19,7 @@ use crate::verdict::Verdict;
 use crate::words::{Bounds, push_spelling, push_wrong};
 use crate::wrong::Fault;
 use ipcz_places::{excerpt, push_excerpt};
-use ipcz_script::{Command, OpenedNames, Script, ScriptFault, read_script};
+use ipcz_script::{Command, Script, ScriptFault, read_script};
 use serde_json::Value;
 use std::alloc::{AllocError, Global};
 use std::io;
@@ -45,8 +46,7 @@ fn push_notes(
 // The remark on a command.
 fn told_command(
     alloc: Global,
-    nodes: u8,
-    opened: &OpenedNames,
+    before: &Before,
     parts: &Outline,
     number: usize,
     command: &Command,
@@ -54,7 +54,7 @@ fn told_command(
     ensures { IfOk result (λ remark. remark.number ≡ number) }
 {
     let mut words = Vec::new(alloc);
-    push_command(&mut words, nodes, opened, command)?;
+    push_command(&mut words, before, command)?;
     Ok(Remark {
         offset: parts.command(number),
         number,
@@ -72,12 +72,12 @@ fn told_commands(
     ensures { IfOk result (λ remarks. map (λ remark. remark.number) remarks.items ≡ numbers 1 commands.now) }
 {
     let mut remarks = Vec::new(alloc);
-    let mut opened = OpenedNames::new(alloc);
+    let mut before = Before::new(alloc, nodes);
     let mut number = 1;
     for command in commands {
-        let remark = told_command(alloc, nodes, &opened, parts, number, command)?;
+        let remark = told_command(alloc, &before, parts, number, command)?;
         remarks.push(remark)?;
-        opened.note(command)?;
+        before.note(number, command)?;
         number += 1;
     }
     Ok(remarks)
