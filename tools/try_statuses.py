@@ -16,7 +16,12 @@ PAIR = '{"nodes":1,"words":1,"commands":[["open",0,"x","y"],["put","x","a"],["se
 DONE = (PAIR % 100).encode()
 AT_ITS_LIMIT = (PAIR % 1).encode()
 PUT = b"open x y ok\nput x 0\n"
-RUN_USAGE = b"usage: ipcz_run [threads]\n"
+RUN_USAGE = b"usage: ipcz_run [--help] [threads] < SCRIPT\n"
+RUN_HELP = RUN_USAGE + b"""
+Reads a script from standard input, runs it, and writes to standard output what each command came to and what each node did. With
+the word threads the settles run on threads, one for each node. Ends with status 0 if the script was run, 4 if it was and a settle
+came to its limit, and 2 if it is no script; ipcz_check tells why it is none.
+"""
 CHECK_USAGE = b"usage: ipcz_check [--help] < SCRIPT\n"
 EMPTY = b"line 1, column 1: the script is empty; expected an object with the members nodes, words and commands\n"
 NO_OBJECT = b"line 1, column 1: the script is no object; expected one with the members nodes, words and commands\n"
@@ -49,6 +54,10 @@ RUNS = [
     ("ipcz_run", ["threads"], b"[]", bytes, 2, b"refused BadShape 0\n"),
     ("ipcz_run", ["threads"], Folder, bytes, 1, b""),
     ("ipcz_run", ["threads"], DONE, Full, 1, b""),
+    ("ipcz_run", ["--help"], Folder, bytes, 0, RUN_HELP),
+    ("ipcz_run", ["-h"], DONE, bytes, 0, RUN_HELP),
+    ("ipcz_run", ["--help"], DONE, Full, 1, b""),
+    ("ipcz_run", ["--help", "threads"], DONE, bytes, 2, RUN_USAGE),
     ("ipcz_run", ["threads", "threads"], DONE, bytes, 2, RUN_USAGE),
     ("ipcz_run", ["Threads"], DONE, bytes, 2, RUN_USAGE),
     ("ipcz_run", ["script.json"], DONE, bytes, 2, RUN_USAGE),

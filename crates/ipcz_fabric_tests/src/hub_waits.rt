@@ -62,6 +62,8 @@ fn ends<F: FabricName>(hub: &Hub<F>, done: &AtomicU64) {
 #[derive(Clone, Copy)]
 enum Case {
     Talk,
+    Threes,
+    Driven,
     Close,
     Nothing,
 }
@@ -112,6 +114,81 @@ fn portal_answers<F: FabricName, R: Wait + Clock>(
     true
 }
 
+fn portal_puts_three<F: FabricName, R: Wait>(
+    rt: &R,
+    hub: &Hub<F>,
+    alloc: Global,
+    portal: &Portal<F>,
+) -> bool {
+    for _parcel in 0..3 {
+        if !portal_puts(rt, hub, alloc, portal) {
+            return false;
+        }
+    }
+    true
+}
+
+fn portal_gets_three<F: FabricName, R: Wait + Clock>(
+    rt: &R,
+    hub: &Hub<F>,
+    portal: &Portal<F>,
+) -> bool {
+    for _parcel in 0..3 {
+        if !portal_gets(rt, hub, portal) {
+            return false;
+        }
+    }
+    true
+}
+
+// Puts three parcels in a row, and gets an answer to the last. A mailbox has one message, so the worker of the sender sleeps with the second, and
+// has to be woken when the first is taken.
+fn portal_asks_in_threes<F: FabricName, R: Wait + Clock>(
+    rt: &R,
+    alloc: Global,
+    hub: &Hub<F>,
+    portal: &Portal<F>,
+) -> bool {
+    for _round in 0..ROUNDS {
+        if !portal_puts_three(rt, hub, alloc, portal) || !portal_gets(rt, hub, portal) {
+            return false;
+        }
+    }
+    true
+}
+
+// Gets three parcels, and puts an answer to the last.
+fn portal_answers_threes<F: FabricName, R: Wait + Clock>(
+    rt: &R,
+    alloc: Global,
+    hub: &Hub<F>,
+    portal: &Portal<F>,
+) -> bool {
+    for _round in 0..ROUNDS {
+        if !portal_gets_three(rt, hub, portal) || !portal_puts(rt, hub, alloc, portal) {
+            return false;
+        }
+    }
+    true
+}
+
+// Puts three parcels, and brings each to the other node itself: by many turns under one hold of a lock, where no worker takes any.
+fn portal_drives<F: FabricName, R: Wait + Clock>(
+    rt: &R,
+    alloc: Global,
+    hub: &Hub<F>,
+    portal: &Portal<F>,
+) -> bool {
+    for _parcel in 0..3 {
+        sleep(rt, short());
+        let put = portal_puts(rt, hub, alloc, portal);
+        if !put || hub.acts(rt, 0, TURNS).is_err() || hub.acts(rt, 1, TURNS).is_err() {
+            return false;
+        }
+    }
+    true
+}
+
 // What the thread of the left portal does, and whether that went well.
 fn left_does<F: FabricName, R: Wait + Clock>(
     rt: &R,
@@ -122,6 +199,8 @@ fn left_does<F: FabricName, R: Wait + Clock>(
 ) -> bool {
     match case {
         Case::Talk => portal_asks(rt, alloc, hub, &portal),
+        Case::Threes => portal_asks_in_threes(rt, alloc, hub, &portal),
+        Case::Driven => portal_drives(rt, alloc, hub, &portal),
         Case::Close => {
             sleep(rt, short());
             portal.close(rt, hub).is_ok()
@@ -143,6 +222,8 @@ fn right_does<F: FabricName, R: Wait + Clock>(
 ) -> bool {
     match case {
         Case::Talk => portal_answers(rt, alloc, hub, portal),
+        Case::Threes => portal_answers_threes(rt, alloc, hub, portal),
+        Case::Driven => portal_gets_three(rt, hub, portal),
         Case::Close => {
             let got = portal.get_timeout(rt, hub, long());
             matches!(got, Err(Refusal::PeerClosed))
@@ -173,7 +254,7 @@ fn both_do<F: FabricName + Send + Sync, R: Threads + Wait + Clock + Sync>(
     asked && answered
 }
 
-// The same, with a worker for each node.
+// The same, with a worker for each node, if the left one doesn't take the turns itself.
 fn does<F: FabricName + Send + Sync, R: Threads + Wait + Clock + Sync>(
     rt: &R,
     alloc: Global,
@@ -183,6 +264,9 @@ fn does<F: FabricName + Send + Sync, R: Threads + Wait + Clock + Sync>(
     case: Case,
 ) -> bool {
     let done = AtomicU64::new(0);
+    if matches!(case, Case::Driven) {
+        return both_do(rt, alloc, hub, left, right, &done, case);
+    }
     let (went, _turns) = join(
         rt,
         || both_do(rt, alloc, hub, left, right, &done, case),
@@ -227,6 +311,16 @@ fn goes<R: Threads + Wait + Clock + Sync>(rt: &R, alloc: Global, case: Case) -> 
 #[test]
 fn two_portals_wait_for_each_other(rt: HostRuntime) {
     assert_eq!(rt; goes(&rt, rt.alloc(), Case::Talk), Some(true));
+}
+
+#[test]
+fn three_parcels_in_a_row_come_where_both_workers_sleep(rt: HostRuntime) {
+    assert_eq!(rt; goes(&rt, rt.alloc(), Case::Threes), Some(true));
+}
+
+#[test]
+fn a_get_is_woken_where_another_thread_takes_the_turns(rt: HostRuntime) {
+    assert_eq!(rt; goes(&rt, rt.alloc(), Case::Driven), Some(true));
 }
 
 #[test]

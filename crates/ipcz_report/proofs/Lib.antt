@@ -1,3 +1,4 @@
 pub mod Agreeing
+pub mod Doomed
 pub mod Judged
 pub mod Opening

@@ -31,6 +31,10 @@ fits nodes taken wanted.FreshName d = is_some (new_name_in taken d)
 fits nodes taken wanted.Data d = is_some (as_str d)
 fits nodes taken wanted.List d = is_some (values_of d)
 
+-- a sign, a point, or the letter of an exponent, which no number of a script has
+abbrev pub is_number_mark : ℕ → Bool
+is_number_mark b = b == 45 || b == 43 || b == 46 || b == 101 || b == 69
+
 -- the value at an index
 abbrev pub at : List Data → ℕ → Option Data
 at [] i = None
@@ -54,7 +58,7 @@ takes kinds.Show n = n == 0
 
 -- what is told to be wrong with the values behind a word is so; places are counted from 1
 abbrev pub IsWrongWith : ℕ → (List ℕ → Bool) → Kind → List Data → Wrong → Type 0
-IsWrongWith nodes taken kind args (wrong.Number k) = (k ≡ kind) × (takes kind (length args) ≡ false)
+IsWrongWith nodes taken kind args (wrong.Number k count) = (k ≡ kind) × (count ≡ length args) × (takes kind count ≡ false)
 IsWrongWith nodes taken kind args (wrong.Value place wanted) = option_map (fits nodes taken wanted) (at args (place - 1)) ≡ Some false
 IsWrongWith nodes taken kind args (wrong.Item place) =
     (kind ≡ kinds.Put)

@@ -13,6 +13,7 @@ use Rattle.ipcz_report.specs.declared.verdict.Verdict.{Verdict}
 use Rattle.ipcz_report.specs.declared.verdict.Verdict.TheVariants as verdicts
 use Rattle.ipcz_report.specs.declared.wrong.Fault.{Fault}
 use Rattle.ipcz_report.specs.Faults.{AreFaultsOf}
+use Rattle.ipcz_report.specs.Notes.{AreNotes}
 use Rattle.ipcz_report.specs.Remarks.{remarks_text}
 
 -- ---- a script
@@ -27,10 +28,11 @@ abbrev pub numbers : {X : Type 0} → ℕ → List X → List ℕ
 numbers n [] = []
 numbers n (x ∷ xs) = n ∷ numbers (n + 1) xs
 
--- a line for each command, with its number, and the last line
+-- a line for each command, with its number, those on members that stand again, and the last line
 abbrev pub IsValidText : List ℕ → Script → List ℕ → Type 0
-IsValidText input script text = (remarks : List Remark) × (map (λ r. r.number) remarks ≡ numbers 1 script.commands)
-    × (text ≡ remarks_text input remarks ++ valid_line script.nodes script.words (length script.commands))
+IsValidText input script text =
+    (remarks : List Remark) × (map (λ r. r.number) remarks ≡ numbers 1 script.commands) × (notes : List ℕ) × AreNotes input notes
+    × (text ≡ remarks_text input remarks ++ (notes ++ valid_line script.nodes script.words (length script.commands)))
 
 -- ---- no script
 
@@ -46,10 +48,11 @@ IsJsonText input text = (remark : Remark) × (remark.number ≡ 0) × (remark.of
 abbrev pub TellsAll : List Fault → List Remark → Type 0
 TellsAll faults remarks = map (λ r. r.number) remarks ≡ map (λ f. f.number) faults
 
--- the faults of the JSON value, of which the first has this number, and their lines
+-- the faults of the JSON value, of which the first has this number, their lines, and those on members that stand again
 abbrev pub IsShapeText : List ℕ → ℕ → List ℕ → Type 0
 IsShapeText input first text = (d : Data) × IsJson input (Some d) × (f : Fault) × (rest : List Fault) × AreFaultsOf d (f ∷ rest)
-    × (f.number ≡ first) × (remarks : List Remark) × TellsAll (f ∷ rest) remarks × (text ≡ remarks_text input remarks)
+    × (f.number ≡ first) × (remarks : List Remark) × TellsAll (f ∷ rest) remarks
+    × (notes : List ℕ) × AreNotes input notes × (text ≡ remarks_text input remarks ++ notes)
 
 -- what is written of bytes that are no script, by why they are none
 abbrev pub IsRefusedText : List ℕ → ScriptFault → List ℕ → Type 0

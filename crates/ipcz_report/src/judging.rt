@@ -1,6 +1,6 @@
 //! What is wrong with a value that is no command.
 
-ghost use Rattle.std.specs.Prelude.{◌≡◌, ◌<◌, ◌-◌, ℕ, Bool, List, [], ◌∷◌, ◌&&◌, map, not, is_some, option_map, IfSome, Some, false};
+ghost use Rattle.std.specs.Prelude.{◌≡◌, ◌<◌, ◌-◌, ℕ, Bool, List, [], ◌∷◌, ◌&&◌, length, map, not, is_some, option_map, IfSome, Some, false};
 ghost use Rattle.std.specs.FinSet.{contains};
 ghost use Rattle.serde_json.specs.Data.{Data};
 ghost use Rattle.serde_json.specs.View.{view};
@@ -46,6 +46,16 @@ fn unfit(place: usize, wanted: Wanted) -> Option<Wrong>
     Some(Wrong::Value { place, wanted })
 }
 
+// That these are not as many values as stand behind a word.
+fn miscounted(kind: Kind, args: &[Value]) -> Option<Wrong>
+    ensures { result ≡ Some (Wrong.Number kind (length (map view args.now))) }
+{
+    Some(Wrong::Number {
+        kind,
+        count: args.len(),
+    })
+}
+
 // What is wrong with a value at this place that isn't a new name: the first of its faults.
 fn not_fresh(nodes: u8, opened: &OpenedNames, place: usize, value: &Value) -> Option<Wrong>
     requires { 0 < nodes }
@@ -79,7 +89,7 @@ fn open_wrong(nodes: u8, opened: &OpenedNames, args: &[Value]) -> Option<Wrong>
     ensures so { IfSome result (IsWrongWith nodes (contains opened.now) Kind.Open (map view args.now)) }
 {
     let [node, first, second] = args else {
-        return Some(Wrong::Number(Kind::Open));
+        return miscounted(Kind::Open, args);
     };
     if !fits(nodes, opened, Wanted::Node, node) {
         return unfit(1, Wanted::Node);
@@ -151,7 +161,7 @@ fn put_wrong(nodes: u8, opened: &OpenedNames, args: &[Value]) -> Option<Wrong>
             Some(wrong) => Some(wrong),
             None => names_wrong(ends),
         },
-        _ => Some(Wrong::Number(Kind::Put)),
+        _ => miscounted(Kind::Put, args),
     }
 }
 
@@ -161,7 +171,7 @@ fn get_wrong(nodes: u8, opened: &OpenedNames, args: &[Value]) -> Option<Wrong>
     ensures so { IfSome result (IsWrongWith nodes (contains opened.now) Kind.Get (map view args.now)) }
 {
     let [at] = args else {
-        return Some(Wrong::Number(Kind::Get));
+        return miscounted(Kind::Get, args);
     };
     if !fits(nodes, opened, Wanted::Name, at) {
         return unfit(1, Wanted::Name);
@@ -175,7 +185,7 @@ fn close_wrong(nodes: u8, opened: &OpenedNames, args: &[Value]) -> Option<Wrong>
     ensures so { IfSome result (IsWrongWith nodes (contains opened.now) Kind.Close (map view args.now)) }
 {
     let [at] = args else {
-        return Some(Wrong::Number(Kind::Close));
+        return miscounted(Kind::Close, args);
     };
     if !fits(nodes, opened, Wanted::Name, at) {
         return unfit(1, Wanted::Name);
@@ -189,7 +199,7 @@ fn turn_wrong(nodes: u8, opened: &OpenedNames, args: &[Value]) -> Option<Wrong>
     ensures so { IfSome result (IsWrongWith nodes (contains opened.now) Kind.Turn (map view args.now)) }
 {
     let [node, count] = args else {
-        return Some(Wrong::Number(Kind::Turn));
+        return miscounted(Kind::Turn, args);
     };
     if !fits(nodes, opened, Wanted::Node, node) {
         return unfit(1, Wanted::Node);
@@ -206,7 +216,7 @@ fn settle_wrong(nodes: u8, opened: &OpenedNames, args: &[Value]) -> Option<Wrong
     ensures so { IfSome result (IsWrongWith nodes (contains opened.now) Kind.Settle (map view args.now)) }
 {
     let [limit] = args else {
-        return Some(Wrong::Number(Kind::Settle));
+        return miscounted(Kind::Settle, args);
     };
     if !fits(nodes, opened, Wanted::Limit, limit) {
         return unfit(1, Wanted::Limit);
@@ -220,7 +230,7 @@ fn show_wrong(args: &[Value]) -> Option<Wrong>
 {
     match args {
         [] => None,
-        _ => Some(Wrong::Number(Kind::Show)),
+        _ => miscounted(Kind::Show, args),
     }
 }
 

@@ -2,6 +2,10 @@
 //! for its arguments and devices.
 #![tactic(auto)]
 
+mod again;
+mod before;
+mod doom;
+mod doubts;
 mod faults;
 mod judging;
 mod no_json;
@@ -15,6 +19,7 @@ mod verdict;
 mod words;
 mod wrong;
 
+pub use doom::{Doom, doom_of};
 pub use faults::faults_of;
 pub use judging::wrong_in;
 pub use reporting::report;

@@ -1,10 +1,13 @@
 //! Where the parts of a script stand in its text.
 
+ghost use Rattle.std.specs.Prelude.{◌≡◌, IfOk};
+ghost use Rattle.std.specs.List.{All};
+ghost use Rattle.ipcz_places.specs.Values.{MembersBegin};
+
+use crate::again::quoted_name;
 use crate::wrong::{Fault, Key, Wrong};
 use ipcz_places::{Member, excerpt, first_value, items, members};
 use std::alloc::{AllocError, Global};
-
-const NAMES: [&[u8]; 3] = [b"\"nodes\"", b"\"words\"", b"\"commands\""];
 
 /// The offsets of a script, of its members and of its commands.
 #[derive(Drop)]
@@ -14,20 +17,11 @@ pub struct Outline {
     commands: Vec<usize>,
 }
 
-// The name of a member as it stands in a script.
-fn name_of(key: Key) -> &'static [u8] {
-    match key {
-        Key::Nodes => NAMES[0],
-        Key::Words => NAMES[1],
-        Key::Commands => NAMES[2],
-    }
-}
-
 // The offset of the value of the last member with this name.
 fn value_of(text: &[u8], members: &[Member], key: Key) -> Option<usize> {
     let mut found = None;
     for member in members {
-        if excerpt(text, member.name) == name_of(key) {
+        if excerpt(text, member.name) == quoted_name(key) {
             found = Some(member.value);
         }
     }
@@ -36,7 +30,9 @@ fn value_of(text: &[u8], members: &[Member], key: Key) -> Option<usize> {
 
 fn is_known(text: &[u8], member: &Member) -> bool {
     let name = excerpt(text, member.name);
-    name == NAMES[0] || name == NAMES[1] || name == NAMES[2]
+    name == quoted_name(Key::Nodes)
+        || name == quoted_name(Key::Words)
+        || name == quoted_name(Key::Commands)
 }
 
 // The offset of the first member whose name is none of the three.
@@ -50,7 +46,9 @@ fn first_extra(text: &[u8], members: &[Member]) -> Option<usize> {
 }
 
 /// Where the parts of a script stand.
-pub fn outline_of(alloc: Global, text: &[u8]) -> Result<Outline, AllocError> {
+pub fn outline_of(alloc: Global, text: &[u8]) -> Result<Outline, AllocError>
+    ensures members { IfOk result (λ parts. All (MembersBegin text.now) parts.members.items) }
+{
     let whole = first_value(text);
     let members = members(alloc, text, whole)?;
     let commands = match value_of(text, &members, Key::Commands) {
@@ -74,6 +72,13 @@ fn item_of(alloc: Global, text: &[u8], list: usize, index: usize) -> Result<usiz
 }
 
 impl Outline {
+    /// The members of the script.
+    pub fn members(&self) -> &[Member]
+        ensures members { result.now ≡ self.now.members.items }
+    {
+        self.members.as_slice()
+    }
+
     /// The offset of the command with this number, counted from 1, or of the script.
     pub fn command(&self, number: usize) -> usize {
         match self.commands.as_slice().get(number.saturating_sub(1)) {
@@ -89,7 +94,7 @@ impl Outline {
             Wrong::NoObject | Wrong::Missing(_) => Ok(self.whole),
             Wrong::Member(key) => { Ok(value_of(text, &self.members, key).unwrap_or(self.whole)) }
             Wrong::Extra => Ok(first_extra(text, &self.members).unwrap_or(self.whole)),
-            Wrong::NoList | Wrong::NoWord | Wrong::Number(_) => Ok(command),
+            Wrong::NoList | Wrong::NoWord | Wrong::Number { .. } => Ok(command),
             Wrong::UnknownWord => item_of(alloc, text, command, 0),
             Wrong::Value { place, .. } => item_of(alloc, text, command, place),
             Wrong::Item { place } => {

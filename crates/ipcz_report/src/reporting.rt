@@ -1,32 +1,52 @@
 //! What is written of some bytes.
 
-ghost use Rattle.std.specs.Prelude.{◌≡◌, ◌≤◌, ◌++◌, length, map, Err, IfOk, OnOk};
+ghost use Rattle.std.specs.Prelude.{◌≡◌, ◌≤◌, ◌++◌, List, ℕ, length, map, Err, IfOk, OnOk};
+ghost use Rattle.std.specs.List.{All};
+ghost use Rattle.ipcz_places.specs.Values.{MembersBegin};
 ghost use Rattle.ipcz_script.specs.Reading.{IsAnswer, IsScript, max_bytes};
 ghost use Rattle.ipcz_script.specs.declared.script_fault.ScriptFault.TheVariants as faults;
+ghost use Rattle.ipcz_report.specs.Notes.{AreNotes};
 ghost use Rattle.ipcz_report.specs.Reports.{long_text, numbers, valid_line, IsJsonText, IsRefusedText, IsReport, IsShapeText, IsValidText, TellsAll};
 
+use crate::again::notes;
+use crate::before::Before;
 use crate::faults::{faults_of, least_words, nodes_in};
 use crate::no_json::json_remark;
 use crate::outline::{Outline, outline_of};
 use crate::remark::{Remark, push_remarks};
 use crate::telling::push_command;
 use crate::verdict::Verdict;
-use crate::words::{Bounds, push_wrong};
+use crate::words::{Bounds, push_spelling, push_wrong};
 use crate::wrong::Fault;
-use ipcz_places::push_excerpt;
-use ipcz_script::{Command, OpenedNames, Script, ScriptFault, read_script};
+use ipcz_places::{excerpt, push_excerpt};
+use ipcz_script::{Command, Script, ScriptFault, read_script};
 use serde_json::Value;
 use std::alloc::{AllocError, Global};
 use std::io;
 use std::io::Write;
+
+// ---- members that stand again
+
+// Adds the lines of the remarks on members whose names stand again behind them.
+fn push_notes(
+    alloc: Global,
+    out: &mut Vec<u8>,
+    input: &[u8],
+    parts: &Outline,
+) -> Result<(), AllocError>
+    requires members { All (MembersBegin input.now) parts.now.members.items }
+    ensures notes { OnOk result ((lines : List ℕ) × AreNotes input.now lines × (out.new.items ≡ out.old.items ++ lines)) }
+{
+    let notes = notes(alloc, input, parts.members())?;
+    push_remarks(out, input, &notes)
+}
 
 // ---- a script
 
 // The remark on a command.
 fn told_command(
     alloc: Global,
-    nodes: u8,
-    opened: &OpenedNames,
+    before: &Before,
     parts: &Outline,
     number: usize,
     command: &Command,
@@ -34,7 +54,7 @@ fn told_command(
     ensures { IfOk result (λ remark. remark.number ≡ number) }
 {
     let mut words = Vec::new(alloc);
-    push_command(&mut words, nodes, opened, command)?;
+    push_command(&mut words, before, command)?;
     Ok(Remark {
         offset: parts.command(number),
         number,
@@ -52,12 +72,12 @@ fn told_commands(
     ensures { IfOk result (λ remarks. map (λ remark. remark.number) remarks.items ≡ numbers 1 commands.now) }
 {
     let mut remarks = Vec::new(alloc);
-    let mut opened = OpenedNames::new(alloc);
+    let mut before = Before::new(alloc, nodes);
     let mut number = 1;
     for command in commands {
-        let remark = told_command(alloc, nodes, &opened, parts, number, command)?;
+        let remark = told_command(alloc, &before, parts, number, command)?;
         remarks.push(remark)?;
-        opened.note(command)?;
+        before.note(number, command)?;
         number += 1;
     }
     Ok(remarks)
@@ -80,6 +100,7 @@ fn valid_text(alloc: Global, input: &[u8], script: &Script) -> Result<Vec<u8>, A
     let remarks = told_commands(alloc, script.nodes, &parts, script.commands.as_slice())?;
     let mut text = Vec::new(alloc);
     push_remarks(&mut text, input, &remarks)?;
+    push_notes(alloc, &mut text, input, &parts)?;
     let Ok(()) = push_valid(&mut text, script.nodes, script.words, script.commands.len()) else {
         return Err(AllocError);
     };
@@ -131,7 +152,10 @@ fn told_fault(
     let mut shown = Vec::new(alloc);
     push_excerpt(&mut shown, input, offset)?;
     let mut words = Vec::new(alloc);
-    let Ok(()) = push_wrong(&mut words, bounds, &shown, fault.wrong) else {
+    let (Ok(()), Ok(())) = (
+        push_wrong(&mut words, bounds, &shown, fault.wrong),
+        push_spelling(&mut words, fault.wrong, excerpt(input, offset)),
+    ) else {
         return Err(AllocError);
     };
     Ok(Remark {
@@ -145,15 +169,15 @@ fn told_fault(
 fn told_faults(
     alloc: Global,
     input: &[u8],
+    parts: &Outline,
     bounds: Bounds,
     faults: &[Fault],
 ) -> Result<Vec<Remark>, AllocError>
     ensures { IfOk result (λ remarks. TellsAll faults.now remarks.items) }
 {
-    let parts = outline_of(alloc, input)?;
     let mut remarks = Vec::new(alloc);
     for fault in faults {
-        remarks.push(told_fault(alloc, input, &parts, bounds, *fault)?)?;
+        remarks.push(told_fault(alloc, input, parts, bounds, *fault)?)?;
     }
     Ok(remarks)
 }
@@ -174,9 +198,11 @@ fn shape_text(alloc: Global, input: &[u8], first: u32) -> Result<Vec<u8>, AllocE
         return Err(AllocError);
     };
     let faults = faults_of(alloc, &value)?;
-    let remarks = told_faults(alloc, input, bounds_of(&value), &faults)?;
+    let parts = outline_of(alloc, input)?;
+    let remarks = told_faults(alloc, input, &parts, bounds_of(&value), &faults)?;
     let mut text = Vec::new(alloc);
     push_remarks(&mut text, input, &remarks)?;
+    push_notes(alloc, &mut text, input, &parts)?;
     Ok(text)
 }
 

@@ -1,5 +1,9 @@
 //! What is said of a fault: what is wrong, and what was expected.
 
+ghost use Rattle.std.specs.Prelude.{◌≡◌};
+ghost use Rattle.std.specs.List.{list_any};
+ghost use Rattle.ipcz_report.specs.Judging.{is_number_mark};
+
 use crate::wrong::{Key, Kind, Wanted, Wrong};
 use std::io;
 use std::io::Write;
@@ -105,13 +109,27 @@ fn push_missing(out: &mut Vec<u8>, bounds: Bounds, key: Key) -> io::Result<()> {
     push_member(out, bounds, key)
 }
 
-fn push_number(out: &mut Vec<u8>, kind: Kind) -> io::Result<()> {
+// How many values stand behind a word.
+fn count_of(kind: Kind) -> &'static str {
+    match kind {
+        Kind::Open => "3",
+        Kind::Put => "2 or 3",
+        Kind::Turn => "2",
+        Kind::Get | Kind::Close | Kind::Settle => "1",
+        Kind::Show => "none",
+    }
+}
+
+fn push_number(out: &mut Vec<u8>, kind: Kind, count: usize) -> io::Result<()> {
     let word = word_of(kind);
+    let wanted = count_of(kind);
     let shape = shape_of(kind);
-    write!(
-        out,
-        "too few or too many values behind {word}; expected {shape}"
-    )
+    match count {
+        0 => write!(out, "no value stands behind {word}")?,
+        1 => write!(out, "1 value stands behind {word}")?,
+        _ => write!(out, "{count} values stand behind {word}")?,
+    }
+    write!(out, "; expected {wanted}, as in {shape}")
 }
 
 // Writes a few words, what stands at the place, and what was expected.
@@ -119,6 +137,42 @@ fn push_around(out: &mut Vec<u8>, before: &str, shown: &[u8], behind: &str) -> i
     write!(out, "{before}")?;
     out.write_all(shown)?;
     write!(out, "{behind}")
+}
+
+// Whether this is said of a value that has to be a number.
+fn wants_number(wrong: Wrong) -> bool {
+    matches!(
+        wrong,
+        Wrong::Member(Key::Nodes | Key::Words)
+            | Wrong::Value {
+                wanted: Wanted::Node | Wanted::Count | Wanted::Limit,
+                ..
+            }
+    )
+}
+
+// Whether a sign, a point or the letter of an exponent stands in a text.
+fn has_number_mark(text: &[u8]) -> bool
+    ensures { result ≡ list_any is_number_mark text.now }
+{
+    text.iter()
+        .any(|b| matches!(*b, b'-' | b'+' | b'.' | b'e' | b'E'))
+}
+
+// Whether a value is written as a number that has a sign, a point or an exponent, which no number of a script has.
+fn is_marked_number(value: &[u8]) -> bool {
+    match value {
+        [b'-' | b'0'..=b'9', ..] => has_number_mark(value),
+        _ => false,
+    }
+}
+
+/// Writes how a number of a script is written, if one was expected and what begins at the place is a number that is written otherwise.
+pub fn push_spelling(out: &mut Vec<u8>, wrong: Wrong, value: &[u8]) -> io::Result<()> {
+    if wants_number(wrong) && is_marked_number(value) {
+        write!(out, " without sign, point or exponent")?;
+    }
+    Ok(())
 }
 
 /// Writes what is wrong, and behind a semicolon what was expected. `shown` is what stands at the place.
@@ -141,7 +195,7 @@ pub fn push_wrong(out: &mut Vec<u8>, bounds: Bounds, shown: &[u8], wrong: Wrong)
         ),
         Wrong::NoWord => push_around(out, "the command begins with no word", b"", COMMANDS),
         Wrong::UnknownWord => push_around(out, "unknown command ", shown, COMMANDS),
-        Wrong::Number(kind) => push_number(out, kind),
+        Wrong::Number { kind, count } => push_number(out, kind, count),
         Wrong::Value { wanted, .. } => {
             out.write_all(shown)?;
             push_value(out, bounds, wanted)

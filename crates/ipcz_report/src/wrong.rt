@@ -58,8 +58,8 @@ pub enum Wrong {
     NoWord,
     /// A command begins with a word that is none of the seven.
     UnknownWord,
-    /// A command has too few or too many values behind its word.
-    Number(Kind),
+    /// A command has so many values behind its word, which are too few or too many.
+    Number { kind: Kind, count: usize },
     /// The value with this number behind the word, counted from 1, isn't what it has to be.
     Value { place: usize, wanted: Wanted },
     /// The item with this number, counted from 1, of the names of a put is no name.

@@ -163,7 +163,7 @@ fn tells_where_bytes_are_no_json(rt: HostRuntime) {
     assert!(rt; says(rt.alloc(), no_character, 2, words));
 }
 
-const NO_HEAD: [(&str, &str); 8] = [
+const NO_HEAD: [(&str, &str); 9] = [
     (
         "[]",
         "line 1, column 1: the script is no object; expected one with the members nodes, words and commands\n",
@@ -193,8 +193,12 @@ const NO_HEAD: [(&str, &str); 8] = [
         "line 2, column 1: unknown member \"note\"; expected nodes, words and commands only\n",
     ),
     (
+        "{\"nodes\":2.0,\"words\":1e3,\"commands\":[]}",
+        "line 1, column 10: nodes is 2.0; expected a number from 1 to 8 without sign, point or exponent\nline 1, column 22: words is 1e3; expected a number from 0 to 4096 without sign, point or exponent\n",
+    ),
+    (
         "{\"nodes\":2,\"nodes\":9,\"words\":1,\"commands\":[]}",
-        "line 1, column 20: nodes is 9; expected a number from 1 to 8\n",
+        "line 1, column 20: nodes is 9; expected a number from 1 to 8\nline 1, column 2: nodes stands again behind this; the last one counts\n",
     ),
 ];
 
@@ -203,10 +207,10 @@ fn tells_what_is_wrong_with_members(rt: HostRuntime) {
     assert_eq!(rt; first_other(rt.alloc(), &NO_HEAD, 2), None);
 }
 
-const NO_COMMANDS: [(&str, &str); 10] = [
+const NO_COMMANDS: [(&str, &str); 11] = [
     (
         "{\"nodes\":2,\"words\":4,\"commands\":[[\"put\",\"x\"]]}",
-        "line 1, column 34: command 1: too few or too many values behind put; expected [\"put\", \"name\", \"data\"] or [\"put\", \"name\", \"data\", [\"name\", ..]]\n",
+        "line 1, column 34: command 1: 1 value stands behind put; expected 2 or 3, as in [\"put\", \"name\", \"data\"] or [\"put\", \"name\", \"data\", [\"name\", ..]]\n",
     ),
     (
         "{\"nodes\":2,\"words\":4,\"commands\":[[\"show\"],\n  [\"putt\",\"x\",\"y\"]]}",
@@ -214,11 +218,15 @@ const NO_COMMANDS: [(&str, &str); 10] = [
     ),
     (
         "{\"nodes\":2,\"words\":4,\"commands\":[[\"settle\"],[\"show\",1],[\"turn\",0],[\"get\"],[\"close\",\"x\",\"y\"],[\"open\",0,\"x\"]]}",
-        "line 1, column 34: command 1: too few or too many values behind settle; expected [\"settle\", limit]\nline 1, column 45: command 2: too few or too many values behind show; expected [\"show\"]\nline 1, column 56: command 3: too few or too many values behind turn; expected [\"turn\", node, count]\nline 1, column 67: command 4: too few or too many values behind get; expected [\"get\", \"name\"]\nline 1, column 75: command 5: too few or too many values behind close; expected [\"close\", \"name\"]\nline 1, column 93: command 6: too few or too many values behind open; expected [\"open\", node, \"name\", \"name\"]\n",
+        "line 1, column 34: command 1: no value stands behind settle; expected 1, as in [\"settle\", limit]\nline 1, column 45: command 2: 1 value stands behind show; expected none, as in [\"show\"]\nline 1, column 56: command 3: 1 value stands behind turn; expected 2, as in [\"turn\", node, count]\nline 1, column 67: command 4: no value stands behind get; expected 1, as in [\"get\", \"name\"]\nline 1, column 75: command 5: 2 values stand behind close; expected 1, as in [\"close\", \"name\"]\nline 1, column 93: command 6: 2 values stand behind open; expected 3, as in [\"open\", node, \"name\", \"name\"]\n",
     ),
     (
         "{\"nodes\":2,\"words\":4,\"commands\":[[\"open\",2,\"x\",\"y\"],[\"turn\",-1,5],[\"turn\",0,0],[\"settle\",1000001],[\"turn\",0.0,1]]}",
-        "line 1, column 42: command 1: 2 is no node; expected a number from 0 to 1\nline 1, column 61: command 2: -1 is no node; expected a number from 0 to 1\nline 1, column 77: command 3: 0 is no count of turns; expected a number from 1 to 1000000\nline 1, column 90: command 4: 1000001 is no limit; expected a number from 0 to 1000000\nline 1, column 107: command 5: 0.0 is no node; expected a number from 0 to 1\n",
+        "line 1, column 42: command 1: 2 is no node; expected a number from 0 to 1\nline 1, column 61: command 2: -1 is no node; expected a number from 0 to 1 without sign, point or exponent\nline 1, column 77: command 3: 0 is no count of turns; expected a number from 1 to 1000000\nline 1, column 90: command 4: 1000001 is no limit; expected a number from 0 to 1000000\nline 1, column 107: command 5: 0.0 is no node; expected a number from 0 to 1 without sign, point or exponent\n",
+    ),
+    (
+        "{\"nodes\":2,\"words\":4,\"commands\":[[\"settle\",100.0],[\"turn\",0,1E2],[\"settle\",\"2.0\"],[\"get\",-1],[\"settle\",11111111112222222222333333333344444444445]]}",
+        "line 1, column 44: command 1: 100.0 is no limit; expected a number from 0 to 1000000 without sign, point or exponent\nline 1, column 61: command 2: 1E2 is no count of turns; expected a number from 1 to 1000000 without sign, point or exponent\nline 1, column 76: command 3: \"2.0\" is no limit; expected a number from 0 to 1000000\nline 1, column 90: command 4: -1 is no name; expected 1 to 16 letters, digits, _ or > in quotes\nline 1, column 104: command 5: 1111111111222222222233333333334444444444.. is no limit; expected a number from 0 to 1000000\n",
     ),
     (
         "{\"nodes\":2,\"words\":4,\"commands\":[[\"open\",0,\"a-b\",\"y\"],[\"open\",0,\"x\",\"abcdefghijklmnopq\"],[\"get\",\"\"],[\"close\",7]]}",
@@ -251,7 +259,7 @@ fn tells_what_is_wrong_with_commands(rt: HostRuntime) {
     assert_eq!(rt; first_other(rt.alloc(), &NO_COMMANDS, 2), None);
 }
 
-const SCRIPTS: [(&str, &str); 2] = [
+const SCRIPTS: [(&str, &str); 6] = [
     (
         "{\"nodes\":2,\"words\":4,\"commands\":[[\"open\",0,\"left\",\"right\"],[\"put\",\"left\",\"hello\"],\n[\"put\",\"0>1\",\"\",[\"right\",\"x\"]],[\"settle\",100],[\"get\",\"1>0\"],[\"get\",\"nobody\"],[\"close\",\"0>2\"],[\"turn\",1,5],[\"show\"]]}",
         "line 1, column 34: command 1: opens the pair left and right on node 0\nline 1, column 60: command 2: puts a parcel of length 5 at left\nline 2, column 1: command 3: puts a parcel of length 0 at 0>1 with the portals right, x; no command before it opens x\nline 2, column 32: command 4: lets all nodes act until they rest, at most 100 times\nline 2, column 47: command 5: gets the next parcel at 1>0\nline 2, column 61: command 6: gets the next parcel at nobody; no command before it opens nobody\nline 2, column 78: command 7: closes 0>2; no command before it opens 0>2\nline 2, column 94: command 8: lets node 1 take turns, at most 5\nline 2, column 107: command 9: prints the link words\nvalid: nodes 2, words 4, commands 9\n",
@@ -259,6 +267,22 @@ const SCRIPTS: [(&str, &str); 2] = [
     (
         " {\"commands\":[],\n\"words\":0,\"nodes\":1}",
         "valid: nodes 1, words 0, commands 0\n",
+    ),
+    (
+        "{\"nodes\":2,\"nodes\":3,\"words\":9,\"commands\":[],\n\"nodes\":4,\"words\":10,\"commands\":[[\"show\"]]}",
+        "line 2, column 34: command 1: prints the link words\nline 1, column 2: nodes stands again behind this; the last one counts\nline 1, column 12: nodes stands again behind this; the last one counts\nline 1, column 22: words stands again behind this; the last one counts\nline 1, column 32: commands stands again behind this; the last one counts\nvalid: nodes 4, words 10, commands 1\n",
+    ),
+    (
+        "{\"nodes\":2,\"words\":4,\"commands\":[[\"open\",0,\"x\",\"y\"],[\"close\",\"x\"],[\"put\",\"x\",\"a\"],[\"put\",\"0>1\",\"a\",[\"x\",\"y\",\"z\",\"w\"]],[\"get\",\"x\"],[\"close\",\"x\"],[\"close\",\"0>1\"],[\"get\",\"0>1\"]]}",
+        "line 1, column 34: command 1: opens the pair x and y on node 0\nline 1, column 53: command 2: closes x\nline 1, column 67: command 3: puts a parcel of length 1 at x; command 2 closes x\nline 1, column 83: command 4: puts a parcel of length 1 at 0>1 with the portals x, y, z, w; no command before it opens z, w; command 2 closes x\nline 1, column 119: command 5: gets the next parcel at x; command 2 closes x\nline 1, column 131: command 6: closes x; command 2 closes x\nline 1, column 145: command 7: closes 0>1\nline 1, column 161: command 8: gets the next parcel at 0>1; command 7 closes 0>1\nvalid: nodes 2, words 4, commands 8\n",
+    ),
+    (
+        "{\"nodes\":4,\"words\":9,\"commands\":[[\"open\",0,\"x\",\"y\"],[\"put\",\"x\",\" ~\"],[\"put\",\"x\",\"é\"],[\"put\",\"x\",\"a\",[\"x\"]],[\"put\",\"x\",\"a\",[\"y\"]],[\"put\",\"y\",\"a\",[\"x\"]],[\"put\",\"0>1\",\"a\",[\"1>0\"]],[\"put\",\"0>1\",\"a\",[\"1>2\"]],[\"put\",\"0>1\",\"a\",[\"x\",\"y\",\"x\"]],[\"put\",\"0>1\",\"\",[\"0>2\",\"0>3\",\"1>2\",\"1>3\",\"2>0\",\"2>1\",\"2>3\",\"3>0\"]],[\"put\",\"0>1\",\"\",[\"0>2\",\"0>3\",\"1>2\",\"1>3\",\"2>0\",\"2>1\",\"2>3\",\"3>0\",\"3>1\"]],[\"put\",\"7>8\",\"\",[\"8>7\"]],[\"put\",\"u\",\"\",[\"u\"]]]}",
+        "line 1, column 34: command 1: opens the pair x and y on node 0\nline 1, column 53: command 2: puts a parcel of length 2 at x\nline 1, column 70: command 3: puts a parcel of length 2 at x; it is refused, since a byte of it isn't from 0x20 to 0x7E\nline 1, column 87: command 4: puts a parcel of length 1 at x with the portals x; it is refused, since a portal can't travel through itself\nline 1, column 109: command 5: puts a parcel of length 1 at x with the portals y; it is refused, since a portal can't travel to its peer\nline 1, column 131: command 6: puts a parcel of length 1 at y with the portals x; it is refused, since a portal can't travel to its peer\nline 1, column 153: command 7: puts a parcel of length 1 at 0>1 with the portals 1>0; it is refused, since a portal can't travel to its peer\nline 1, column 179: command 8: puts a parcel of length 1 at 0>1 with the portals 1>2\nline 1, column 205: command 9: puts a parcel of length 1 at 0>1 with the portals x, y, x; it is refused, since a portal is attached twice\nline 1, column 237: command 10: puts a parcel of length 0 at 0>1 with the portals 0>2, 0>3, 1>2, 1>3, 2>0, 2>1, 2>3, 3>0\nline 1, column 304: command 11: puts a parcel of length 0 at 0>1 with the portals 0>2, 0>3, 1>2, 1>3, 2>0, 2>1, 2>3, 3>0, 3>1; it is refused, since a parcel takes at most 8 portals\nline 1, column 377: command 12: puts a parcel of length 0 at 7>8 with the portals 8>7; no command before it opens 7>8, 8>7\nline 1, column 402: command 13: puts a parcel of length 0 at u with the portals u; no command before it opens u, u; it is refused, since a portal can't travel through itself\nvalid: nodes 4, words 9, commands 13\n",
+    ),
+    (
+        "{\"nodes\":2,\"words\":1,\"commands\":[[\"put\",\"0>1\",\"aaaaaaaaaaaaaaaaaaaaaaaaaaaaaaaaaaaaaaaaaaaaaaaaaaaaaaaaaaaaaaaaaaaaaaaaaaaaaaaaaaaaaaaaaaaaaaaaaaaaaaaaaaaaaaaaaaaaaaaaaaaaaaaaaaaaaaaaaaaaaaaaaaaaaaaaaaaaaaaaaaaaaaaaaaaaaaaaaaaaaaaaaaaaaaaaaaaaaaaaaaaaaaaaaaaaaaaaaaaaaaaaaaaaaaaaaaaaaaaaaaaaaaaaaaaaaaaa\"],[\"put\",\"0>1\",\"aaaaaaaaaaaaaaaaaaaaaaaaaaaaaaaaaaaaaaaaaaaaaaaaaaaaaaaaaaaaaaaaaaaaaaaaaaaaaaaaaaaaaaaaaaaaaaaaaaaaaaaaaaaaaaaaaaaaaaaaaaaaaaaaaaaaaaaaaaaaaaaaaaaaaaaaaaaaaaaaaaaaaaaaaaaaaaaaaaaaaaaaaaaaaaaaaaaaaaaaaaaaaaaaaaaaaaaaaaaaaaaaaaaaaaaaaaaaaaaaaaaaaaaaaaaaaaaaa\"]]}",
+        "line 1, column 34: command 1: puts a parcel of length 256 at 0>1\nline 1, column 307: command 2: puts a parcel of length 257 at 0>1; it is refused, since a parcel has at most 256 bytes\nvalid: nodes 2, words 1, commands 2\n",
     ),
 ];
 

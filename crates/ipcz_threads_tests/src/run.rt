@@ -9,10 +9,14 @@ use std::thread::Threads;
 
 const NAME: &[u8] = b"ipcz_run";
 
-const ASKED: [(&[&[u8]], Asked); 9] = [
+const ASKED: [(&[&[u8]], Asked); 13] = [
     (&[], Asked::Script),
     (&[NAME], Asked::Script),
     (&[NAME, b"threads"], Asked::Threads),
+    (&[NAME, b"--help"], Asked::Help),
+    (&[NAME, b"-h"], Asked::Help),
+    (&[NAME, b"--help", b"threads"], Asked::Usage),
+    (&[NAME, b"help"], Asked::Usage),
     (&[NAME, b"threads", b"x"], Asked::Usage),
     (&[NAME, b"x", b"threads"], Asked::Usage),
     (&[NAME, b"Threads"], Asked::Usage),
@@ -157,8 +161,9 @@ fn reads_nothing<T: Threads + Sync>(
 
 #[test]
 fn reads_nothing_where_there_are_arguments(rt: HostRuntime) {
-    let usage = b"usage: ipcz_run [threads]\n";
-    assert!(rt; reads_nothing(&rt, rt.alloc(), Ok(Asked::Usage), 9, 2, usage));
+    let usage = b"usage: ipcz_run [--help] [threads] < SCRIPT\n";
+    assert!(rt; reads_nothing(&rt, rt.alloc(), Ok(Asked::Usage), 15, 2, usage));
     assert!(rt; reads_nothing(&rt, rt.alloc(), Ok(Asked::Usage), 2, 1, b"usage:"));
+    assert!(rt; reads_nothing(&rt, rt.alloc(), Ok(Asked::Help), 2, 1, b"usage:"));
     assert!(rt; reads_nothing(&rt, rt.alloc(), Err(AllocError), 9, 3, b""));
 }

@@ -15,7 +15,8 @@ returns c =
     let remarks = c.in_ok-remarks.remarks.items in
     let refused = same_script input _ _ (inr (c.requires.few, Some d, (c.in-Ok.ensures.ok.0, c.in-Ok.ensures.ok.1), refl)) c.requires.refused in
     let first = faults-agree d c.args.first faults refused c.in_ok-faults.ensures.faults in
-    let tells = subst (λ fs. TellsAll fs remarks) (c.deref.ensures.value ∙ first.2) c.in_ok-remarks.ensures in (
+    let tells = subst (λ fs. TellsAll fs remarks) (c.deref.ensures.value ∙ first.2) c.in_ok-remarks.ensures in
+    let notes = c.in_ok-push_notes.ensures.notes in (
       d,
       (c.in-Ok.ensures.ok.0, c.in-Ok.ensures.ok.1),
       first.0,
@@ -24,6 +25,8 @@ returns c =
       first.3,
       remarks,
       tells,
-      c.in_ok-push_remarks.ensures.lines ∙ ap (λ text. text ++ remarks_text input c.deref-2.result.now) c.new-text.ensures.items
-          ∙ ap (remarks_text input) c.deref-2.ensures.value,
+      notes.0,
+      notes.1,
+      notes.2 ∙ ap (λ text. text ++ notes.0) (c.in_ok-push_remarks.ensures.lines
+          ∙ ap (λ text. text ++ remarks_text input c.deref-2.result.now) c.new-text.ensures.items ∙ ap (remarks_text input) c.deref-2.ensures.value),
     )
