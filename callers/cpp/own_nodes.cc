@@ -49,5 +49,11 @@ int main() {
     } catch (const ipcz::Refused &why) {
         std::cout << why.what() << '\n';
     }
+    std::cout << "lasting: " << ipcz::Cell::make_lasting(2, 1).size() << " cells\n";
+    try {
+        ipcz::Cell::make_lasting(2, 0);
+    } catch (const ipcz::Refused &why) {
+        std::cout << why.what() << '\n';
+    }
     return 0;
 }

@@ -155,3 +155,79 @@ func TestADestroyedCellRefuses(t *testing.T) {
 	refused(t, none.Close(left), NotCreated)
 	none.Destroy()
 }
+
+// Has both nodes take turns until neither has any.
+func rest(cells []*Cell) error {
+	for {
+		var all uint64
+		for _, cell := range cells {
+			acts, err := cell.Acts(1000)
+			if err != nil {
+				return err
+			}
+			all += acts
+		}
+		if all == 0 {
+			return nil
+		}
+	}
+}
+
+// Node 0 asks node 1, which answers at the portal that came with the question.
+func request(t *testing.T, cells []*Cell) {
+	t.Helper()
+	kept, sent, err := cells[0].Open()
+	if err == nil {
+		_, err = cells[0].Put(left, []byte("well?"), sent)
+	}
+	if err == nil {
+		err = rest(cells)
+	}
+	if err != nil {
+		t.Fatal(err)
+	}
+	asked, err := cells[1].Get(right)
+	if err != nil || len(asked.Portals) != 1 {
+		t.Fatal(asked, err)
+	}
+	if _, err = cells[1].Put(asked.Portals[0], []byte("yes")); err == nil {
+		err = cells[1].Close(asked.Portals[0])
+	}
+	if err == nil {
+		err = rest(cells)
+	}
+	if err != nil {
+		t.Fatal(err)
+	}
+	answer, err := cells[0].Get(kept)
+	if err == nil {
+		err = cells[0].Close(kept)
+	}
+	if err == nil {
+		err = rest(cells)
+	}
+	if err != nil || string(answer.Bytes) != "yes" {
+		t.Fatal(answer, err)
+	}
+}
+
+func TestLinkWordsComeBack(t *testing.T) {
+	for _, slots := range []uint32{0, 1048577} {
+		if _, err := NewLastingCells(2, slots); !errors.Is(err, TooMany) {
+			t.Error(slots, err)
+		}
+	}
+	cells, err := NewLastingCells(2, 3)
+	if err != nil {
+		t.Fatal(err)
+	}
+	for i := 0; i < parcels; i++ {
+		request(t, cells)
+	}
+	if claimed := cells[0].Claimed(); claimed <= 2*parcels {
+		t.Error(claimed)
+	}
+	for _, cell := range cells {
+		cell.Destroy()
+	}
+}

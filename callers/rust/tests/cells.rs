@@ -1,4 +1,4 @@
-use ipcz_portals::{cells, first_portal, Cell, Parcel, Portal, Refused};
+use ipcz_portals::{cells, first_portal, lasting_cells, Cell, Parcel, Portal, Refused};
 use std::sync::atomic::{AtomicBool, Ordering};
 use std::thread;
 
@@ -101,5 +101,47 @@ fn calls_of_a_cell_are_refused() -> Result<(), Refused> {
     cell.close(left())?;
     assert_eq!(cell.close(left()), Err(Refused::Stranger));
     assert_eq!(cell.get(left()), Err(Refused::Stranger));
+    Ok(())
+}
+
+/// Has both nodes take turns until neither has any.
+fn rest(cells: &mut [Cell]) -> Result<(), Refused> {
+    loop {
+        let mut all = 0;
+        for cell in cells.iter_mut() {
+            all += cell.acts(1000)?;
+        }
+        if all == 0 {
+            return Ok(());
+        }
+    }
+}
+
+/// Node 0 asks node 1, which answers at the portal that came with the question.
+fn request(cells: &mut [Cell]) -> Result<Vec<u8>, Refused> {
+    let (kept, sent) = cells[0].open()?;
+    cells[0].put(left(), b"well?", &[sent])?;
+    rest(cells)?;
+    let reply = cells[1].get(right())?.portals[0];
+    cells[1].put(reply, b"yes", &[])?;
+    cells[1].close(reply)?;
+    rest(cells)?;
+    let answer = cells[0].get(kept)?;
+    cells[0].close(kept)?;
+    rest(cells)?;
+    Ok(answer.bytes)
+}
+
+#[test]
+fn link_words_come_back() -> Result<(), Refused> {
+    for (nodes, slots) in [(0, 8), (9, 64), (3, 2), (1, 0), (2, 1_048_577)] {
+        assert_eq!(lasting_cells(nodes, slots).err(), Some(Refused::TooMany));
+    }
+    let mut both = lasting_cells(2, 3)?;
+    for _ in 0..100 {
+        assert_eq!(request(&mut both)?, b"yes");
+    }
+    assert!(both[0].claimed() > 200);
+    assert_eq!(both[0].word(0), None);
     Ok(())
 }
