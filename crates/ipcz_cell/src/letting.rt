@@ -24,7 +24,7 @@ use ipcz_node::{Act, NodeState};
 use ipcz_router::Router;
 use ipcz_router::act::{Answer, RouterAct};
 use ipcz_rule::View;
-use ipcz_slots::{Own, slot_of};
+use ipcz_slots::Own;
 use std::marker::{Brand, PhantomData};
 
 /// What an act gives up: nothing; the end of a word; or such an end, and a word that nobody but its router had.

@@ -9,7 +9,9 @@ mod portals;
 mod workers;
 
 pub use hub::Hub;
-pub use ipcz_cell::{Bells, Blank, Fabric, FabricName, NodeCell, Ticket, finish, start, start_lasting};
+pub use ipcz_cell::{
+    Bells, Blank, Fabric, FabricName, NodeCell, Ticket, finish, start, start_lasting,
+};
 pub use portal::{Got, Portal, PortalPutRefused};
 pub use portals::{Arrival, Portals};
 pub use workers::{Gate, Worker, run_worker, work, work_waiting};
