@@ -92,12 +92,12 @@ abbrev pub AreHeld : TableName → List CellState → List CellHandle → Type 0
 AreHeld t cells handles = cells_of handles ≡ holds_each t cells
 
 -- the handles have the cells of a new table for so many links, with so many slots, which are used again or not, one for each node
-pub record AreMade (words slots : ℕ) (reuses : Bool) (handles : List CellHandle) : Type 0 where
+pub record AreMade (words room : ℕ) (reuses : Bool) (handles : List CellHandle) : Type 0 where
   pub table : TableName
   pub cells : List CellState
   pub count : table.count ≡ length handles
   pub size : table.size ≡ words
-  pub slots : table.slots ≡ slots
+  pub slots : table.slots ≡ room
   pub reused : table.reuses ≡ reuses
   pub first : AreFirst table.count table.count cells
   pub held : AreHeld table cells handles
