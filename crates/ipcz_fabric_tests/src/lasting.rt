@@ -143,10 +143,12 @@ fn passes_on<F: FabricName>(
 // Whether a portal goes to the other node and back so many times, and then has a parcel that was put for it.
 fn travels<F: FabricName>(
     fabric: &Fabric<F>,
-    left: &mut NodeCell<F>,
-    right: &mut NodeCell<F>,
+    cells: &mut [NodeCell<F>],
     alloc: Global,
 ) -> Option<bool> {
+    let [left, right] = cells else {
+        return None;
+    };
     let (kept, sent) = left.open_pair(fabric).ok()?;
     put(fabric, left, alloc, LEFT, b"on", &[sent])?;
     for _lap in 0..LAPS {
@@ -171,10 +173,7 @@ fn travelled<F: FabricName>(blank: Blank, alloc: Global) -> Option<bool>
     requires { blank ≡ F.table }
 {
     let mut it = named::<F>(blank)?;
-    let [left, right] = it.cells.as_mut_slice() else {
-        return None;
-    };
-    travels(&it.fabric, left, right, alloc)
+    travels(&it.fabric, it.cells.as_mut_slice(), alloc)
 }
 
 #[test]
@@ -236,6 +235,25 @@ fn two_threads_close_more_pairs_than_there_are_slots(rt: HostRuntime) -> Result<
 }
 
 // Whether four threads, each with a cell of its own, two by two open, move and close so many pairs, with one claim count for all.
+fn two_by_two<F: FabricName + Send + Sync, R: Threads + Sync>(
+    rt: &R,
+    alloc: Global,
+    fabric: &Fabric<F>,
+    cells: &mut [NodeCell<F>],
+    pairs: u64,
+) -> bool {
+    let [first, second, third, fourth] = cells else {
+        return false;
+    };
+    let (left, right) = join(
+        rt,
+        || both_close(rt, alloc, fabric, first, second, 0, pairs),
+        || both_close(rt, alloc, fabric, third, fourth, 5, pairs),
+    );
+    left && right
+}
+
+// The same of a table.
 fn four_close<F: FabricName + Send + Sync, R: Threads + Sync>(
     rt: &R,
     alloc: Global,
@@ -245,16 +263,7 @@ fn four_close<F: FabricName + Send + Sync, R: Threads + Sync>(
     requires { blank ≡ F.table }
 {
     let mut it = named::<F>(blank)?;
-    let fabric = &it.fabric;
-    let [first, second, third, fourth] = it.cells.as_mut_slice() else {
-        return None;
-    };
-    let (left, right) = join(
-        rt,
-        || both_close(rt, alloc, fabric, first, second, 0, pairs),
-        || both_close(rt, alloc, fabric, third, fourth, 5, pairs),
-    );
-    Some(left && right)
+    Some(two_by_two(rt, alloc, &it.fabric, it.cells.as_mut_slice(), pairs))
 }
 
 #[test]
