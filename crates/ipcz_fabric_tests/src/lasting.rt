@@ -143,12 +143,10 @@ fn passes_on<F: FabricName>(
 // Whether a portal goes to the other node and back so many times, and then has a parcel that was put for it.
 fn travels<F: FabricName>(
     fabric: &Fabric<F>,
-    cells: &mut [NodeCell<F>],
+    left: &mut NodeCell<F>,
+    right: &mut NodeCell<F>,
     alloc: Global,
 ) -> Option<bool> {
-    let [left, right] = cells else {
-        return None;
-    };
     let (kept, sent) = left.open_pair(fabric).ok()?;
     put(fabric, left, alloc, LEFT, b"on", &[sent])?;
     for _lap in 0..LAPS {
@@ -169,11 +167,23 @@ fn travels<F: FabricName>(
     Some(rests && came.bytes.as_slice() == b"there".as_slice())
 }
 
+// The same between two cells.
+fn both_pass<F: FabricName>(
+    fabric: &Fabric<F>,
+    cells: &mut [NodeCell<F>],
+    alloc: Global,
+) -> Option<bool> {
+    match cells {
+        [left, right] => travels(fabric, left, right, alloc),
+        _ => None,
+    }
+}
+
 fn travelled<F: FabricName>(blank: Blank, alloc: Global) -> Option<bool>
     requires { blank ≡ F.table }
 {
     let mut it = named::<F>(blank)?;
-    travels(&it.fabric, it.cells.as_mut_slice(), alloc)
+    both_pass(&it.fabric, it.cells.as_mut_slice(), alloc)
 }
 
 #[test]
@@ -239,12 +249,12 @@ fn two_by_two<F: FabricName + Send + Sync, R: Threads + Sync>(
     rt: &R,
     alloc: Global,
     fabric: &Fabric<F>,
-    cells: &mut [NodeCell<F>],
+    first: &mut NodeCell<F>,
+    second: &mut NodeCell<F>,
+    third: &mut NodeCell<F>,
+    fourth: &mut NodeCell<F>,
     pairs: u64,
 ) -> bool {
-    let [first, second, third, fourth] = cells else {
-        return false;
-    };
     let (left, right) = join(
         rt,
         || both_close(rt, alloc, fabric, first, second, 0, pairs),
@@ -253,7 +263,22 @@ fn two_by_two<F: FabricName + Send + Sync, R: Threads + Sync>(
     left && right
 }
 
-// The same of a table.
+// The same of four cells.
+fn all_close<F: FabricName + Send + Sync, R: Threads + Sync>(
+    rt: &R,
+    alloc: Global,
+    fabric: &Fabric<F>,
+    cells: &mut [NodeCell<F>],
+    pairs: u64,
+) -> bool {
+    match cells {
+        [first, second, third, fourth] => {
+            two_by_two(rt, alloc, fabric, first, second, third, fourth, pairs)
+        }
+        _ => false,
+    }
+}
+
 fn four_close<F: FabricName + Send + Sync, R: Threads + Sync>(
     rt: &R,
     alloc: Global,
@@ -263,7 +288,7 @@ fn four_close<F: FabricName + Send + Sync, R: Threads + Sync>(
     requires { blank ≡ F.table }
 {
     let mut it = named::<F>(blank)?;
-    Some(two_by_two(rt, alloc, &it.fabric, it.cells.as_mut_slice(), pairs))
+    Some(all_close(rt, alloc, &it.fabric, it.cells.as_mut_slice(), pairs))
 }
 
 #[test]
