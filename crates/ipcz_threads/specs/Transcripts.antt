@@ -1,5 +1,5 @@
 -- The transcript of a script whose settles run on threads, and what a run may have read and written.
-use Rattle.std.specs.Prelude.{ℕ, ◌≡◌, Bool, List, map, Option, Result}
+use Rattle.std.specs.Prelude.{ℕ, ◌≡◌, Bool, false, List, map, Option, Result}
 use Rattle.ipcz_script.specs.declared.command.Command.{Command}
 use Rattle.ipcz_script.specs.declared.script.Script.{Script}
 use Rattle.ipcz_script.specs.declared.outcome.Outcome.{Outcome}
@@ -20,10 +20,11 @@ pub record IsFirst (t : TableName) (s : Stage) : Type 0 where
   pub cells : AreFirst t.count t.count (map (λ w. w.cell) s.workers)
   pub labels : s.labels ≡ first_labels t.count
 
--- a transcript of a script, and whether some line of it is `unsettled`: a run over a table of as many nodes and words as the script says
+-- a transcript of a script, and whether some line of it is `unsettled`: a run over a table of as many nodes and words as the script says, in which
+-- no word comes back
 abbrev pub IsTranscript : Gates → Script → List ℕ → Bool → Type 0
-IsTranscript gates script text unsettled = (t : TableName) × (s u : Stage) × (t.count ≡ script.nodes) × (t.size ≡ script.words) × IsFirst t s
-    × Writes gates t s script.commands text unsettled u
+IsTranscript gates script text unsettled = (t : TableName) × (s u : Stage) × (t.count ≡ script.nodes) × (t.size ≡ script.words) × (t.reuses ≡ false)
+    × IsFirst t s × Writes gates t s script.commands text unsettled u
 
 -- what comes of the run of a script, of some bytes and of a device, by these transcripts
 abbrev pub IsRunOutput : Gates → Script → Outcome → List ℕ → Type 0

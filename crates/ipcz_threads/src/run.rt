@@ -72,7 +72,7 @@ fn transcript<R: Threads + Sync, F: FabricName + Send + Sync, G: Gate + Send>(
 ) -> Result<(bool, Vec<u8>), AllocError>
     requires within { IsWithinLimits script.now.nodes script.now.words }
     requires table { blank ≡ F.table }
-    requires size { (F.table.count ≡ script.now.nodes) × (F.table.size ≡ script.now.words) }
+    requires size { (F.table.count ≡ script.now.nodes) × (F.table.size ≡ script.now.words) × (F.table.reuses ≡ false) }
     requires gates { length gates.old ≡ 8 }
     ensures { IfOk result (λ written. IsTranscript G.answers script.now written.1.items written.0) }
 {
