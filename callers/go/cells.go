@@ -14,7 +14,7 @@ type Cell struct {
 // NewCells makes the cells of a new table, by node: of 1 to 8 nodes, and of at least a link word for each two of them and at most 4096; else
 // TooMany.
 func NewCells(nodes int, words uint32) ([]*Cell, error) {
-	return newCells(nodes, func(handles *C.ipcz_cell, count C.size_t) C.ipcz_status {
+	return makeCells(nodes, func(handles *C.ipcz_cell, count C.size_t) C.ipcz_status {
 		return C.ipcz_cells_create(C.uint32_t(words), handles, count)
 	})
 }
@@ -24,12 +24,12 @@ func NewCells(nodes int, words uint32) ([]*Cell, error) {
 // have let it go, as they take turns; if none is to be had, an open is refused NoWord and may be tried again. There can be 4,294,967,295 links
 // in the table's life.
 func NewLastingCells(nodes int, slots uint32) ([]*Cell, error) {
-	return newCells(nodes, func(handles *C.ipcz_cell, count C.size_t) C.ipcz_status {
+	return makeCells(nodes, func(handles *C.ipcz_cell, count C.size_t) C.ipcz_status {
 		return C.ipcz_cells_create_lasting(C.uint32_t(slots), handles, count)
 	})
 }
 
-func newCells(nodes int, create func(*C.ipcz_cell, C.size_t) C.ipcz_status) ([]*Cell, error) {
+func makeCells(nodes int, create func(*C.ipcz_cell, C.size_t) C.ipcz_status) ([]*Cell, error) {
 	if nodes < 0 {
 		return nil, TooMany
 	}
