@@ -10,6 +10,7 @@ pub mod EndLaws
 pub mod FittingHands
 pub mod Following
 pub mod Going
+pub mod GivingUp
 pub mod GoneReading
 pub mod HoldingOnce
 pub mod Idling

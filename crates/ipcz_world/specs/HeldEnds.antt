@@ -1,6 +1,6 @@
 -- Worlds that last: claims may pass over numbers, and the ends of link words are held, or were let go for good.
 -- (This project's own: ipcz gives a link state back to its memory when the last router lets it go.)
-use Rattle.std.specs.Prelude.{◌≡◌, ◌⊎◌, ◌≤◌, ◌<◌, ℕ, zero, suc, ◌+◌, Bool, true, false, ◌&&◌, ◌||◌, nat_eq, Option, Some, None, List, ◌++◌, replicate, slice_get}
+use Rattle.std.specs.Prelude.{◌≡◌, ◌⊎◌, ◌≤◌, ◌<◌, ℕ, zero, suc, ◌+◌, Bool, true, false, ◌&&◌, ◌||◌, nat_eq, Option, Some, None, List, [], ◌∷◌, ◌++◌, replicate, slice_get}
 use Rattle.ipcz_base.specs.declared.side.Side.{Side}
 use Rattle.ipcz_base.specs.declared.link_id.LinkId.TheVariants.{Central}
 use Rattle.ipcz_base.specs.declared.message.Message.{Message}
@@ -9,6 +9,7 @@ use Rattle.ipcz_base.specs.Links.{has_link}
 use Rattle.ipcz_base.specs.Sides.{same_side}
 use Rattle.ipcz_router.specs.Router.{Router, router_has}
 use Rattle.ipcz_router.specs.ActEffects.{leaves_by}
+use Rattle.ipcz_router.specs.LettingGo.{let_go_end}
 use Rattle.ipcz_router.specs.declared.act.RouterAct.{RouterAct}
 use Rattle.ipcz_router.specs.declared.act.RouterAct.TheVariants as acts
 use Rattle.ipcz_node.specs.Node.{outbox}
@@ -16,7 +17,7 @@ use Rattle.ipcz_node.specs.declared.act.Act.TheVariants.{Router as OfRouter}
 use Rattle.ipcz_world.specs.declared.step.Step.{Step}
 use Rattle.ipcz_world.specs.declared.step.Step.TheVariants.{Turn}
 use Rattle.ipcz_world.specs.declared.step.Reply.{Reply}
-use Rattle.ipcz_world.specs.World.{World, Key, node_at, mail_at, router_at, messages_in, set_claimed, word_at}
+use Rattle.ipcz_world.specs.World.{World, Key, node_at, mail_at, router_at, messages_in, set_claimed, word_at, has_unclaimed_word}
 use Rattle.ipcz_world.specs.Turns.{router_of, message_in_hand, can_take, after_act}
 use Rattle.ipcz_world.specs.Steps.{StepAny, claim_for_open}
 use Rattle.ipcz_world.specs.Books.{Books}
@@ -25,7 +26,7 @@ use Rattle.ipcz_world.specs.Lawful.{Lawful}
 use Rattle.ipcz_world.specs.Ranks.{AreTurns}
 use Rattle.ipcz_world.specs.Flows.{IsUnderWay}
 use Rattle.ipcz_node.specs.declared.act.Act.{Act}
-use Rattle.ipcz_word.specs.Word.{Word, empty_word}
+use Rattle.ipcz_word.specs.Word.{Word, empty_word, is_free}
 use Rattle.ipcz_world.specs.World.{set_router}
 use Rattle.ipcz_world.specs.Acts.{dry_act}
 
@@ -145,6 +146,37 @@ abbrev pub HeldUntilLetGo : Type 0
 HeldUntilLetGo =
     (w : World) (b : Books) (g : Routes) (n : ℕ) (act : Act) (i : ℕ) (s : Side) → Lawful w b g → n < w.count → can_take w n act ≡ true →
     IsEndHeld w i s → IsEndHeld (after_act w n act) i s ⊎ LetsGo w n act i s
+
+-- one of these turns lets the end of a word go
+abbrev pub OneLetsGo : World → List (ℕ × Act) → ℕ → Side → Type 0
+OneLetsGo w [] i s = ⊥
+OneLetsGo w (t ∷ ts) i s = LetsGo w t.0 t.1 i s ⊎ OneLetsGo (after_act w t.0 t.1) ts i s
+
+-- law: an end that is held is held after turns as well, however many, or one of them lets it go
+abbrev pub TurnsKeepHeld : Type 0
+TurnsKeepHeld =
+    (w v : World) (b d : Books) (g h : Routes) (turns : List (ℕ × Act)) (i : ℕ) (s : Side) → Lawful w b g → AreTurns w b g turns v d h →
+    IsEndHeld w i s → IsEndHeld v i s ⊎ OneLetsGo w turns i s
+
+-- law: an act of a router lets nothing go but what the router gives up by it: the end of one word, and the spare of a proxy that leaves
+abbrev pub LetGoAreGivenUp : Type 0
+LetGoAreGivenUp =
+    (w : World) (b : Books) (g : Routes) (n serial : ℕ) (r : Router) (act : RouterAct) (i : ℕ) (s : Side) → Lawful w b g →
+    router_of w n serial ≡ Some r → can_take w n (OfRouter serial act) ≡ true → lets_go i s r act ≡ true →
+    (let_go_end r act ≡ Some (i, s)) ⊎ ((act ≡ acts.Leave) × (r.spare ≡ Some i))
+
+-- law: the first half of an open lets no end go
+abbrev pub OpeningKeepsHeld : Type 0
+OpeningKeepsHeld =
+    (w : World) (b : Books) (g : Routes) (n i : ℕ) (s : Side) → Lawful w b g → (node_at w n).opening ≡ None → IsEndHeld w i s →
+    IsEndHeld (claim_for_open w n) i s
+
+-- law: who claims a word, a router for its bypass or a node for an open, holds both its ends; and so are those of a word held that is free
+pub record ClaimedAreHeld : Type 0 where
+  pub router : (w : World) (n serial : ℕ) (s : Side) → can_take w n (OfRouter serial acts.Claim) ≡ true → has_unclaimed_word w ≡ true →
+      IsEndHeld (after_act w n (OfRouter serial acts.Claim)) w.claimed s
+  pub open_under_way : (w : World) (n : ℕ) (s : Side) → IsEndHeld (claim_for_open w n) w.claimed s
+  pub free : (w : World) (b : Books) (g : Routes) (i : ℕ) (s : Side) → Lawful w b g → is_free (word_at w i) ≡ true → IsEndHeld w i s
 
 -- whether a step is a turn
 unfoldable pub is_turn : Step → Bool

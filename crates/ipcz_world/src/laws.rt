@@ -18,6 +18,7 @@ ghost use Rattle.ipcz_world.specs.Lasting.{LastingRunsKeepTheTheorem, DeedsKeepR
 ghost use Rattle.ipcz_world.specs.HeldEnds.{PassingKeepsLawful, GrowingKeepsLawful, DryKeepsLawful, WetKeepsLawful};
 ghost use Rattle.ipcz_world.specs.HeldEnds.{HeldWereHeld, TurnsHeldWereHeld, HeldForOpenWereHeld, LostAreNotHeld, LetGoAreNotHeld, AcceptedAreHeld, DeadWordsDoNotMatter};
 ghost use Rattle.ipcz_world.specs.HeldEnds.{HeldUntilLetGo, CallsKeepHeld, HeldInOnePlace};
+ghost use Rattle.ipcz_world.specs.HeldEnds.{TurnsKeepHeld, LetGoAreGivenUp, OpeningKeepsHeld, ClaimedAreHeld};
 
 /// The theorem of this repository (specs/Theorem): to their callers the nodes together are the machine over the books alone. Whatever steps
 /// are taken from the start, and whichever possible act each turn takes, that machine allows their replies; each portal has got a prefix of
@@ -348,6 +349,22 @@ pub fn each_end_is_held_in_one_place()
 /// An end of a link word that is held is held after an act as well, or the act lets it go: by giving up a decaying link, or by leaving.
 pub fn ends_are_held_until_they_are_let_go()
     ensures { HeldUntilLetGo }
+{}
+
+/// So it is after turns, however many: an end that is held is held behind them, or one of them lets it go.
+pub fn turns_hold_ends_until_they_let_them_go()
+    ensures { TurnsKeepHeld }
+{}
+
+/// An act of a router lets nothing go but what the router gives up by it: the end of one word, and the spare of a proxy that leaves.
+pub fn what_is_let_go_is_given_up()
+    ensures { LetGoAreGivenUp }
+{}
+
+/// Who claims a word holds both its ends, and so does somebody those of a word that is free; and a claim for an open lets no end go.
+pub fn claimed_words_are_held()
+    ensures claimed { ClaimedAreHeld }
+    ensures others { OpeningKeepsHeld }
 {}
 
 /// A call of a caller lets no end go.

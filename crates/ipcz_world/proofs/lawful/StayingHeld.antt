@@ -24,12 +24,12 @@ use Rattle.ipcz_world.specs.declared.step.Step.TheVariants as steps
 use Rattle.ipcz_world.specs.World.{has_unclaimed_word}
 use Rattle.ipcz_world.specs.WordAnswers.{touch, touch_word, source_for}
 use Rattle.ipcz_world.specs.Turns.{after_hand, after_look, after_post, after_router_act, full_message, router_of, may_act, is_clear}
-use Rattle.ipcz_world.specs.Steps.{Effect, GivesOrNoMemory, refuse, at_node, open_with, open_on, open_step, close_step, StepAny}
+use Rattle.ipcz_world.specs.Steps.{Effect, GivesOrNoMemory, refuse, at_node, open_with, open_on, open_step, close_step, claim_for_open, StepAny}
 use Rattle.ipcz_world.specs.Routes.{Routes}
 use Rattle.ipcz_world.specs.Laws.{is_flush}
 use Rattle.ipcz_world.specs.Lawful.{Lawful}
 use Rattle.ipcz_world.specs.WorldLaws.{HandsFit}
-use Rattle.ipcz_world.specs.HeldEnds.{is_spare, router_holds, message_holds, IsEndHeld, ByRouter, ByOpen, ByOutbox, ByMailbox, lets_go, LetsGo, HeldUntilLetGo, is_turn, CallsKeepHeld}
+use Rattle.ipcz_world.specs.HeldEnds.{is_spare, router_holds, message_holds, IsEndHeld, ByRouter, ByOpen, ByOutbox, ByMailbox, lets_go, LetsGo, HeldUntilLetGo, OpeningKeepsHeld, is_turn, CallsKeepHeld}
 use Rattle.ipcz_world.proofs.facts.Tests.{and_first, and_second, nat_eq-is, nat_eq-itself}
 use Rattle.ipcz_world.proofs.facts.Lengths.{HasEnd, has_link-tells}
 use Rattle.ipcz_world.proofs.frames.Frames.{node-set_node, node-set_word, node-set_claimed, node-set_mail}
@@ -81,7 +81,7 @@ mail_touched w r acts.Unlock j = mail_touched_word w r.end.side (source_of r) ac
 mail_touched w r other j = refl
 
 -- what a node holds is held
-node_held : (v : World) (m i : ℕ) (s : Side) → NodeHolds i s (node_at v m) → IsEndHeld v i s
+pub node_held : (v : World) (m i : ℕ) (s : Side) → NodeHolds i s (node_at v m) → IsEndHeld v i s
 unfolding router_at
 node_held v m i s (InRouter serial r at h) = ByRouter (record { node = m; serial = serial }) r at (go (or_cases _ _ h))
   where
@@ -102,7 +102,8 @@ module _ (w : World) (b : Books) (g : Routes) (law : Lawful w b g) (i : ℕ) (s 
   not_inward (Central j) t e o = cc
   not_inward (Peripheral m x) t e o = cc
 
-  outer : (k : Key) (r : Router) → router_at w k ≡ Some r → router_holds i s r ≡ true → outer_holds i s r ≡ true
+  -- a router holds an end outward, or by its spare
+  pub outer : (k : Key) (r : Router) → router_at w k ≡ Some r → router_holds i s r ≡ true → outer_holds i s r ≡ true
   outer k r here h = go (or_cases _ _ h)
     where
       inner : (has_link (inward_edge r).primary (Central i) s ≡ true) ⊎ (has_link (inward_edge r).decaying (Central i) s ≡ true) → ⊥
@@ -390,6 +391,17 @@ module _ (w : World) (b : Books) (g : Routes) (law : Lawful w b g) (i : ℕ) (s 
       go true = opened_held (set_claimed w (w.claimed + 1)) n w.claimed (node-set_claimed w (w.claimed + 1)) (mail-set_claimed w (w.claimed + 1)) no h
       go false = h
 
+  -- the first half of an open
+  pub opening_held : (n : ℕ) → (node_at w n).opening ≡ None → IsEndHeld w i s → IsEndHeld (claim_for_open w n) i s
+  unfolding set_claimed set_node
+  opening_held n idle h = surely (kept_node (set_claimed w (w.claimed + 1)) n (record (node_at w n) { opening = Some w.claimed })
+      (node-set_claimed w (w.claimed + 1)) (mail-set_claimed w (w.claimed + 1)) (λ q. inl (keeps q)) (held_is h))
+    where
+      keeps : NodeHolds i s (node_at w n) → NodeHolds i s (record (node_at w n) { opening = Some w.claimed })
+      keeps (InRouter serial r at q) = InRouter serial r at q
+      keeps (InOpening e) = absurd (let f = sym idle ∙ e in cc)
+      keeps (InOutbox to place m at q) = InOutbox to place m at q
+
   noded_held : (n : ℕ) (o : Option Refusal) (reply : Reply) (x : Node) → (NodeHolds i s (node_at w n) → NodeHolds i s x) → IsEndHeld w i s →
       IsEndHeld (at_node w n (unless w o (record { reply = reply; world = set_node w n x }))).world i s
   noded_held n o reply x keeps h = at_node_held n _ h (unless_held o _ h
@@ -421,3 +433,6 @@ held_until_let_go fit w b g n act i s law ln can h = acted_held w b g law i s fi
 
 pub calls_keep_held : CallsKeepHeld
 calls_keep_held w v b g step reply i s law t x h = called_held w b g law i s v step reply t x h
+
+pub opening_keeps_held : OpeningKeepsHeld
+opening_keeps_held w b g n i s law idle h = opening_held w b g law i s n idle h

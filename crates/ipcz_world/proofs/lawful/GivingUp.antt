@@ -1,0 +1,198 @@
+-- What an act lets go is what its router gives up by it; and who claims a word holds both its ends.
+use Rattle.std.specs.Prelude.{◌≡◌, ◌⊎◌, ℕ, ◌+◌, Bool, true, false, cond, ◌&&◌, ◌||◌, nat_eq, if◌then◌else◌, Option, Some, None, is_none, is_some, refl}
+use Rattle.std.proofs.Common.{arith, sym, ◌∙◌, ap, subst, inl, inr}
+use Rattle.std.proofs.lemmas.Bool.{or_cases, or_left, or_right}
+use Rattle.std.proofs.lemmas.Bool.Decides.{nat_tests}
+use Rattle.std.specs.Cmp.{nat_cmp_total}
+use Rattle.std.specs.FinMap.{get-insert}
+use Rattle.ipcz_world.proofs.Vocabulary.{Side, LinkId, Central, Peripheral, LinkEnd, has_link, word_of, opposite, Router, RouterAct, is_possible, output_of, Node, router_in, with_router, commit}
+use Rattle.ipcz_world.proofs.Vocabulary.{World, Key, node_at, word_at, router_at, Books, set_node, answer_of, after_act, can_take}
+use Rattle.ipcz_router.specs.Router.{decays}
+use Rattle.ipcz_router.specs.LettingGo.{word_end, first_of, edge_end, let_go_end}
+use Rattle.ipcz_router.specs.ActTable.{is_rest, may_take}
+use Rattle.ipcz_router.specs.ActEffects.{apply, leaves_by}
+use Rattle.ipcz_router.specs.declared.act.RouterAct.TheVariants as acts
+use Rattle.ipcz_router.specs.declared.act.Answer.TheVariants as answers
+use Rattle.ipcz_node.specs.declared.act.Act.TheVariants.{Router as OfRouter}
+use Rattle.ipcz_node.specs.Node.{on_router}
+use Rattle.ipcz_node.specs.Sends.{send}
+use Rattle.ipcz_node.specs.Acts.{commit_router, keep_or_drop}
+use Rattle.ipcz_word.specs.Word.{is_free}
+use Rattle.ipcz_world.specs.World.{has_unclaimed_word}
+use Rattle.ipcz_world.specs.Structure.{is_begun_router}
+use Rattle.ipcz_world.specs.WordAnswers.{touch}
+use Rattle.ipcz_world.specs.Turns.{router_of, may_act, after_router_act}
+use Rattle.ipcz_world.specs.Steps.{claim_for_open}
+use Rattle.ipcz_world.specs.Routes.{Routes}
+use Rattle.ipcz_world.specs.Lawful.{Lawful}
+use Rattle.ipcz_world.specs.HeldEnds.{is_spare, router_holds, IsEndHeld, ByRouter, ByOpen, lets_go, LetGoAreGivenUp, ClaimedAreHeld}
+use Rattle.ipcz_world.proofs.facts.Lengths.{HasEnd, has_link-tells}
+use Rattle.ipcz_world.proofs.facts.Tests.{and_first, and_second, nat_eq-itself}
+use Rattle.ipcz_world.proofs.frames.Frames.{node-set_node, node-set_claimed}
+use Rattle.ipcz_world.proofs.lawful.Departures.{gone_next}
+use Rattle.ipcz_world.proofs.lawful.LettingGo.{spare_is}
+use Rattle.ipcz_world.proofs.lawful.StayingHeld.{outer, node_held}
+use Rattle.ipcz_world.proofs.runs.NodeKeeps.{NodeHolds, InRouter, outer_holds}
+
+-- the end of a word that a link end is
+word_is : (l : LinkId) (t : Side) (o i : ℕ) (s : Side) → l ≡ Central i → t ≡ s → word_end (Some (record { link = l; side = t; other = o })) ≡ Some (i, s)
+unfolding word_end word_of
+word_is (Central j) t o i s e f = let same : j ≡ i = cc in ap (λ k. Some (k, t)) same ∙ ap (λ u. Some (i, u)) f
+word_is (Peripheral n x) t o i s e f = absurd (cc)
+
+has_word : (o : Option LinkEnd) (i : ℕ) (s : Side) → has_link o (Central i) s ≡ true → word_end o ≡ Some (i, s)
+has_word o i s h =
+    let e : HasEnd o (Central i) s = has_link-tells o (Central i) s h in
+    ap word_end e.there ∙ word_is e.end.link e.end.side e.end.other i s e.on_link e.at_side
+
+first_is : (a c : Option (ℕ × Side)) (p : ℕ × Side) → a ≡ Some p → first_of a c ≡ Some p
+unfolding first_of
+first_is a c p e = ap (λ x. first_of x c) e
+
+-- who decays not has no decaying link outward
+still_none : (o c : Option LinkEnd) (i : ℕ) (s : Side) → (is_some o || is_some c) ≡ false → has_link o (Central i) s ≡ true → ⊥
+unfolding has_link
+still_none None c i s e h = cc
+still_none (Some x) c i s e h = cc
+
+-- who may leave has no link, or has sent Gone inward
+leave_cases : (r : Router) → is_possible r acts.Leave ≡ true → (r.outward.decaying ≡ None) ⊎ (r.gone_sent ≡ true)
+unfolding is_possible
+leave_cases r h = go r.gone_sent r.outward.decaying refl refl
+  where
+    go : (c : Bool) (o : Option LinkEnd) → r.gone_sent ≡ c → r.outward.decaying ≡ o → (r.outward.decaying ≡ None) ⊎ (r.gone_sent ≡ true)
+    go true o e f = inr e
+    go false None e f = inl f
+    go false (Some x) e f = absurd (grind (arith, h, e, f))
+
+not_begun : (p : Bool) (o : Option LinkEnd) → is_some o ≡ true → (p && is_none o) ≡ false
+not_begun true None h = absurd (cc)
+not_begun false None h = refl
+not_begun true (Some e) h = refl
+not_begun false (Some e) h = refl
+
+module _ (w : World) (b : Books) (g : Routes) (law : Lawful w b g) (k : Key) (r : Router) (here : router_at w k ≡ Some r) where
+  -- who leaves decays not
+  leaver_still : (act : RouterAct) → is_possible r act ≡ true → leaves_by r act ≡ true → (r.outward.decaying ≡ None) ⊎ (decays r ≡ false)
+  unfolding leaves_by is_possible
+  leaver_still acts.Leave may leaves = elim (leave_cases r may) [
+    | inl none ↦ inl none
+    | inr sent ↦ inr (law.inv.gones.still k r (opposite r.end.side) here
+        (not_begun _ _ ((law.inv.shape k r here).sent_proxy sent)) (law.inv.gones.sent k r here sent).0)
+  ]
+  leaver_still acts.Retire may leaves = inr (retire_still may)
+    where
+      retire_still : is_possible r acts.Retire ≡ true → decays r ≡ false
+      retire_still h = grind (arith, h)
+  leaver_still acts.Discard may leaves = inr (law.inv.gones.still k r (opposite r.end.side) here sink (gone_next w b law.records k r law.inv here leaves))
+    where
+      sink : is_begun_router r ≡ false
+      sink = grind (arith, may)
+  leaver_still other may leaves = cc
+
+  -- an end that who leaves holds outward is that of its one link
+  leaver_link : (act : RouterAct) → is_possible r act ≡ true → leaves_by r act ≡ true → (i : ℕ) (s : Side) →
+      (has_link r.outward.primary (Central i) s ≡ true) ⊎ (has_link r.outward.decaying (Central i) s ≡ true) → edge_end r.outward ≡ Some (i, s)
+  unfolding has_link
+  leaver_link act may leaves i s (inl h) = first_is _ _ (i, s) (has_word r.outward.primary i s h)
+  leaver_link act may leaves i s (inr h) = absurd (none (leaver_still act may leaves))
+    where
+      none : (r.outward.decaying ≡ None) ⊎ (decays r ≡ false) → ⊥
+      none (inl e) = let f = ap (λ o. has_link o (Central i) s) (sym e) ∙ h in cc
+      none (inr e) = still r.outward.decaying refl
+        where
+          still : (o : Option LinkEnd) → r.outward.decaying ≡ o → ⊥
+          still None f = let q = ap (λ o. has_link o (Central i) s) (sym f) ∙ h in cc
+          still (Some x) f = grind (arith, e, f)
+
+  -- only a proxy has a spare
+  spare_leaves : (act : RouterAct) → is_possible r act ≡ true → leaves_by r act ≡ true → (i : ℕ) → r.spare ≡ Some i → act ≡ acts.Leave
+  unfolding leaves_by is_possible
+  spare_leaves acts.Leave may leaves i e = refl
+  spare_leaves acts.Retire may leaves i e = absurd (grind (arith, may, (law.inv.shape k r here).spare_proxy i e))
+  spare_leaves acts.Discard may leaves i e = absurd (grind (arith, may, (law.inv.shape k r here).spare_proxy i e))
+  spare_leaves other may leaves i e = cc
+
+  leaver_gives : (act : RouterAct) → is_possible r act ≡ true → leaves_by r act ≡ true → (i : ℕ) (s : Side) → router_holds i s r ≡ true →
+      (edge_end r.outward ≡ Some (i, s)) ⊎ ((act ≡ acts.Leave) × (r.spare ≡ Some i))
+  leaver_gives act may leaves i s h = elim (or_cases _ _ (outer w b g law i s k r here h)) [
+    | inl q ↦ inl (leaver_link act may leaves i s (or_cases _ _ q))
+    | inr q ↦ let e = spare_is w b g law i r.spare q in inr (spare_leaves act may leaves i e, e)
+  ]
+
+may_possible : (r : Router) (act : RouterAct) → is_rest act ≡ false → may_take r act ≡ true → is_possible r act ≡ true
+may_possible r act n h = grind (arith, n, h)
+
+pub let_go_are_given_up : LetGoAreGivenUp
+unfolding can_take may_act lets_go let_go_end leaves_by is_rest
+let_go_are_given_up w b g n serial r act i s law here can lets = gives act (subst (λ o. may_act o act ≡ true) here can) lets
+  where
+    k : Key
+    k = record { node = n; serial = serial }
+
+    leaves : (a : RouterAct) → is_rest a ≡ false → may_take r a ≡ true → (leaves_by r a && router_holds i s r) ≡ true →
+        (edge_end r.outward ≡ Some (i, s)) ⊎ ((a ≡ acts.Leave) × (r.spare ≡ Some i))
+    leaves a rests may q = leaver_gives w b g law k r here a (may_possible r a rests may) (and_first (leaves_by r a) (router_holds i s r) q) i s
+        (and_second (leaves_by r a) (router_holds i s r) q)
+
+    gives : (a : RouterAct) → may_act (Some r) a ≡ true → lets_go i s r a ≡ true →
+        (let_go_end r a ≡ Some (i, s)) ⊎ ((a ≡ acts.Leave) × (r.spare ≡ Some i))
+    gives acts.FinishOut may q = inl (has_word r.outward.decaying i s q)
+    gives acts.Leave may q = leaves acts.Leave refl may q
+    gives acts.Retire may q = leaves acts.Retire refl may q
+    gives acts.Discard may q = elim (leaves acts.Discard refl may q) [
+      | inl e ↦ inl (ap (λ (c : Bool). if c then edge_end r.outward else None) (and_first (leaves_by r acts.Discard) (router_holds i s r) q) ∙ e)
+      | inr e ↦ inr e
+    ]
+    gives other may q = cc
+
+-- who claims a word
+module _ (w : World) (n serial : ℕ) (s : Side) (room : has_unclaimed_word w ≡ true) (r : Router) (here : router_in (node_at w n) serial ≡ Some r) where
+  abbrev claimer : Router
+  claimer = record r { spare = Some w.claimed }
+
+  abbrev node : Node
+  node = commit (node_at w n) (OfRouter serial acts.Claim) (answer_of w r acts.Claim)
+
+  node_is : node ≡ with_router (node_at w n) serial claimer
+  unfolding commit on_router commit_router keep_or_drop leaves_by apply output_of send answer_of
+  node_is = ap (λ o. on_router (node_at w n) o (commit_router (node_at w n) serial acts.Claim (answer_of w r acts.Claim))) here
+      ∙ ap (λ (c : Bool). commit_router (node_at w n) serial acts.Claim (if c then answers.Claimed w.claimed else answers.NoWord) r) room
+
+  there : router_in node serial ≡ Some claimer
+  there = ap (λ x. router_in x serial) node_is ∙ grind (arith, get-insert nat_cmp_total (node_at w n).routers serial claimer serial, nat_tests)
+
+  spare_here : nat_eq w.claimed w.claimed ≡ true → is_spare w.claimed (Some w.claimed) ≡ true
+  unfolding is_spare
+  spare_here e = e
+
+  claimed_router : IsEndHeld (after_router_act w n serial acts.Claim (Some r)) w.claimed s
+  unfolding after_router_act
+  claimed_router = node_held _ n w.claimed s (subst (λ x. NodeHolds w.claimed s x) (sym (node-set_node (touch w r acts.Claim) n node n
+      ∙ ap (λ c. cond c node (node_at (touch w r acts.Claim) n)) (nat_eq-itself n))) (InRouter serial claimer there (holds (nat_eq-itself w.claimed))))
+    where
+      holds : nat_eq w.claimed w.claimed ≡ true → outer_holds w.claimed s claimer ≡ true
+      holds e = or_right _ _ (spare_here e)
+
+claimed_by_router : (w : World) (n serial : ℕ) (s : Side) → can_take w n (OfRouter serial acts.Claim) ≡ true → has_unclaimed_word w ≡ true →
+    IsEndHeld (after_act w n (OfRouter serial acts.Claim)) w.claimed s
+unfolding can_take may_act after_act router_at
+claimed_by_router w n serial s can room = by (router_of w n serial) refl can
+  where
+    by : (o : Option Router) → router_of w n serial ≡ o → may_act o acts.Claim ≡ true → IsEndHeld (after_router_act w n serial acts.Claim o) w.claimed s
+    by None e h = cc
+    by (Some r) e h = claimed_router w n serial s room r e
+
+claimed_for_open : (w : World) (n : ℕ) (s : Side) → IsEndHeld (claim_for_open w n) w.claimed s
+claimed_for_open w n s = ByOpen n (ap (λ (x : Node). x.opening) (node-set_claimed (set_node w n y) (w.claimed + 1) n ∙ (node-set_node w n y n
+    ∙ ap (λ c. cond c y (node_at w n)) (nat_eq-itself n))))
+  where
+    y : Node
+    y = record (node_at w n) { opening = Some w.claimed }
+
+-- who stands at a free word
+free_held : (w : World) (b : Books) (g : Routes) (i : ℕ) (s : Side) → Lawful w b g → is_free (word_at w i) ≡ true → IsEndHeld w i s
+free_held w b g i s law free = let t = law.link_law.free i s free in ByRouter t.key t.router t.here (or_left _ _ (or_left _ _ (or_left _ _ t.on)))
+
+pub claimed_are_held : ClaimedAreHeld
+claimed_are_held = record { router = claimed_by_router; open_under_way = claimed_for_open; free = free_held }
