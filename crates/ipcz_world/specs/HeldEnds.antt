@@ -1,6 +1,6 @@
 -- Worlds that last: claims may pass over numbers, and the ends of link words are held, or were let go for good.
 -- (This project's own: ipcz gives a link state back to its memory when the last router lets it go.)
-use Rattle.std.specs.Prelude.{◌≡◌, ◌⊎◌, ◌≤◌, ◌<◌, ℕ, zero, suc, ◌+◌, Bool, true, false, ◌&&◌, ◌||◌, nat_eq, Option, Some, None, List, [], ◌∷◌, ◌++◌, replicate, slice_get}
+use Rattle.std.specs.Prelude.{◌≡◌, ◌≢◌, ◌⊎◌, ◌≤◌, ◌<◌, ℕ, zero, suc, ◌+◌, Bool, true, false, ◌&&◌, ◌||◌, nat_eq, Option, Some, None, List, [], ◌∷◌, ◌++◌, replicate, slice_get}
 use Rattle.ipcz_base.specs.declared.side.Side.{Side}
 use Rattle.ipcz_base.specs.declared.link_id.LinkId.TheVariants.{Central}
 use Rattle.ipcz_base.specs.declared.message.Message.{Message}
@@ -9,7 +9,7 @@ use Rattle.ipcz_base.specs.Links.{has_link}
 use Rattle.ipcz_base.specs.Sides.{same_side}
 use Rattle.ipcz_router.specs.Router.{Router, router_has}
 use Rattle.ipcz_router.specs.ActEffects.{leaves_by}
-use Rattle.ipcz_router.specs.LettingGo.{let_go_end}
+use Rattle.ipcz_router.specs.LettingGo.{let_go_end, let_go_spare}
 use Rattle.ipcz_router.specs.declared.act.RouterAct.{RouterAct}
 use Rattle.ipcz_router.specs.declared.act.RouterAct.TheVariants as acts
 use Rattle.ipcz_node.specs.Node.{outbox}
@@ -158,12 +158,14 @@ TurnsKeepHeld =
     (w v : World) (b d : Books) (g h : Routes) (turns : List (ℕ × Act)) (i : ℕ) (s : Side) → Lawful w b g → AreTurns w b g turns v d h →
     IsEndHeld w i s → IsEndHeld v i s ⊎ OneLetsGo w turns i s
 
--- law: an act of a router lets nothing go but what the router gives up by it: the end of one word, and the spare of a proxy that leaves
-abbrev pub LetGoAreGivenUp : Type 0
-LetGoAreGivenUp =
-    (w : World) (b : Books) (g : Routes) (n serial : ℕ) (r : Router) (act : RouterAct) (i : ℕ) (s : Side) → Lawful w b g →
-    router_of w n serial ≡ Some r → can_take w n (OfRouter serial act) ≡ true → lets_go i s r act ≡ true →
-    (let_go_end r act ≡ Some (i, s)) ⊎ ((act ≡ acts.Leave) × (r.spare ≡ Some i))
+-- law: an act of a router lets nothing go but what the router gives up by it: the end of one word, and a spare; and who gives up a spare
+-- gives up the end of another word
+pub record LetGoAreGivenUp : Type 0 where
+  pub ends : (w : World) (b : Books) (g : Routes) (n serial : ℕ) (r : Router) (act : RouterAct) (i : ℕ) (s : Side) → Lawful w b g →
+      router_of w n serial ≡ Some r → can_take w n (OfRouter serial act) ≡ true → lets_go i s r act ≡ true →
+      (let_go_end r act ≡ Some (i, s)) ⊎ (let_go_spare r act ≡ Some i)
+  pub spares : (w : World) (b : Books) (g : Routes) (n serial : ℕ) (r : Router) (act : RouterAct) (j : ℕ) → Lawful w b g →
+      router_of w n serial ≡ Some r → let_go_spare r act ≡ Some j → (i : ℕ) × (s : Side) × (let_go_end r act ≡ Some (i, s)) × (j ≢ i)
 
 -- law: the first half of an open lets no end go
 abbrev pub OpeningKeepsHeld : Type 0

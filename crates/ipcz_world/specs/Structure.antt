@@ -68,7 +68,8 @@ pub record HasShape (r : Router) : Type 0 where
   pub dropped_sink : r.mark_dropped ≡ true → is_sink r ≡ true
   pub sent_proxy : r.gone_sent ≡ true → is_some (inward_edge r).primary ≡ true
   pub spare_proxy : (i : ℕ) → r.spare ≡ Some i → is_proxy r ≡ true
-  pub spare_primary : (i : ℕ) → r.spare ≡ Some i → is_some r.outward.primary ≡ true
+  -- whose outward link is central
+  pub spare_central : (i : ℕ) → r.spare ≡ Some i → is_on_central r ≡ true
 
 abbrev pub Shape : World → Type 0
 Shape w = EachRouter w (λ k r. HasShape r)

@@ -12,7 +12,7 @@ use Rattle.ipcz_world.proofs.frames.RecordRules.{record_rules}
 use Rattle.ipcz_world.specs.Remembering.{accepted_records}
 use Rattle.ipcz_world.specs.Acts.{accept_act}
 use Rattle.ipcz_world.proofs.facts.Lengths.{same_side-itself, same_side-opposite}
-use Rattle.ipcz_world.proofs.facts.LinkTests.{side_is}
+use Rattle.ipcz_world.proofs.facts.LinkTests.{side_is, central_word}
 
 -- the router across has a primary link, has nothing that decays, and neither a spare nor the lock is touched
 pub shape-accept : (w : World) (from : ℕ) (k : Key) (r : Router) (e : LinkEnd) (old : ℕ) (side : Side) (fresh length : ℕ) → Shape w →
@@ -32,7 +32,7 @@ shape-accept w from k r e old side fresh length law here on =
       dropped_sink = (law k r here).dropped_sink;
       sent_proxy = (law k r here).sent_proxy;
       spare_proxy = (law k r here).spare_proxy;
-      spare_primary = λ i e. refl;
+      spare_central = λ i e. central_word fresh from side;
     })
 
 -- what the message in hand is, by the records

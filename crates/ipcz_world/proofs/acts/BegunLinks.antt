@@ -87,7 +87,7 @@ module _ {w v : World} {b : Books} {g : Records} {k : Key} {r y : Router} {p : K
     dropped_sink = λ m. absurd (grind (arith, (law.shape k r is.here).dropped_sink (sym new.mark_dropped ∙ m), is.proxy));
     sent_proxy = λ m. unsent law is c new (sym new.gone_sent ∙ m);
     spare_proxy = λ i e. absurd (grind (arith, new.spare, e));
-    spare_primary = λ i e. absurd (grind (arith, new.spare, e));
+    spare_central = λ i e. absurd (grind (arith, new.spare, e));
   }
 
   pub shape-begun : Shape v

@@ -25,6 +25,7 @@ use Rattle.ipcz_world.proofs.acts.BypassPeerAround.{proxy_side_same, across_side
 use Rattle.ipcz_world.proofs.acts.BypassPeerAround.{rec_kept, new_recorded}
 use Rattle.ipcz_world.proofs.frames.Unmoved.{WasLike}
 use Rattle.ipcz_world.proofs.frames.Frames.{OneOrBefore}
+use Rattle.ipcz_world.proofs.facts.LinkTests.{central_word}
 
 module _ {w : World} {b : Books} {g : Records} {from : ℕ} {k : Key} {r : Router} {o : ℕ} {link : LinkId} {side : Side}
     {target fresh : ℕ} (law : Sealed w b g) (can : Closed (CanPeer w from k r o link side target fresh)) where
@@ -253,5 +254,5 @@ module _ {w : World} {b : Books} {g : Records} {from : ℕ} {k : Key} {r : Route
     dropped_sink = shape.dropped_sink;
     sent_proxy = shape.sent_proxy;
     spare_proxy = shape.spare_proxy;
-    spare_primary = λ i e. refl;
+    spare_central = λ i e. central_word fresh target r.end.side;
   })

@@ -7,10 +7,10 @@ use Rattle.ipcz_world.proofs.frames.LiveLinks.{live-kept}
 use Rattle.ipcz_world.proofs.frames.Sourcing.{sourced-by, had-one}
 use Rattle.ipcz_word.specs.Word.{Word}
 use Rattle.ipcz_world.specs.Routes.{source as source'}
-use Rattle.std.specs.Prelude.{◌≡◌, ◌≢◌, ◌⊎◌, ◌<◌, ◌+◌, ◌*◌, ℕ, Bool, true, false, cond, not, nat_eq, Option, Some, None, is_some, refl}
+use Rattle.std.specs.Prelude.{◌≡◌, ◌≢◌, ◌⊎◌, ◌<◌, ◌+◌, ◌*◌, ℕ, Bool, true, false, cond, not, nat_eq, Option, Some, None, refl}
 use Rattle.std.proofs.Common.{arith, sym, ◌∙◌, ap, inl, inr}
 use Rattle.std.proofs.lemmas.Bool.Decides.{nat_tests}
-use Rattle.ipcz_world.proofs.Vocabulary.{Central, LinkId, LinkEnd, has, Router, is_possible, word_of, World, Key, same_key, word_at}
+use Rattle.ipcz_world.proofs.Vocabulary.{Central, LinkId, has, Router, is_possible, word_of, World, Key, same_key, word_at}
 use Rattle.ipcz_world.proofs.Vocabulary.{mail_at, way, router_at, set_router, Books, Records, Owner, Spare, Fresh, Linked, is_linked}
 use Rattle.ipcz_world.proofs.Vocabulary.{is_unclaimed, is_recorded, side_router, side_node, Weight, names_end, key_passes, Inv}
 use Rattle.ipcz_router.specs.ActEffects.{claim_word}
@@ -36,7 +36,7 @@ use Rattle.ipcz_world.proofs.frames.Owners.{retired-owned}
 use Rattle.ipcz_world.proofs.frames.GonesKept.{gones-by}
 use Rattle.ipcz_world.proofs.frames.GivenUp.{part_gone}
 use Rattle.ipcz_world.specs.Records.{is_left}
-use Rattle.ipcz_router.specs.Router.{is_proxy}
+use Rattle.ipcz_router.specs.Router.{is_proxy, is_on_central}
 use Rattle.ipcz_router.specs.ActTable.{is_done}
 use Rattle.std.proofs.lemmas.Bool.{or_left}
 use Rattle.std.specs.Prelude.{◌||◌, ◌&&◌}
@@ -72,7 +72,7 @@ inv-claim w b g k r law can left = record {
     dropped_sink = shape.dropped_sink;
     sent_proxy = shape.sent_proxy;
     spare_proxy = λ j e. ready;
-    spare_primary = λ j e. primary;
+    spare_central = λ j e. central;
   });
   links = links-owned v b g i (Spare k) unlinked refl (links-gives w v g k r (Some y) gives law.links);
   positions = positions-owned v b g i (Spare k) unlinked refl (positions-gives w v g k r (Some y) gives law.positions);
@@ -205,12 +205,8 @@ inv-claim w b g k r law can left = record {
     ready : is_proxy r ≡ true
     ready = grind (arith, can.possible)
 
-    primary : is_some r.outward.primary ≡ true
-    primary = go r.outward.primary refl
-      where
-        go : (e : Option LinkEnd) → r.outward.primary ≡ e → is_some r.outward.primary ≡ true
-        go None e = absurd (grind (arith, can.possible, e))
-        go (Some x) e = ap is_some e
+    central : is_on_central r ≡ true
+    central = grind (arith, can.possible)
 
     mail : (n from : ℕ) → mail_at v (way v from n) ≡ mail_at w (way w from n)
     mail n from = one.mail (way v from n) ∙ ap (λ j. mail_at w (from * j + n)) one.count

@@ -87,7 +87,7 @@ module _ {w v : World} {b : Books} {g : Records} {q : Key} {r : Router} {a : ℕ
     dropped_sink = λ m. absurd (not_both r.closed (and_second (is_terminal r) r.closed (shape.dropped_sink m)) unclosed);
     sent_proxy = λ m. refl;
     spare_proxy = λ i e. refl;
-    spare_primary = shape.spare_primary;
+    spare_central = shape.spare_central;
   }
 
   pub shape-extended : r.closed ≡ false → Shape v

@@ -345,7 +345,7 @@ shape-flagged r y same fit law = record {
   dropped_sink = λ m. rw (same.inward, same.closed) (law.dropped_sink (sym same.mark_dropped ∙ m));
   sent_proxy = λ m. rw (same.inward) (law.sent_proxy (sym same.gone_sent ∙ m));
   spare_proxy = λ i e. ap is_some same.inward ∙ law.spare_proxy i (sym fit.spare ∙ e);
-  spare_primary = λ i e. rw (same.outward) (law.spare_primary i (sym fit.spare ∙ e));
+  spare_central = λ i e. rw (same.outward) (law.spare_central i (sym fit.spare ∙ e));
 }
 
 pub shape-touched : (w v : World) (k : Key) (r y : Router) → Shape w → router_at w k ≡ Some r → SameButRouter w v k (Some y) →

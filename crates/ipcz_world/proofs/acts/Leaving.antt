@@ -11,7 +11,7 @@ use Rattle.ipcz_world.specs.Records.{is_left}
 use Rattle.ipcz_world.specs.Structure.{is_begun_router}
 use Rattle.ipcz_world.specs.Remembering.{left_end, lost_word, leave_records}
 use Rattle.ipcz_world.proofs.acts.Reading.{in_numbers, slice_get-below}
-use Rattle.ipcz_world.proofs.facts.LinkTests.{opposite_end-twice}
+use Rattle.ipcz_world.proofs.facts.LinkTests.{opposite_end-twice, central_some}
 use Rattle.ipcz_world.proofs.facts.Tests.{not_both}
 use Rattle.ipcz_world.proofs.frames.Departing.{IsLeaver, h, h_is, is_off_here, near-departed, retired-departed, gones-departed}
 use Rattle.ipcz_world.proofs.frames.GivingUp.{IsBare}
@@ -144,7 +144,7 @@ inv-leave_bare w b g k r law can bare = inv-gives w (leave_act w k) b g k r None
     told = leaver-told w b g k r law can.here bare
 
     without : (i : ℕ) → r.spare ≡ Some i → ⊥
-    without i e = grind (arith, (law.shape k r can.here).spare_primary i e, bare.primary)
+    without i e = grind (arith, central_some r.outward.primary ((law.shape k r can.here).spare_central i e), bare.primary)
 
     spare : (o : Option ℕ) → r.spare ≡ o → r.spare ≡ None
     spare None e = e
@@ -283,7 +283,7 @@ inv-leave w b g k r law can = elim (leave-tells r can.possible) [
   where
     no_spare : HasNoLink r → (o : Option ℕ) → r.spare ≡ o → r.spare ≡ None
     no_spare bare None e = e
-    no_spare bare (Some i) e = absurd (grind (arith, (law.shape k r can.here).spare_primary i e, bare.primary))
+    no_spare bare (Some i) e = absurd (grind (arith, central_some r.outward.primary ((law.shape k r can.here).spare_central i e), bare.primary))
 
     proxy_records : (g : Records) (r : Router) → is_proxy r ≡ true → leave_records g r ≡ off_of g r
     proxy_records g r p = let lone : is_terminal r ≡ false = grind (arith, p) in rw lone refl

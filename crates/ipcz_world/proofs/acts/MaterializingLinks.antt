@@ -87,7 +87,7 @@ module _ {w v : World} {b : Books} {g : Records} {a : ℕ} {q p : Key} {d : Desc
     dropped_sink = λ m. absurd (grind (arith, m));
     sent_proxy = λ m. absurd (grind (arith, m));
     spare_proxy = λ i e. absurd (grind (arith, e));
-    spare_primary = λ i e. absurd (grind (arith, e));
+    spare_central = λ i e. absurd (grind (arith, e));
   })
 
   still_recorded : (x : Key) (z : Router) (e : LinkEnd) → IsRecorded w g x z e → IsRecorded v h x z e

@@ -1,8 +1,8 @@
 -- What the tests of sides, links and ends tell.
-use Rattle.std.specs.Prelude.{◌≡◌, ◌⊎◌, ◌≤◌, ◌<◌, ℕ, Bool, true, false, cond, nat_le, Option, Some, None, refl, nat_eq}
+use Rattle.std.specs.Prelude.{◌≡◌, ◌⊎◌, ◌≤◌, ◌<◌, ℕ, Bool, true, false, cond, nat_le, Option, Some, None, is_some, refl, nat_eq}
 use Rattle.std.proofs.Common.{arith, inl, inr}
 use Rattle.std.proofs.lemmas.Bool.Decides.{nat_tests}
-use Rattle.ipcz_world.proofs.Vocabulary.{Side, A, B, End, LinkId, LinkEnd, opposite, same_side, same_end, opposite_end, has_link}
+use Rattle.ipcz_world.proofs.Vocabulary.{Side, A, B, End, LinkId, LinkEnd, opposite, same_side, same_end, opposite_end, has_link, word_of}
 use Rattle.ipcz_world.proofs.Vocabulary.{known_from, Central, Peripheral, Key, inner_link, is_outward}
 use Rattle.ipcz_world.proofs.facts.Lengths.{same_side-itself, same_side-tells, same_link-itself, opposite-twice}
 use Rattle.ipcz_world.proofs.facts.Tests.{and_first, and_second}
@@ -57,3 +57,14 @@ unfolding is_outward
 inward_link (Central i) t o = absurd (grind (arith, o))
 inward_link (Peripheral n x) A o = (record { node = n; serial = x }, refl, refl)
 inward_link (Peripheral n x) B o = absurd (grind (arith, o))
+
+-- a link of a word is a link
+pub central_some : (o : Option LinkEnd) → is_some (word_of o) ≡ true → is_some o ≡ true
+unfolding word_of
+central_some None h = absurd (cc)
+central_some (Some e) h = refl
+
+-- what stands on a central link has its word
+pub central_word : (i other : ℕ) (s : Side) → is_some (word_of (Some (record { link = Central i; side = s; other = other }))) ≡ true
+unfolding word_of
+central_word i other s = refl

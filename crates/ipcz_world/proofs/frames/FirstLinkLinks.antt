@@ -32,7 +32,7 @@ shape-fresh i at s = record {
   dropped_sink = λ m. absurd (not_both (fresh_at i at s).mark_dropped m refl);
   sent_proxy = λ m. absurd (not_both (fresh_at i at s).gone_sent m refl);
   spare_proxy = λ j e. absurd (grind (arith, e));
-  spare_primary = λ j e. absurd (grind (arith, e));
+  spare_central = λ j e. absurd (grind (arith, e));
 }
 
 module _ {w v : World} {b : Books} {g : Records} {owner' : ℕ → Owner} {central' : ℕ → CentralRecord} {terminal' : End → Terminal} {i : ℕ}

@@ -1,5 +1,5 @@
 -- A router gives decaying links up, or leaves: the relation, and what is said of shapes, links and who stands there is kept.
-use Rattle.ipcz_world.proofs.Vocabulary.{HasPositions}
+use Rattle.ipcz_world.proofs.Vocabulary.{HasPositions, word_of}
 use Rattle.ipcz_world.proofs.frames.LinksKept.{links-kept}
 use Rattle.ipcz_world.proofs.frames.LinksKept.{KeepsLinks}
 use Rattle.ipcz_world.proofs.Vocabulary.{HasShape}
@@ -165,7 +165,7 @@ shape-part x y part flags law = record {
   dropped_sink = λ m. sink-part x y part (law.dropped_sink (sym part.mark_dropped ∙ m));
   sent_proxy = λ m. ap is_some part.inward_primary ∙ law.sent_proxy (sym part.gone_sent ∙ m);
   spare_proxy = λ i e. part.proxy ∙ law.spare_proxy i (sym flags.spare ∙ e);
-  spare_primary = λ i e. ap is_some part.primary ∙ law.spare_primary i (sym flags.spare ∙ e);
+  spare_central = λ i e. ap (λ o. is_some (word_of o)) part.primary ∙ law.spare_central i (sym flags.spare ∙ e);
 }
   where
     role : (d : Option LinkEnd) → (inward_edge y).decaying ≡ d → has_role y ≡ true

@@ -84,7 +84,7 @@ shape_like r x like linked law = record {
   dropped_sink = λ m. sink_like r x like (law.dropped_sink (sym like.mark_dropped ∙ m));
   sent_proxy = λ m. ap is_some linked.inward_primary ∙ law.sent_proxy (sym like.gone_sent ∙ m);
   spare_proxy = λ i e. proxy_like r x like ∙ law.spare_proxy i (sym like.spare ∙ e);
-  spare_primary = λ i e. ap is_some linked.primary ∙ law.spare_primary i (sym like.spare ∙ e);
+  spare_central = λ i e. ap (λ o. is_some (word_of o)) linked.primary ∙ law.spare_central i (sym like.spare ∙ e);
 }
 
 keeps_like : (r x : Router) → IsLinkedLike r x → KeepsLinks r x

@@ -83,7 +83,7 @@ shape-alike r y same law = record {
   dropped_sink = λ m. same.dropped m law.dropped_sink;
   sent_proxy = λ m. same.sent m law.sent_proxy;
   spare_proxy = λ i e. ap is_some same.inward ∙ law.spare_proxy i (sym same.spare ∙ e);
-  spare_primary = λ i e. rw (same.outward) (law.spare_primary i (sym same.spare ∙ e));
+  spare_central = λ i e. rw (same.outward) (law.spare_central i (sym same.spare ∙ e));
 }
 
 positions-alike : (g : Records) (k : Key) (r y : Router) → IsAlike r y → HasPositions g k r → HasPositions g k y

@@ -1,14 +1,14 @@
 -- What an act lets go is what its router gives up by it; and who claims a word holds both its ends.
-use Rattle.std.specs.Prelude.{◌≡◌, ◌⊎◌, ℕ, ◌+◌, Bool, true, false, cond, ◌&&◌, ◌||◌, nat_eq, if◌then◌else◌, Option, Some, None, is_none, is_some, refl}
+use Rattle.std.specs.Prelude.{◌≡◌, ◌≢◌, ◌⊎◌, ℕ, ◌+◌, Bool, true, false, cond, ◌&&◌, ◌||◌, nat_eq, if◌then◌else◌, Option, Some, None, is_none, is_some, refl}
 use Rattle.std.proofs.Common.{arith, sym, ◌∙◌, ap, subst, inl, inr}
 use Rattle.std.proofs.lemmas.Bool.{or_cases, or_left, or_right}
 use Rattle.std.proofs.lemmas.Bool.Decides.{nat_tests}
 use Rattle.std.specs.Cmp.{nat_cmp_total}
 use Rattle.std.specs.FinMap.{get-insert}
 use Rattle.ipcz_world.proofs.Vocabulary.{Side, LinkId, Central, Peripheral, LinkEnd, has_link, word_of, opposite, Router, RouterAct, is_possible, output_of, Node, router_in, with_router, commit}
-use Rattle.ipcz_world.proofs.Vocabulary.{World, Key, node_at, word_at, router_at, Books, set_node, answer_of, after_act, can_take}
+use Rattle.ipcz_world.proofs.Vocabulary.{World, Key, node_at, word_at, router_at, Books, Owner, Spare, Linked, set_node, answer_of, after_act, can_take}
 use Rattle.ipcz_router.specs.Router.{decays}
-use Rattle.ipcz_router.specs.LettingGo.{word_end, first_of, edge_end, let_go_end}
+use Rattle.ipcz_router.specs.LettingGo.{word_end, first_of, edge_end, let_go_end, let_go_spare}
 use Rattle.ipcz_router.specs.ActTable.{is_rest, may_take}
 use Rattle.ipcz_router.specs.ActEffects.{apply, leaves_by}
 use Rattle.ipcz_router.specs.declared.act.RouterAct.TheVariants as acts
@@ -26,7 +26,7 @@ use Rattle.ipcz_world.specs.Steps.{claim_for_open}
 use Rattle.ipcz_world.specs.Routes.{Routes}
 use Rattle.ipcz_world.specs.Lawful.{Lawful}
 use Rattle.ipcz_world.specs.HeldEnds.{is_spare, router_holds, IsEndHeld, ByRouter, ByOpen, lets_go, LetGoAreGivenUp, ClaimedAreHeld}
-use Rattle.ipcz_world.proofs.facts.Lengths.{HasEnd, has_link-tells}
+use Rattle.ipcz_world.proofs.facts.Lengths.{HasEnd, has_link-tells, has_link-some}
 use Rattle.ipcz_world.proofs.facts.Tests.{and_first, and_second, nat_eq-itself}
 use Rattle.ipcz_world.proofs.frames.Frames.{node-set_node, node-set_claimed}
 use Rattle.ipcz_world.proofs.lawful.Departures.{gone_next}
@@ -71,6 +71,9 @@ not_begun false None h = refl
 not_begun true (Some e) h = refl
 not_begun false (Some e) h = refl
 
+apart : (o : Owner) (k : Key) → o ≡ Linked → o ≡ Spare k → ⊥
+apart o k e f = cc
+
 module _ (w : World) (b : Books) (g : Routes) (law : Lawful w b g) (k : Key) (r : Router) (here : router_at w k ≡ Some r) where
   -- who leaves decays not
   leaver_still : (act : RouterAct) → is_possible r act ≡ true → leaves_by r act ≡ true → (r.outward.decaying ≡ None) ⊎ (decays r ≡ false)
@@ -105,46 +108,85 @@ module _ (w : World) (b : Books) (g : Routes) (law : Lawful w b g) (k : Key) (r 
           still None f = let q = ap (λ o. has_link o (Central i) s) (sym f) ∙ h in cc
           still (Some x) f = grind (arith, e, f)
 
-  -- only a proxy has a spare
-  spare_leaves : (act : RouterAct) → is_possible r act ≡ true → leaves_by r act ≡ true → (i : ℕ) → r.spare ≡ Some i → act ≡ acts.Leave
-  unfolding leaves_by is_possible
-  spare_leaves acts.Leave may leaves i e = refl
-  spare_leaves acts.Retire may leaves i e = absurd (grind (arith, may, (law.inv.shape k r here).spare_proxy i e))
-  spare_leaves acts.Discard may leaves i e = absurd (grind (arith, may, (law.inv.shape k r here).spare_proxy i e))
-  spare_leaves other may leaves i e = cc
-
   leaver_gives : (act : RouterAct) → is_possible r act ≡ true → leaves_by r act ≡ true → (i : ℕ) (s : Side) → router_holds i s r ≡ true →
-      (edge_end r.outward ≡ Some (i, s)) ⊎ ((act ≡ acts.Leave) × (r.spare ≡ Some i))
+      (edge_end r.outward ≡ Some (i, s)) ⊎ (r.spare ≡ Some i)
   leaver_gives act may leaves i s h = elim (or_cases _ _ (outer w b g law i s k r here h)) [
     | inl q ↦ inl (leaver_link act may leaves i s (or_cases _ _ q))
-    | inr q ↦ let e = spare_is w b g law i r.spare q in inr (spare_leaves act may leaves i e, e)
+    | inr q ↦ inr (spare_is w b g law i r.spare q)
   ]
+
+  -- who has a spare stands on the link of another word
+  spare_link : (j : ℕ) → r.spare ≡ Some j → (o : Option LinkEnd) → r.outward.primary ≡ o → is_some (word_of o) ≡ true →
+      (i : ℕ) × (s : Side) × (edge_end r.outward ≡ Some (i, s)) × (j ≢ i)
+  unfolding word_of
+  spare_link j e None at h = absurd (cc)
+  spare_link j e (Some x) at h = by x.link refl h
+    where
+      other : (i : ℕ) → x.link ≡ Central i → j ≢ i
+      other i l same = apart (law.word_law.owner i) k (law.word_law.linked k r i x.side here (or_left _ _ (or_left _ _
+          (ap (λ o. has_link o (Central i) x.side) at ∙ has_link-some x (Central i) x.side l refl)))) (law.word_law.spare k r i here (e ∙ ap Some same))
+
+      by : (l : LinkId) → x.link ≡ l → is_some (word_of (Some x)) ≡ true → (i : ℕ) × (s : Side) × (edge_end r.outward ≡ Some (i, s)) × (j ≢ i)
+      by (Central i) l q = (
+        i,
+        x.side,
+        first_is _ _ (i, x.side) (has_word r.outward.primary i x.side
+            (ap (λ o. has_link o (Central i) x.side) at ∙ has_link-some x (Central i) x.side l refl)),
+        other i l,
+      )
+      by (Peripheral n c) l q = absurd (grind (arith, l, q))
 
 may_possible : (r : Router) (act : RouterAct) → is_rest act ≡ false → may_take r act ≡ true → is_possible r act ≡ true
 may_possible r act n h = grind (arith, n, h)
 
-pub let_go_are_given_up : LetGoAreGivenUp
+ends_given : (w : World) (b : Books) (g : Routes) (n serial : ℕ) (r : Router) (act : RouterAct) (i : ℕ) (s : Side) → Lawful w b g →
+    router_of w n serial ≡ Some r → can_take w n (OfRouter serial act) ≡ true → lets_go i s r act ≡ true →
+    (let_go_end r act ≡ Some (i, s)) ⊎ (let_go_spare r act ≡ Some i)
 unfolding can_take may_act lets_go let_go_end leaves_by is_rest
-let_go_are_given_up w b g n serial r act i s law here can lets = gives act (subst (λ o. may_act o act ≡ true) here can) lets
+ends_given w b g n serial r act i s law here can lets = gives act (subst (λ o. may_act o act ≡ true) here can) lets
   where
     k : Key
     k = record { node = n; serial = serial }
 
     leaves : (a : RouterAct) → is_rest a ≡ false → may_take r a ≡ true → (leaves_by r a && router_holds i s r) ≡ true →
-        (edge_end r.outward ≡ Some (i, s)) ⊎ ((a ≡ acts.Leave) × (r.spare ≡ Some i))
+        (edge_end r.outward ≡ Some (i, s)) ⊎ (r.spare ≡ Some i)
     leaves a rests may q = leaver_gives w b g law k r here a (may_possible r a rests may) (and_first (leaves_by r a) (router_holds i s r) q) i s
         (and_second (leaves_by r a) (router_holds i s r) q)
 
     gives : (a : RouterAct) → may_act (Some r) a ≡ true → lets_go i s r a ≡ true →
-        (let_go_end r a ≡ Some (i, s)) ⊎ ((a ≡ acts.Leave) × (r.spare ≡ Some i))
+        (let_go_end r a ≡ Some (i, s)) ⊎ (let_go_spare r a ≡ Some i)
     gives acts.FinishOut may q = inl (has_word r.outward.decaying i s q)
     gives acts.Leave may q = leaves acts.Leave refl may q
     gives acts.Retire may q = leaves acts.Retire refl may q
     gives acts.Discard may q = elim (leaves acts.Discard refl may q) [
       | inl e ↦ inl (ap (λ (c : Bool). if c then edge_end r.outward else None) (and_first (leaves_by r acts.Discard) (router_holds i s r) q) ∙ e)
-      | inr e ↦ inr e
+      | inr e ↦ inr (ap (λ (c : Bool). if c then r.spare else None) (and_first (leaves_by r acts.Discard) (router_holds i s r) q) ∙ e)
     ]
     gives other may q = cc
+
+-- who gives up a spare leaves, and has it
+leaves_then : (r : Router) (act : RouterAct) (j : ℕ) → let_go_spare r act ≡ Some j → (leaves_by r act ≡ true) × (r.spare ≡ Some j)
+leaves_then r act j e = by (leaves_by r act) refl e
+  where
+    by : (c : Bool) → leaves_by r act ≡ c → (if c then r.spare else None) ≡ Some j → (leaves_by r act ≡ true) × (r.spare ≡ Some j)
+    by true f h = (f, h)
+    by false f h = cc
+
+end_left : (r : Router) (act : RouterAct) → leaves_by r act ≡ true → let_go_end r act ≡ edge_end r.outward
+unfolding let_go_end leaves_by
+end_left r acts.FinishOut e = cc
+end_left r act e = ap (λ (c : Bool). if c then edge_end r.outward else None) e
+
+spares_given : (w : World) (b : Books) (g : Routes) (n serial : ℕ) (r : Router) (act : RouterAct) (j : ℕ) → Lawful w b g →
+    router_of w n serial ≡ Some r → let_go_spare r act ≡ Some j → (i : ℕ) × (s : Side) × (let_go_end r act ≡ Some (i, s)) × (j ≢ i)
+spares_given w b g n serial r act j law here e =
+    let left = leaves_then r act j e in
+    let k : Key = record { node = n; serial = serial } in
+    let link = spare_link w b g law k r here j left.1 r.outward.primary refl ((law.inv.shape k r here).spare_central j left.1) in
+    (link.0, link.1, end_left r act left.0 ∙ link.2, link.3)
+
+pub let_go_are_given_up : LetGoAreGivenUp
+let_go_are_given_up = record { ends = ends_given; spares = spares_given }
 
 -- who claims a word
 module _ (w : World) (n serial : ℕ) (s : Side) (room : has_unclaimed_word w ≡ true) (r : Router) (here : router_in (node_at w n) serial ≡ Some r) where
