@@ -1,5 +1,5 @@
 -- The steps on the claim count.
-use Rattle.std.specs.Prelude.{◌≡◌, ◌≤◌, ℕ, List, [], ◌∷◌, Option, MatchBool, eqb, slice_index}
+use Rattle.std.specs.Prelude.{◌≡◌, ◌≤◌, ℕ, List, [], ◌∷◌, Option, MatchBool, eqb, slice_index, Bool}
 use Rattle.std.proofs.Common.{ap, sym, subst, ◌∙◌, refl, arith}
 use Rattle.ipcz_router.specs.declared.act.Answer.TheVariants as answers
 use Rattle.ipcz_router.specs.declared.act.RouterAct.TheVariants as router_acts
@@ -24,9 +24,9 @@ use Rattle.ipcz_cell.proofs.Seating.{may_by, reseated, touched_cell}
 use Rattle.ipcz_cell.specs.Seats.{Keeps}
 
 -- a step at the claim count tells that what it finds is at most the number of words, and at least each count that was seen
-pub counts_told : (count size slots id : ℕ) (m : Mine) (f : ℕ → ℕ) (then : ℕ → Mine → Type 0) → Keeps count size slots id m size f then →
-    Keeps count size slots id m size f (λ n m'. (n ≤ size) × AreReached size m.0.seen n × then n m')
-counts_told count size slots id m f then may s r deep at small =
+pub counts_told : (all : Bool) (count size slots id : ℕ) (m : Mine) (f : ℕ → ℕ) (then : ℕ → Mine → Type 0) → Keeps all count size slots id m size f then →
+    Keeps all count size slots id m size f (λ n m'. (n ≤ size) × AreReached size m.0.seen n × then n m')
+counts_told all count size slots id m f then may s r deep at small =
     let h = may s r deep at small in
     let most = (lists_have_lengths r.world r.books r.routes r.lawful).claimed in
     let is = ap (slice_index s.words) (sym r.words) ∙ r.shows.claims in
@@ -34,12 +34,12 @@ counts_told count size slots id m f then may s r deep at small =
     (h.0, h.1, h.2, h.3, (omega (arith, most, is, size_is), (λ k earlier e. (counts_were_reached count size s r id m.0 k earlier at e).0), h.4))
 
 pub count_may : (t : TableName) (id word serial : ℕ) (m : Mine) (told : Tells) → IsPicked told (counted t.size serial) → m.0.parts ≡ part_in m.0 ∷ [] → CanClaim (part_in m.0).state serial → t.size ≡ word →
-    Keeps t.count t.size t.id.slots id m word (λ n. n) (told m)
+    Keeps t.reuses t.count t.size t.id.slots id m word (λ n. n) (told m)
 count_may t id word serial m told picked whole can at =
-    may_by t.count t.size t.id.slots id m word (λ n. n) told (counted t.size serial) picked
-    (subst (λ (i : ℕ). Keeps t.count t.size t.id.slots id m i (λ n. n) (counted t.size serial m)) at
-    (counts_told t.count t.size t.id.slots id m (λ n. n) (λ n m'. MatchBool (eqb n t.size) (m' ≡ (change_part (act_part (acts.Router serial router_acts.Claim) answers.NoWord) (saw t.size n m.0), m.1)) (m' ≡ (saw t.size n m.0, m.1)))
-    (loads_for_claim t.count t.size t.id.slots id m (part_in m.0) serial can.0 whole can.1)))
+    may_by t.reuses t.count t.size t.id.slots id m word (λ n. n) told (counted t.size serial) picked
+    (subst (λ (i : ℕ). Keeps t.reuses t.count t.size t.id.slots id m i (λ n. n) (counted t.size serial m)) at
+    (counts_told t.reuses t.count t.size t.id.slots id m (λ n. n) (λ n m'. MatchBool (eqb n t.size) (m' ≡ (change_part (act_part (acts.Router serial router_acts.Claim) answers.NoWord) (saw t.size n m.0), m.1)) (m' ≡ (saw t.size n m.0, m.1)))
+    (loads_for_claim t.reuses t.count t.size t.id.slots id m (part_in m.0) serial can.0 whole can.1)))
 
 module _ (t : TableName) (n : Node) (hand : Option Message) (tos : List ℕ) (id : TableId) (me : Mine) (was : IsCell t n hand tos id me) (id' : TableId) (me' : Mine) (same : id' ≡ id) (sound : AreSound t.count t.size me'.0) where
   -- a cell after loads, and then a claim

@@ -32,11 +32,11 @@ use Rattle.ipcz_cell.specs.Seats.{Keeps}
 
 -- the step of a probe
 pub probe_may : (t : TableName) (id word : ℕ) (m : Mine) (node to : ℕ) (told : Tells) → IsPicked told (probed (mail_word t node to) (slot_of t node to) to) → m.0.parts ≡ part_in m.0 ∷ [] → (part_in m.0).node ≡ node → to < t.count →
-    mail_word t node to ≡ word → Keeps t.count t.size t.id.slots id m word (λ n. either (eqb n 0) 3 n) (told m)
+    mail_word t node to ≡ word → Keeps t.reuses t.count t.size t.id.slots id m word (λ n. either (eqb n 0) 3 n) (told m)
 probe_may t id word m node to told picked whole is small at =
-    may_by t.count t.size t.id.slots id m word (λ n. either (eqb n 0) 3 n) told (probed (mail_word t node to) (slot_of t node to) to) picked
-    (subst (λ (i : ℕ). Keeps t.count t.size t.id.slots id m i (λ n. either (eqb n 0) 3 n) (probed (mail_word t node to) (slot_of t node to) to m)) at
-    (probes t.count t.size t.id.slots id (mail_word t node to) (slot_of t node to) to m (part_in m.0) whole (ap (λ (k : ℕ). k * t.count + to) (sym is)) refl small))
+    may_by t.reuses t.count t.size t.id.slots id m word (λ n. either (eqb n 0) 3 n) told (probed (mail_word t node to) (slot_of t node to) to) picked
+    (subst (λ (i : ℕ). Keeps t.reuses t.count t.size t.id.slots id m i (λ n. either (eqb n 0) 3 n) (probed (mail_word t node to) (slot_of t node to) to m)) at
+    (probes t.reuses t.count t.size t.id.slots id (mail_word t node to) (slot_of t node to) to m (part_in m.0) whole (ap (λ (k : ℕ). k * t.count + to) (sym is)) refl small))
 
 -- what is told if the test holds, and if it doesn't
 pub told_hit : (n k : ℕ) (P Q : Type 0) → n ≡ k → MatchBool (eqb n k) P Q → P
@@ -92,29 +92,29 @@ load_tells i i' found me me' room room' old view kept at done =
 -- the step of a post
 pub post_may : (t : TableName) (id word : ℕ) (m : Mine) (node to : ℕ) (told : Tells) → IsPicked told (posted to) → m.0.parts ≡ part_in m.0 ∷ [] → (part_in m.0).node ≡ node → to < t.count →
     has_number (part_in m.0).probed to ≡ true → has_mail_for (part_in m.0).state to ≡ true → (x : Message) → post_of (part_in m.0).state (acts.Post to) ≡ Some x → m.1 ≡ (slot_of t node to, Some x) ∷ rest m.1 →
-    mail_word t node to ≡ word → Keeps t.count t.size t.id.slots id m word (λ _. 1) (λ _. told m 1)
+    mail_word t node to ≡ word → Keeps t.reuses t.count t.size t.id.slots id m word (λ _. 1) (λ _. told m 1)
 post_may t id word m node to told picked whole is small has mail x first slot at s r deep there low =
-    let may = posts t.count t.size t.id.slots id (mail_word t node to) (slot_of t node to) to m (part_in m.0) x (rest m.1) whole (ap (λ (k : ℕ). k * t.count + to) (sym is)) refl small has mail first slot in
-    let h = subst (λ (i : ℕ). Keeps t.count t.size t.id.slots id m i (λ _. 1) (λ n m'. m' ≡ (change_part (post_part to) m.0, rest m.1))) at may s r deep there low in
+    let may = posts t.reuses t.count t.size t.id.slots id (mail_word t node to) (slot_of t node to) to m (part_in m.0) x (rest m.1) whole (ap (λ (k : ℕ). k * t.count + to) (sym is)) refl small has mail first slot in
+    let h = subst (λ (i : ℕ). Keeps t.reuses t.count t.size t.id.slots id m i (λ _. 1) (λ n m'. m' ≡ (change_part (post_part to) m.0, rest m.1))) at may s r deep there low in
     (h.0, h.1, h.2, h.3, picked.said m 1 _ h.4)
 
 -- the step of a look
 pub look_may : (t : TableName) (id word : ℕ) (m : Mine) (node from : ℕ) (told : Tells) → IsPicked told (looked (mail_word t from node) (slot_of t from node) from) → m.0.parts ≡ part_in m.0 ∷ [] → (part_in m.0).node ≡ node → from < t.count →
-    (part_in m.0).state.hand ≡ None → mail_word t from node ≡ word → Keeps t.count t.size t.id.slots id m word (λ n. either (eqb n 1) 2 n) (told m)
+    (part_in m.0).state.hand ≡ None → mail_word t from node ≡ word → Keeps t.reuses t.count t.size t.id.slots id m word (λ n. either (eqb n 1) 2 n) (told m)
 look_may t id word m node sender told picked whole is small idle at =
-    may_by t.count t.size t.id.slots id m word (λ n. either (eqb n 1) 2 n) told (looked (mail_word t sender node) (slot_of t sender node) sender) picked
-    (subst (λ (i : ℕ). Keeps t.count t.size t.id.slots id m i (λ n. either (eqb n 1) 2 n) (looked (mail_word t sender node) (slot_of t sender node) sender m)) at
-    (looks t.count t.size t.id.slots id (mail_word t sender node) (slot_of t sender node) sender m (part_in m.0) whole (ap (λ (k : ℕ). sender * t.count + k) (sym is)) refl small idle))
+    may_by t.reuses t.count t.size t.id.slots id m word (λ n. either (eqb n 1) 2 n) told (looked (mail_word t sender node) (slot_of t sender node) sender) picked
+    (subst (λ (i : ℕ). Keeps t.reuses t.count t.size t.id.slots id m i (λ n. either (eqb n 1) 2 n) (looked (mail_word t sender node) (slot_of t sender node) sender m)) at
+    (looks t.reuses t.count t.size t.id.slots id (mail_word t sender node) (slot_of t sender node) sender m (part_in m.0) whole (ap (λ (k : ℕ). sender * t.count + k) (sym is)) refl small idle))
 
 -- the step of a hand
 pub hand_may : (t : TableName) (id word : ℕ) (m : Mine) (node from : ℕ) (source : Option ℕ) (told : Tells) → IsPicked told (handed from source) → m.0.parts ≡ part_in m.0 ∷ [] → (part_in m.0).node ≡ node →
     (part_in m.0).state.hand ≡ Some from → (x : Message) → (part_in m.0).message ≡ Some x → message_lacks_serials (part_in m.0).state from x source ≡ false → IsKnown t.size from x source → m.1 ≡ (slot_of t from node, None) ∷ rest m.1 →
-    mail_word t from node ≡ word → Keeps t.count t.size t.id.slots id m word (λ _. 0) (λ _. told m 0)
+    mail_word t from node ≡ word → Keeps t.reuses t.count t.size t.id.slots id m word (λ _. 0) (λ _. told m 0)
 hand_may t id word m node sender source told picked whole is hand x message serials known slot at s r deep there low =
     let trust : source ≡ trusted sender x = known (inside (old_word x) refl) in
     let lacks = subst (λ (o : Option ℕ). message_lacks_serials (part_in m.0).state sender x o ≡ false) trust serials in
-    let may = hands t.count t.size t.id.slots id (mail_word t sender node) (slot_of t sender node) sender m (part_in m.0) x (rest m.1) whole (ap (λ (k : ℕ). sender * t.count + k) (sym is)) refl hand message lacks slot in
-    let h = subst (λ (i : ℕ). Keeps t.count t.size t.id.slots id m i (λ _. 0) (λ n m'. m' ≡ (change_part (hand_part sender (trusted sender x) x) m.0, rest m.1))) at may s r deep there low in
+    let may = hands t.reuses t.count t.size t.id.slots id (mail_word t sender node) (slot_of t sender node) sender m (part_in m.0) x (rest m.1) whole (ap (λ (k : ℕ). sender * t.count + k) (sym is)) refl hand message lacks slot in
+    let h = subst (λ (i : ℕ). Keeps t.reuses t.count t.size t.id.slots id m i (λ _. 0) (λ n m'. m' ≡ (change_part (hand_part sender (trusted sender x) x) m.0, rest m.1))) at may s r deep there low in
     (h.0, h.1, h.2, h.3, picked.said m 0 _ (h.4 ∙ (ap (λ (o : Option ℕ). (change_part (hand_part sender o x) m.0, rest m.1)) (sym trust) ∙ ap (λ (o : Option Message). (change_part (part_handed sender source o) m.0, rest m.1)) (sym message))))
   where
     inside : (o : Option ℕ) → old_word x ≡ o → IfSome o (λ old. old < t.size)
@@ -123,11 +123,11 @@ hand_may t id word m node sender source told picked whole is hand x message seri
 
 -- the step of a load before a hand
 pub source_may : (t : TableName) (id old : ℕ) (m : Mine) (from : ℕ) (told : Tells) → IsPicked told (sourced old from) → m.0.parts ≡ part_in m.0 ∷ [] → (part_in m.0).state.hand ≡ Some from →
-    (x : Message) → (part_in m.0).message ≡ Some x → old_word x ≡ Some old → old < t.size → Keeps t.count t.size t.id.slots id m old (λ n. n) (told m)
+    (x : Message) → (part_in m.0).message ≡ Some x → old_word x ≡ Some old → old < t.size → Keeps t.reuses t.count t.size t.id.slots id m old (λ n. n) (told m)
 source_may t id old m sender told picked whole hand x message named small =
-    may_by t.count t.size t.id.slots id m old (λ n. n) told (sourced old sender) picked
+    may_by t.reuses t.count t.size t.id.slots id m old (λ n. n) told (sourced old sender) picked
     (λ s r deep there low.
-    let h = loads_for_hand t.count t.size t.id.slots id sender old m (part_in m.0) x whole hand message named s r deep there low in
+    let h = loads_for_hand t.reuses t.count t.size t.id.slots id sender old m (part_in m.0) x whole hand message named s r deep there low in
     (h.0, h.1, h.2, h.3, (links_are_words t.count t.size s r old small, h.4.0, h.4.1)))
 
 -- what a look tells

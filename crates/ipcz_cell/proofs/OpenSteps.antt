@@ -33,15 +33,15 @@ use Rattle.ipcz_cell.proofs.Wording.{words_told}
 use Rattle.ipcz_cell.specs.Seats.{Keeps}
 
 pub count_load_may : (t : TableName) (id word : ℕ) (m : Mine) → m.0.parts ≡ part_in m.0 ∷ [] → t.size ≡ word →
-    Keeps t.count t.size t.id.slots id m word (λ n. n) (count_loaded t.size m)
+    Keeps t.reuses t.count t.size t.id.slots id m word (λ n. n) (count_loaded t.size m)
 count_load_may t id word m whole at =
-    subst (λ (i : ℕ). Keeps t.count t.size t.id.slots id m i (λ n. n) (count_loaded t.size m)) at
-    (counts_told t.count t.size t.id.slots id m (λ n. n) (loaded t.size m) (loads t.count t.size t.id.slots id t.size m (part_in m.0) whole))
+    subst (λ (i : ℕ). Keeps t.reuses t.count t.size t.id.slots id m i (λ n. n) (count_loaded t.size m)) at
+    (counts_told t.reuses t.count t.size t.id.slots id m (λ n. n) (loaded t.size m) (loads t.reuses t.count t.size t.id.slots id t.size m (part_in m.0) whole))
 
 pub word_load_may : (t : TableName) (id i : ℕ) (m : Mine) → m.0.parts ≡ part_in m.0 ∷ [] → i < t.size →
-    Keeps t.count t.size t.id.slots id m i (λ n. n) (word_loaded i m)
+    Keeps t.reuses t.count t.size t.id.slots id m i (λ n. n) (word_loaded i m)
 word_load_may t id i m whole inside =
-    let told = words_told t.count t.size t.id.slots id i None m (λ n. n) (loaded i m) inside (λ s r at. tt) (loads t.count t.size t.id.slots id i m (part_in m.0) whole) in
+    let told = words_told t.reuses t.count t.size t.id.slots id i None m (λ n. n) (loaded i m) inside (λ s r at. tt) (loads t.reuses t.count t.size t.id.slots id i m (part_in m.0) whole) in
     λ s r deep at small. let h = told s r deep at small in (h.0, h.1, h.2, h.3, (h.4.0, h.4.2))
 
 open_bits : bits_of open_word ≡ 3
@@ -49,10 +49,10 @@ unfolding open_word bits_of sets_bits source_bits has both no_sides
 open_bits = refl
 
 pub open_may : (t : TableName) (id i : ℕ) (m : Mine) → m.0.parts ≡ part_in m.0 ∷ [] → (part_in m.0).state.opening ≡ Some i → serials_refusal (part_in m.0).state ≡ None →
-    Keeps t.count t.size t.id.slots id m i (λ n. either (eqb n 0) 3 n) (opened i m)
+    Keeps t.reuses t.count t.size t.id.slots id m i (λ n. either (eqb n 0) 3 n) (opened i m)
 open_may t id i m whole is fine =
-    subst (λ (w : ℕ). Keeps t.count t.size t.id.slots id m i (λ n. either (eqb n 0) w n) (opened i m)) open_bits
-    (opens t.count t.size t.id.slots id i m (part_in m.0) whole is fine)
+    subst (λ (w : ℕ). Keeps t.reuses t.count t.size t.id.slots id m i (λ n. either (eqb n 0) w n) (opened i m)) open_bits
+    (opens t.reuses t.count t.size t.id.slots id i m (part_in m.0) whole is fine)
 
 -- a node with room for a pair has the serials for it
 pub serials_left : (k : RoomyNode) → CanOpen k → serials_refusal k.node ≡ None

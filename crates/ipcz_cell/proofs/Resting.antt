@@ -42,26 +42,26 @@ without_first to tos once = let same : nat_eq to to ≡ true = grind (arith, nat
     ap (λ (b : Bool). cond b (without_number tos to) (to ∷ without_number tos to)) same ∙ without_none tos to once.0
 
 -- what a step may, told by another name
-picked-may : (count size slots id i : ℕ) (m : Mine) (f : ℕ → ℕ) (t u : Tells) → IsPicked t u → Keeps count size slots id m i f (u m) → Keeps count size slots id m i f (t m)
-picked-may count size slots id i m f t u p may s r deep at small = let a = may s r deep at small in (a.0, a.1, a.2, a.3, p.said m _ _ a.4)
+picked-may : (all : Bool) (count size slots id i : ℕ) (m : Mine) (f : ℕ → ℕ) (t u : Tells) → IsPicked t u → Keeps all count size slots id m i f (u m) → Keeps all count size slots id m i f (t m)
+picked-may all count size slots id i m f t u p may s r deep at small = let a = may s r deep at small in (a.0, a.1, a.2, a.3, p.said m _ _ a.4)
 
 -- the first mailbox that was probed may be given back
 pub unprobe-may : (t : TableName) (slots id : ℕ) (m : Mine) (node to i : ℕ) (x : Tells) → IsPicked x (unprobed to) → m.0.parts ≡ part_in m.0 ∷ [] →
     (part_in m.0).node ≡ node → to < t.count → has_number (part_in m.0).probed to ≡ true → m.1 ≡ (node * t.count + to, None) ∷ rest m.1 → i ≡ mail_word t node to →
-    Keeps t.count t.size slots id m i (λ n. 0) (λ n. x m 0)
+    Keeps t.reuses t.count t.size slots id m i (λ n. 0) (λ n. x m 0)
 unprobe-may t slots id m node to i x p whole is below has slot at s r deep here small =
-    let a = unprobes t.count t.size slots id i (node * t.count + to) to m (part_in m.0) (rest m.1) whole (ap (λ (n : ℕ). n * t.count + to) (sym is)) at below has slot s r deep here small in
+    let a = unprobes t.reuses t.count t.size slots id i (node * t.count + to) to m (part_in m.0) (rest m.1) whole (ap (λ (n : ℕ). n * t.count + to) (sym is)) at below has slot s r deep here small in
     (a.0, a.1, a.2, a.3, p.said m 0 _ a.4)
 
 -- the slot of the message in hand may be given back
 pub give_back-may : (t : TableName) (slots id : ℕ) (m : Mine) (node from i : ℕ) (x : Tells) → IsPicked x (given_back (mail_word t from node)) → m.0.parts ≡ part_in m.0 ∷ [] →
     (part_in m.0).node ≡ node → (part_in m.0).state.hand ≡ Some from → m.1 ≡ (from * t.count + node, None) ∷ [] → i ≡ mail_word t from node →
-    Keeps t.count t.size slots id m i (λ n. n) (x m)
+    Keeps t.reuses t.count t.size slots id m i (λ n. n) (x m)
 give_back-may t slots id m node from i x p whole is hand slot at =
     let again : m.1 ≡ (from * t.count + node, None) ∷ rest m.1 = slot ∙ ap (λ (c : List (ℕ × Slot)). (from * t.count + node, None) ∷ rest c) (sym slot) in
-    subst (λ (j : ℕ). Keeps t.count t.size slots id m j (λ n. n) (x m)) (sym at)
-    (picked-may t.count t.size slots id (mail_word t from node) m (λ n. n) x (given_back (mail_word t from node)) p
-    (gives_back t.count t.size slots id (mail_word t from node) (from * t.count + node) from m (part_in m.0) None (rest m.1) whole (ap (λ (n : ℕ). from * t.count + n) (sym is)) refl hand again))
+    subst (λ (j : ℕ). Keeps t.reuses t.count t.size slots id m j (λ n. n) (x m)) (sym at)
+    (picked-may t.reuses t.count t.size slots id (mail_word t from node) m (λ n. n) x (given_back (mail_word t from node)) p
+    (gives_back t.reuses t.count t.size slots id (mail_word t from node) (from * t.count + node) from m (part_in m.0) None (rest m.1) whole (ap (λ (n : ℕ). from * t.count + n) (sym is)) refl hand again))
 
 -- what a seat is that has given so many of its mailboxes back
 pub record IsLeft (t : TableName) (node count : ℕ) (old : Mine) (id : TableId) (me : Mine) (tos : List ℕ) (done : ℕ) : Type 0 where

@@ -1,5 +1,5 @@
 -- What a cell keeps, after a step of its seat and a change of its state.
-use Rattle.std.specs.Prelude.{◌≡◌, ◌<◌, ℕ, List, [], ◌∷◌, ◌++◌, Option, is_some, Result, Ok, Err, OnOk, OnErr}
+use Rattle.std.specs.Prelude.{◌≡◌, ◌<◌, ℕ, List, [], ◌∷◌, ◌++◌, Option, is_some, Result, Ok, Err, OnOk, OnErr, Bool}
 use Rattle.std.proofs.Common.{ap, sym, subst, ◌∙◌, arith}
 use lib.ListN.{get_elem?}
 use Rattle.atomic_table.specs.Seated.{TableId}
@@ -99,5 +99,5 @@ touched_or_same (Ok x) t n n' hand tos id id' me me' p' v' Same was seated done 
 touched_or_same (Err x) t n n' hand tos id id' me me' p' v' Same was seated done same is keeps = same_cell t n n' hand tos id id' me me' was seated same.1
 
 -- what may be told by a name of it
-pub may_by : (count size slots id : ℕ) (m : Mine) (i : ℕ) (f : ℕ → ℕ) (t u : Tells) → IsPicked t u → Keeps count size slots id m i f (u m) → Keeps count size slots id m i f (t m)
-may_by count size slots id m i f t u e may s r deep at small = let h = may s r deep at small in (h.0, h.1, h.2, h.3, e.said m _ _ h.4)
+pub may_by : (all : Bool) (count size slots id : ℕ) (m : Mine) (i : ℕ) (f : ℕ → ℕ) (t u : Tells) → IsPicked t u → Keeps all count size slots id m i f (u m) → Keeps all count size slots id m i f (t m)
+may_by all count size slots id m i f t u e may s r deep at small = let h = may s r deep at small in (h.0, h.1, h.2, h.3, e.said m _ _ h.4)

@@ -1,9 +1,10 @@
 -- A step on the table that is folded, as one on the table with slots.
-use Rattle.std.specs.Prelude.{◌≡◌, ◌<◌, ◌⊎◌, ◌+◌, ◌*◌, ◌%◌, ℕ, Bool, true, false, [], ◌∷◌, Some, MatchBool, eqb, List, slice_index, refl}
+use Rattle.std.specs.Prelude.{◌≡◌, ◌<◌, ◌⊎◌, ◌+◌, ◌*◌, ◌%◌, ℕ, Bool, true, false, [], ◌∷◌, Option, Some, None, IfNone, MatchBool, eqb, List, slice_index, refl}
 use prog.Atomic.{either}
 use mathlib.Core.Option.{some}
 use lib.ListN.{get_elem?}
-use Rattle.std.proofs.Common.{arith, ap, sym, subst, inl, inr}
+use Rattle.std.proofs.Common.{arith, ◌∙◌, sym, subst, inl, inr}
+use Rattle.std.proofs.lemmas.Bool.Decides.{nat_tests}
 use Rattle.atomic_table.specs.Table.{State, Me, Allows, stepped, carried_after}
 use Rattle.atomic_table.proofs.Lists.{set_here}
 use Rattle.ipcz_base.specs.declared.message.Message.{Message}
@@ -25,7 +26,7 @@ use Rattle.ipcz_cell.specs.TableNames.{TableName, IsLaidOut}
 use Rattle.ipcz_cell.specs.CellStates.{part_in}
 use Rattle.ipcz_cell.specs.Cells.{AreSound}
 use Rattle.ipcz_cell.specs.Words.{CanWord}
-use Rattle.ipcz_cell.specs.Seats.{mine_of, sizes_of, Keeps, IsSlotted, Taken, Emptied, SameBut}
+use Rattle.ipcz_cell.specs.Seats.{mine_of, sizes_of, Keeps, IsSlotted, Taken, Emptied, Returned, HasNoSlots}
 use Rattle.ipcz_cell.proofs.Telling.{tells, at_inside, sound_at}
 
 -- what a step tells of a seat, and that its slots stay
@@ -54,26 +55,26 @@ at_own n w k r slots t id m i f then en ew ek er es may =
 -- a step on the word of a number that has a slot
 pub link_may : (n w k : ℕ) (r : Bool) (slots word : ℕ) (t : TableName) (id : ℕ) (m : Me Slot (Own View)) (i : ℕ) (f : ℕ → ℕ) (told : ℕ → Mine → Type 0) →
     n ≡ t.count → w ≡ t.size → k ≡ t.slots → r ≡ t.reuses → slots ≡ t.id.slots → word ≡ i % t.slots → IsLaidOut t → IsSlotted t id m.0.view i →
-    Keeps t.count t.size t.id.slots id (mine_of m) i f told → Allows (LastingRules n w k r) slots id m word f (Told t told m)
+    Keeps t.reuses t.count t.size t.id.slots id (mine_of m) i f told → Allows (LastingRules n w k r) slots id m word f (Told t told m)
 link_may n w k r slots word t id m i f told en ew ek er es at laid has may =
     at_own n w k r slots t id m word f (Told t told m) en ew ek er es
     (subst (λ (z : ℕ). Allows (LastingRules t.count t.size t.slots t.reuses) t.id.slots id m z f (Told t told m)) (sym at)
     (λ s l deep there small.
-    let h = allowed (virtual t.count t.size) (sizes_of t) (keeping t.count t.size) t.id.slots id m (i % t.slots) f (same_own m.0 (λ j m'. told j m' × AreSound t.count t.size m'.0))
-    (slot_kept t.slots t.reuses m.0.dirty m.0.free t.count t.size t.id.slots id (mine_of m) i f (λ j. []) (λ j m'. told j m' × AreSound t.count t.size m'.0) has (tells t.count t.size t.id.slots id i (mine_of m) f told may) (are_sizes t laid)) s l deep there small in
+    let h = allowed (virtual t.count t.size) (sizes_of t) (keeping t.reuses t.count t.size) t.id.slots id m (i % t.slots) f (same_own m.0 (λ j m'. told j m' × AreSound t.count t.size m'.0))
+    (slot_kept t.slots t.reuses m.0.dirty m.0.free t.count t.size t.id.slots id (mine_of m) i f (λ j. []) (λ j m'. told j m' × AreSound t.count t.size m'.0) has (tells t.reuses t.count t.size t.id.slots id i (mine_of m) f told may) (are_sizes t laid)) s l deep there small in
     (h.0, h.1, h.2, h.3, (h.4.0.0, h.4.0.1, h.4.1, h.4.2))))
 
 -- a step on a word behind the link words, which leaves the claim count
 pub other_may : (n w k : ℕ) (r : Bool) (slots word : ℕ) (t : TableName) (id : ℕ) (m : Me Slot (Own View)) (j : ℕ) (f : ℕ → ℕ) (told : ℕ → Mine → Type 0) →
     n ≡ t.count → w ≡ t.size → k ≡ t.slots → r ≡ t.reuses → slots ≡ t.id.slots → word ≡ t.slots + j → IsLaidOut t → j < 1 + t.count + t.count * t.count →
-    (j ≡ 0 → (i : ℕ) → f i ≡ i) → Keeps t.count t.size t.id.slots id (mine_of m) (t.size + j) f told → Allows (LastingRules n w k r) slots id m word f (Told t told m)
+    (j ≡ 0 → (i : ℕ) → f i ≡ i) → Keeps t.reuses t.count t.size t.id.slots id (mine_of m) (t.size + j) f told → Allows (LastingRules n w k r) slots id m word f (Told t told m)
 other_may n w k r slots word t id m j f told en ew ek er es at laid inside leaves may =
     at_own n w k r slots t id m word f (Told t told m) en ew ek er es
     (subst (λ (z : ℕ). Allows (LastingRules t.count t.size t.slots t.reuses) t.id.slots id m z f (Told t told m)) (sym at)
     (λ s l deep there small.
-    let h = allowed (virtual t.count t.size) (sizes_of t) (keeping t.count t.size) t.id.slots id m (t.slots + j) f (same_own m.0 (λ i m'. told i m' × AreSound t.count t.size m'.0))
+    let h = allowed (virtual t.count t.size) (sizes_of t) (keeping t.reuses t.count t.size) t.id.slots id m (t.slots + j) f (same_own m.0 (λ i m'. told i m' × AreSound t.count t.size m'.0))
     (behind_kept t.slots t.reuses m.0.dirty m.0.free t.count t.size t.id.slots id (mine_of m) (t.size + j) f (λ i. []) (λ i m'. told i m' × AreSound t.count t.size m'.0) (λ e. leaves (omega (arith, e)))
-    (tells t.count t.size t.id.slots id (t.size + j) (mine_of m) f told may) (are_sizes t laid) j (omega arith) inside) s l deep there small in
+    (tells t.reuses t.count t.size t.id.slots id (t.size + j) (mine_of m) f told may) (are_sizes t laid) j (omega arith) inside) s l deep there small in
     (h.0, h.1, h.2, h.3, (h.4.0.0, h.4.0.1, h.4.1, h.4.2))))
 
 taken_by : (b : Bool) (t : TableName) (p : ℕ) (m m' : Me Slot (Own View)) → MatchBool b (m' ≡ (own_of m.0.view (p ∷ m.0.dirty) m.0.free, m.1)) (m' ≡ m) →
@@ -124,14 +125,14 @@ empty_may n w k r slots t id m p en ew ek er es again low has =
 -- a slot that is the seat's may be given back
 pub return_may : (n w k : ℕ) (r : Bool) (slots word : ℕ) (t : TableName) (id : ℕ) (m : Me Slot (Own View)) (p : ℕ) →
     n ≡ t.count → w ≡ t.size → k ≡ t.slots → r ≡ t.reuses → slots ≡ t.id.slots → word ≡ let_go_word (sizes_of t) p → t.reuses ≡ true → p < t.slots →
-    (has_number m.0.dirty p ≡ true) ⊎ (has_number m.0.free p ≡ true) → Allows (LastingRules n w k r) slots id m word (λ j. 3) (λ j m'. SameBut m m')
+    (has_number m.0.dirty p ≡ true) ⊎ (has_number m.0.free p ≡ true) → Allows (LastingRules n w k r) slots id m word (λ j. 3) (λ j m'. Returned t word m m')
 return_may n w k r slots word t id m p en ew ek er es at again low had =
-    at_own n w k r slots t id m word (λ j. 3) (λ j m'. SameBut m m') en ew ek er es
-    (subst (λ (z : ℕ). Allows (LastingRules t.count t.size t.slots t.reuses) t.id.slots id m z (λ j. 3) (λ j m'. SameBut m m')) (sym at)
-    (subst (λ (b : Bool). Allows (LastingRules t.count t.size t.slots b) t.id.slots id m (let_go_word (sizes_of t) p) (λ j. 3) (λ j m'. SameBut m m')) (sym again)
+    at_own n w k r slots t id m word (λ j. 3) (λ j m'. Returned t word m m') en ew ek er es
+    (subst (λ (z : ℕ). Allows (LastingRules t.count t.size t.slots t.reuses) t.id.slots id m z (λ j. 3) (λ j m'. Returned t z m m')) (sym at)
+    (subst (λ (b : Bool). Allows (LastingRules t.count t.size t.slots b) t.id.slots id m (let_go_word (sizes_of t) p) (λ j. 3) (λ j m'. Returned t (let_go_word (sizes_of t) p) m m')) (sym again)
     (λ s l deep there small.
     let h = (reusing t.slots m.0.dirty m.0.free (omega (arith, low)) t.count t.size t.id.slots id p (mine_of m)).2 had s l deep there small in
-    (h.0, h.1, h.2, h.3.0, (ap (λ (q : Me Slot (Own View)). q.0.view) h.4, ap (λ (q : Me Slot (Own View)). q.1) h.4)))))
+    (h.0, h.1, h.2, h.3.0, (p, refl, h.4)))))
 
 -- a step on the word z tells that the seat's nodes are sound
 pub seat_may : (n w k : ℕ) (r : Bool) (slots word z : ℕ) (t : TableName) (id : ℕ) (m : Me Slot (Own View)) (f : ℕ → ℕ) (told Kept : ℕ → Me Slot (Own View) → Type 0) →
@@ -147,12 +148,28 @@ seat_may n w k r slots word z t id m f told Kept en ew ek er es at may =
     let here : get_elem? s'.views id ≡ some h.0 = set_here s.views id h.0 (at_inside s.views id m.0 there) in
     (h.0, h.1, h.2, h.3, (h.4.0, sound_at t.count t.size h.3.0 h.3.1 id h.0.view (view_at (virtual t.count t.size) (sizes_of t) s' h.3.0 h.3.1 h.3.2 id h.0 here), h.4.1))))
 
--- a step on the word z that leaves the seat's slots
-pub slots_stay : (n w k : ℕ) (r : Bool) (slots word z : ℕ) (t : TableName) (id : ℕ) (m : Me Slot (Own View)) (f : ℕ → ℕ) (told : ℕ → Mine → Type 0) →
+-- a step on the word z that leaves the seat these slots
+pub slots_are : (n w k : ℕ) (r : Bool) (slots word z : ℕ) (t : TableName) (id : ℕ) (m : Me Slot (Own View)) (f : ℕ → ℕ) (told : ℕ → Mine → Type 0) (dirty free : List ℕ) →
     n ≡ t.count → w ≡ t.size → k ≡ t.slots → r ≡ t.reuses → slots ≡ t.id.slots → word ≡ z →
-    Allows (LastingRules t.count t.size t.slots t.reuses) t.id.slots id m z f (λ j m'. told j (mine_of m') × (m'.0.dirty ≡ m.0.dirty) × (m'.0.free ≡ m.0.free)) →
-    Allows (LastingRules n w k r) slots id m word f (Told t told m)
-slots_stay n w k r slots word z t id m f told en ew ek er es at may s l deep there small =
-    let h = seat_may n w k r slots word z t id m f (λ j m'. told j (mine_of m')) (λ j m'. (◌≡◌ {A = List ℕ} m'.0.dirty m.0.dirty) × (◌≡◌ {A = List ℕ} m'.0.free m.0.free)) en ew ek er es at
+    Allows (LastingRules t.count t.size t.slots t.reuses) t.id.slots id m z f (λ j m'. told j (mine_of m') × (m'.0.dirty ≡ dirty) × (m'.0.free ≡ free)) →
+    Allows (LastingRules n w k r) slots id m word f (λ j m'. told j (mine_of m') × AreSound t.count t.size m'.0.view × (m'.0.dirty ≡ dirty) × (m'.0.free ≡ free))
+slots_are n w k r slots word z t id m f told dirty free en ew ek er es at may s l deep there small =
+    let h = seat_may n w k r slots word z t id m f (λ j m'. told j (mine_of m')) (λ j m'. (◌≡◌ {A = List ℕ} m'.0.dirty dirty) × (◌≡◌ {A = List ℕ} m'.0.free free)) en ew ek er es at
     (λ s l deep there small. let q = may s l deep there small in (q.0, q.1, q.2, q.3, (q.4.0, (q.4.1, q.4.2)))) s l deep there small in
     (h.0, h.1, h.2, h.3, (h.4.0, h.4.1, h.4.2.0, h.4.2.1))
+
+-- a seat that has no slot has none where its slots stay
+pub none_then : {d f d' f' : List ℕ} → (d' ≡ d) × (f' ≡ f) → (d ≡ []) × (f ≡ []) → (d' ≡ []) × (f' ≡ [])
+none_then stay none = (stay.0 ∙ none.0, stay.1 ∙ none.1)
+
+-- nor where its view stays
+pub none_with : (o : Own View) (m : Me Slot (Own View)) (held : List (ℕ × Slot)) → m ≡ (o, held) → HasNoSlots o → HasNoSlots m.0
+none_with o m held e none = subst (λ (q : Me Slot (Own View)). HasNoSlots q.0) (sym e) none
+
+-- nor behind a claim that found its count
+pub none_claimed : (k count : ℕ) (A B : Type 0) → k ≡ count → MatchBool (eqb k count) A B → A
+none_claimed k count A B e h = let t : eqb k count ≡ true = grind (arith, nat_tests, e) in subst (λ (b : Bool). MatchBool b A B) t h
+
+-- what is so if there is none
+pub if_none : {A : Type 0} (o : Option A) (P : Type 0) → o ≡ None → IfNone o P → P
+if_none o P e h = subst (λ q. IfNone q P) e h

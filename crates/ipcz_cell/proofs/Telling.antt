@@ -1,5 +1,5 @@
 -- A step of any kind tells its seat that its nodes are sound.
-use Rattle.std.specs.Prelude.{◌≡◌, ◌<◌, ℕ, zero, suc, List, [], ◌∷◌, length}
+use Rattle.std.specs.Prelude.{◌≡◌, ◌<◌, ℕ, zero, suc, List, [], ◌∷◌, length, Bool}
 use Rattle.std.proofs.Common.{sym, subst, arith}
 use mathlib.Core.Option.{some, some-ne-none}
 use lib.ListN.{get_elem?}
@@ -29,8 +29,8 @@ sound_at count size s r id v at k p there =
     let sized = subst (λ (z : ℕ). IsSound count z p.node (node_at r.world p.node)) r.words counted in
     (omega (arith, inside, r.nodes), subst (λ (n : Node). IsSound count size p.node n) t.1.state sized)
 
-pub tells : (count size slots id i : ℕ) (m : Mine) (f : ℕ → ℕ) (then : ℕ → Mine → Type 0) → Keeps count size slots id m i f then →
-    Keeps count size slots id m i f (λ n m'. then n m' × AreSound count size m'.0)
-tells count size slots id i m f then may s r deep at small =
+pub tells : (all : Bool) (count size slots id i : ℕ) (m : Mine) (f : ℕ → ℕ) (then : ℕ → Mine → Type 0) → Keeps all count size slots id m i f then →
+    Keeps all count size slots id m i f (λ n m'. then n m' × AreSound count size m'.0)
+tells all count size slots id i m f then may s r deep at small =
     let t = may s r deep at small in
     (t.0, t.1, t.2, t.3, (t.4, sound_at count size _ t.3.0 id t.0 (set_here s.views id t.0 (at_inside s.views id m.0 at))))

@@ -8,7 +8,7 @@ use lib.ListN.{get_elem?}
 use Rattle.atomic_table.specs.Table.{Final, Seen}
 use Rattle.ipcz_base.specs.declared.message.Message.{Message}
 use Rattle.ipcz_slots.specs.declared.own.Own.{Own}
-use Rattle.ipcz_slots.specs.Slots.{let_go_word}
+use Rattle.ipcz_slots.specs.Slots.{of_none, let_go_word}
 use Rattle.ipcz_slots.proofs.Folding.{view_at, shows_slot}
 use Rattle.ipcz_rule.specs.declared.view.View.{View}
 use Rattle.ipcz_rule.specs.Rule.{Slot, Rules}
@@ -42,7 +42,7 @@ unfolded count size id o ws xs last =
     let z = sizes count size size false in
     let whole = f.whole refl in
     let link : (i : ℕ) → i < size → slice_index t.words i ≡ slice_index ws i = λ i low.
-    sym (shows_slot x z t l.1 i (slice_index s.words i) (slice_index s.words (let_go_word z i)) i (f.status i) (whole.shows i low) (f.slots i low)).2 ∙ ap (λ (k : List ℕ). slice_index k i) last.2 in
+    sym (shows_slot x z of_none t l.1 i (slice_index s.words i) (slice_index s.words (let_go_word z i)) i (f.status i) (whole.shows i low) (f.slots i low)).2 ∙ ap (λ (k : List ℕ). slice_index k i) last.2 in
     record {
       words = t.words;
       last = (t, (l.1, view_at x z s t l.1 f id o last.1.1), refl, ap length (sym f.homes) ∙ last.3, (λ k y h. last.4 k y (subst (λ hs. get_elem? hs k ≡ some (some y)) (sym f.homes) h)));

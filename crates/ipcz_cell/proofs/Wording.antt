@@ -46,10 +46,10 @@ use Rattle.ipcz_cell.proofs.Seating.{may_by, reseated, touched_cell}
 use Rattle.ipcz_cell.specs.Seats.{Keeps}
 
 -- a step at a link tells that what it finds is a link word, and that the source which a lock names is a node
-pub words_told : (count size slots id i : ℕ) (source : Option ℕ) (m : Mine) (f : ℕ → ℕ) (then : ℕ → Mine → Type 0) → i < size →
-    ((s : St) → Rules count size s → get_elem? s.views id ≡ some m.0 → HasNode source) → Keeps count size slots id m i f then →
-    Keeps count size slots id m i f (λ n m'. IsLinkNumber n × HasNode source × then n m')
-words_told count size slots id i source m f then inside names may s r deep at small =
+pub words_told : (all : Bool) (count size slots id i : ℕ) (source : Option ℕ) (m : Mine) (f : ℕ → ℕ) (then : ℕ → Mine → Type 0) → i < size →
+    ((s : St) → Rules count size s → get_elem? s.views id ≡ some m.0 → HasNode source) → Keeps all count size slots id m i f then →
+    Keeps all count size slots id m i f (λ n m'. IsLinkNumber n × HasNode source × then n m')
+words_told all count size slots id i source m f then inside names may s r deep at small =
     let h = may s r deep at small in
     (h.0, h.1, h.2, h.3, (links_are_words count size s r i inside, names s r at, h.4))
 
@@ -68,26 +68,26 @@ names_node t id serial i side act source m whole can named s r at =
     subst HasNode (source_is (part_in m.0).state serial i side act source can named) (named_part s r id m.0 (part_in m.0) serial can.router at whole can.can.there)
 
 pub status_may : (t : TableName) (id i serial : ℕ) (side : Side) (source : Option ℕ) (m : Mine) (told : Tells) → IsPicked told (worded i serial side source router_acts.Lock (is_refused_at side)) → m.0.parts ≡ part_in m.0 ∷ [] →
-    CanWord (part_in m.0).state serial side router_acts.Lock i → source ≡ source_in (part_in m.0).state serial → i < t.size → Keeps t.count t.size t.id.slots id m i (λ n. n) (told m)
+    CanWord (part_in m.0).state serial side router_acts.Lock i → source ≡ source_in (part_in m.0).state serial → i < t.size → Keeps t.reuses t.count t.size t.id.slots id m i (λ n. n) (told m)
 status_may t id i serial side source m told picked whole can named inside =
-    may_by t.count t.size t.id.slots id m i (λ n. n) told (worded i serial side source router_acts.Lock (is_refused_at side)) picked
-    (words_told t.count t.size t.id.slots id i source m (λ n. n) (λ n m'. MatchBool (is_refused_at side n) (m' ≡ (act_view i serial side source router_acts.Lock n m.0, m.1)) (m' ≡ (saw i n m.0, m.1))) inside
+    may_by t.reuses t.count t.size t.id.slots id m i (λ n. n) told (worded i serial side source router_acts.Lock (is_refused_at side)) picked
+    (words_told t.reuses t.count t.size t.id.slots id i source m (λ n. n) (λ n m'. MatchBool (is_refused_at side n) (m' ≡ (act_view i serial side source router_acts.Lock n m.0, m.1)) (m' ≡ (saw i n m.0, m.1))) inside
     (names_node t id serial i side router_acts.Lock source m whole can named)
-    (subst (λ (o : Option ℕ). Keeps t.count t.size t.id.slots id m i (λ n. n) (λ n m'. MatchBool (is_refused_at side n) (m' ≡ (act_view i serial side o router_acts.Lock n m.0, m.1)) (m' ≡ (saw i n m.0, m.1)))) (source_is (part_in m.0).state serial i side router_acts.Lock source can named)
-    (subst (λ (z : Side). Keeps t.count t.size t.id.slots id m i (λ n. n) (λ n m'. MatchBool (is_refused_at z n) (m' ≡ (act_view i serial z (source_of can.router) router_acts.Lock n m.0, m.1)) (m' ≡ (saw i n m.0, m.1)))) can.sides
-    (loads_for_lock t.count t.size t.id.slots id i m (part_in m.0) serial can.router whole can.can can.primary))))
+    (subst (λ (o : Option ℕ). Keeps t.reuses t.count t.size t.id.slots id m i (λ n. n) (λ n m'. MatchBool (is_refused_at side n) (m' ≡ (act_view i serial side o router_acts.Lock n m.0, m.1)) (m' ≡ (saw i n m.0, m.1)))) (source_is (part_in m.0).state serial i side router_acts.Lock source can named)
+    (subst (λ (z : Side). Keeps t.reuses t.count t.size t.id.slots id m i (λ n. n) (λ n m'. MatchBool (is_refused_at z n) (m' ≡ (act_view i serial z (source_of can.router) router_acts.Lock n m.0, m.1)) (m' ≡ (saw i n m.0, m.1)))) can.sides
+    (loads_for_lock t.reuses t.count t.size t.id.slots id i m (part_in m.0) serial can.router whole can.can can.primary))))
 
 pub lock_may : (t : TableName) (id i serial found new : ℕ) (side : Side) (source : Option ℕ) (m : Mine) (told : Tells) → IsPicked told (worded i serial side source router_acts.Lock (λ n. eqb n found)) → m.0.parts ≡ part_in m.0 ∷ [] →
     CanWord (part_in m.0).state serial side router_acts.Lock i → source ≡ source_in (part_in m.0).state serial → i < t.size → bits_of (word_after (word_of_bits found) side source router_acts.Lock) ≡ new →
-    Keeps t.count t.size t.id.slots id m i (λ n. either (eqb n found) new n) (told m)
+    Keeps t.reuses t.count t.size t.id.slots id m i (λ n. either (eqb n found) new n) (told m)
 lock_may t id i serial found new side source m told picked whole can named inside is =
-    may_by t.count t.size t.id.slots id m i (λ n. either (eqb n found) new n) told (worded i serial side source router_acts.Lock (λ n. eqb n found)) picked
-    (words_told t.count t.size t.id.slots id i source m (λ n. either (eqb n found) new n) (λ n m'. MatchBool (eqb n found) (m' ≡ (act_view i serial side source router_acts.Lock n m.0, m.1)) (m' ≡ (saw i n m.0, m.1))) inside
+    may_by t.reuses t.count t.size t.id.slots id m i (λ n. either (eqb n found) new n) told (worded i serial side source router_acts.Lock (λ n. eqb n found)) picked
+    (words_told t.reuses t.count t.size t.id.slots id i source m (λ n. either (eqb n found) new n) (λ n m'. MatchBool (eqb n found) (m' ≡ (act_view i serial side source router_acts.Lock n m.0, m.1)) (m' ≡ (saw i n m.0, m.1))) inside
     (names_node t id serial i side router_acts.Lock source m whole can named)
-    (subst (λ (z : ℕ). Keeps t.count t.size t.id.slots id m i (λ n. either (eqb n found) z n) (λ n m'. MatchBool (eqb n found) (m' ≡ (act_view i serial side source router_acts.Lock n m.0, m.1)) (m' ≡ (saw i n m.0, m.1)))) is
-    (subst (λ (o : Option ℕ). Keeps t.count t.size t.id.slots id m i (λ n. either (eqb n found) (bits_of (word_after (word_of_bits found) side o router_acts.Lock)) n) (λ n m'. MatchBool (eqb n found) (m' ≡ (act_view i serial side o router_acts.Lock n m.0, m.1)) (m' ≡ (saw i n m.0, m.1)))) (source_is (part_in m.0).state serial i side router_acts.Lock source can named)
-    (subst (λ (z : Side). Keeps t.count t.size t.id.slots id m i (λ n. either (eqb n found) (bits_of (word_after (word_of_bits found) z (source_of can.router) router_acts.Lock)) n) (λ n m'. MatchBool (eqb n found) (m' ≡ (act_view i serial z (source_of can.router) router_acts.Lock n m.0, m.1)) (m' ≡ (saw i n m.0, m.1)))) can.sides
-    (tries_lock t.count t.size t.id.slots id i found m (part_in m.0) serial can.router whole can.can can.primary)))))
+    (subst (λ (z : ℕ). Keeps t.reuses t.count t.size t.id.slots id m i (λ n. either (eqb n found) z n) (λ n m'. MatchBool (eqb n found) (m' ≡ (act_view i serial side source router_acts.Lock n m.0, m.1)) (m' ≡ (saw i n m.0, m.1)))) is
+    (subst (λ (o : Option ℕ). Keeps t.reuses t.count t.size t.id.slots id m i (λ n. either (eqb n found) (bits_of (word_after (word_of_bits found) side o router_acts.Lock)) n) (λ n m'. MatchBool (eqb n found) (m' ≡ (act_view i serial side o router_acts.Lock n m.0, m.1)) (m' ≡ (saw i n m.0, m.1)))) (source_is (part_in m.0).state serial i side router_acts.Lock source can named)
+    (subst (λ (z : Side). Keeps t.reuses t.count t.size t.id.slots id m i (λ n. either (eqb n found) (bits_of (word_after (word_of_bits found) z (source_of can.router) router_acts.Lock)) n) (λ n m'. MatchBool (eqb n found) (m' ≡ (act_view i serial z (source_of can.router) router_acts.Lock n m.0, m.1)) (m' ≡ (saw i n m.0, m.1)))) can.sides
+    (tries_lock t.reuses t.count t.size t.id.slots id i found m (part_in m.0) serial can.router whole can.can can.primary)))))
 
 abbrev word_or : Option (ℕ × Side) → Option ℕ
 word_or None = None
@@ -158,34 +158,34 @@ unfolding word_answer
 wake_view i serial side source = refl
 
 pub mark_may : (t : TableName) (id i serial bits : ℕ) (side : Side) (m : Mine) (told : Tells) → IsPicked told (worded i serial side None router_acts.Mark always) → m.0.parts ≡ part_in m.0 ∷ [] →
-    CanWord (part_in m.0).state serial side router_acts.Mark i → i < t.size → bits ≡ stable_bit side → Keeps t.count t.size t.id.slots id m i (λ n. bit_or n bits) (told m)
+    CanWord (part_in m.0).state serial side router_acts.Mark i → i < t.size → bits ≡ stable_bit side → Keeps t.reuses t.count t.size t.id.slots id m i (λ n. bit_or n bits) (told m)
 mark_may t id i serial bits side m told picked whole can inside is =
-    may_by t.count t.size t.id.slots id m i (λ n. bit_or n bits) told (worded i serial side None router_acts.Mark always) picked
-    (words_told t.count t.size t.id.slots id i None m (λ n. bit_or n bits) (λ n m'. m' ≡ (act_view i serial side None router_acts.Mark n m.0, m.1)) inside (names_none t.count t.size id m)
-    (subst (λ (z : ℕ). Keeps t.count t.size t.id.slots id m i (λ n. bit_or n z) (λ n m'. m' ≡ (act_view i serial side None router_acts.Mark n m.0, m.1))) (sym is)
-    (subst (λ (z : Side). Keeps t.count t.size t.id.slots id m i (λ n. bit_or n (stable_bit z)) (λ n m'. m' ≡ (act_view i serial z None router_acts.Mark n m.0, m.1))) can.sides
-    (subst (λ (V : ℕ → View → View). Keeps t.count t.size t.id.slots id m i (λ n. bit_or n (stable_bit can.router.end.side)) (λ n m'. m' ≡ (V n m.0, m.1))) (mark_view i serial can.router.end.side (source_of can.router))
-    (marks t.count t.size t.id.slots id i m (part_in m.0) serial can.router whole can.can can.primary)))))
+    may_by t.reuses t.count t.size t.id.slots id m i (λ n. bit_or n bits) told (worded i serial side None router_acts.Mark always) picked
+    (words_told t.reuses t.count t.size t.id.slots id i None m (λ n. bit_or n bits) (λ n m'. m' ≡ (act_view i serial side None router_acts.Mark n m.0, m.1)) inside (names_none t.count t.size id m)
+    (subst (λ (z : ℕ). Keeps t.reuses t.count t.size t.id.slots id m i (λ n. bit_or n z) (λ n m'. m' ≡ (act_view i serial side None router_acts.Mark n m.0, m.1))) (sym is)
+    (subst (λ (z : Side). Keeps t.reuses t.count t.size t.id.slots id m i (λ n. bit_or n (stable_bit z)) (λ n m'. m' ≡ (act_view i serial z None router_acts.Mark n m.0, m.1))) can.sides
+    (subst (λ (V : ℕ → View → View). Keeps t.reuses t.count t.size t.id.slots id m i (λ n. bit_or n (stable_bit can.router.end.side)) (λ n m'. m' ≡ (V n m.0, m.1))) (mark_view i serial can.router.end.side (source_of can.router))
+    (marks t.reuses t.count t.size t.id.slots id i m (part_in m.0) serial can.router whole can.can can.primary)))))
 
 pub unlock_may : (t : TableName) (id i serial bits : ℕ) (side : Side) (m : Mine) (told : Tells) → IsPicked told (worded i serial side None router_acts.Unlock always) → m.0.parts ≡ part_in m.0 ∷ [] →
-    CanWord (part_in m.0).state serial side router_acts.Unlock i → i < t.size → bits ≡ 18446744073709486335 - locked_bit side → Keeps t.count t.size t.id.slots id m i (λ n. bit_and n bits) (told m)
+    CanWord (part_in m.0).state serial side router_acts.Unlock i → i < t.size → bits ≡ 18446744073709486335 - locked_bit side → Keeps t.reuses t.count t.size t.id.slots id m i (λ n. bit_and n bits) (told m)
 unlock_may t id i serial bits side m told picked whole can inside is =
-    may_by t.count t.size t.id.slots id m i (λ n. bit_and n bits) told (worded i serial side None router_acts.Unlock always) picked
-    (words_told t.count t.size t.id.slots id i None m (λ n. bit_and n bits) (λ n m'. m' ≡ (act_view i serial side None router_acts.Unlock n m.0, m.1)) inside (names_none t.count t.size id m)
-    (subst (λ (z : ℕ). Keeps t.count t.size t.id.slots id m i (λ n. bit_and n z) (λ n m'. m' ≡ (act_view i serial side None router_acts.Unlock n m.0, m.1))) (sym is)
-    (subst (λ (z : Side). Keeps t.count t.size t.id.slots id m i (λ n. bit_and n (18446744073709486335 - locked_bit z)) (λ n m'. m' ≡ (act_view i serial z None router_acts.Unlock n m.0, m.1))) can.sides
-    (subst (λ (V : ℕ → View → View). Keeps t.count t.size t.id.slots id m i (λ n. bit_and n (18446744073709486335 - locked_bit can.router.end.side)) (λ n m'. m' ≡ (V n m.0, m.1))) (unlock_view i serial can.router.end.side (source_of can.router))
-    (unlocks t.count t.size t.id.slots id i m (part_in m.0) serial can.router whole can.can can.primary)))))
+    may_by t.reuses t.count t.size t.id.slots id m i (λ n. bit_and n bits) told (worded i serial side None router_acts.Unlock always) picked
+    (words_told t.reuses t.count t.size t.id.slots id i None m (λ n. bit_and n bits) (λ n m'. m' ≡ (act_view i serial side None router_acts.Unlock n m.0, m.1)) inside (names_none t.count t.size id m)
+    (subst (λ (z : ℕ). Keeps t.reuses t.count t.size t.id.slots id m i (λ n. bit_and n z) (λ n m'. m' ≡ (act_view i serial side None router_acts.Unlock n m.0, m.1))) (sym is)
+    (subst (λ (z : Side). Keeps t.reuses t.count t.size t.id.slots id m i (λ n. bit_and n (18446744073709486335 - locked_bit z)) (λ n m'. m' ≡ (act_view i serial z None router_acts.Unlock n m.0, m.1))) can.sides
+    (subst (λ (V : ℕ → View → View). Keeps t.reuses t.count t.size t.id.slots id m i (λ n. bit_and n (18446744073709486335 - locked_bit can.router.end.side)) (λ n m'. m' ≡ (V n m.0, m.1))) (unlock_view i serial can.router.end.side (source_of can.router))
+    (unlocks t.reuses t.count t.size t.id.slots id i m (part_in m.0) serial can.router whole can.can can.primary)))))
 
 pub wake_may : (t : TableName) (id i serial bits : ℕ) (side : Side) (m : Mine) (told : Tells) → IsPicked told (worded i serial side None router_acts.Wake always) → m.0.parts ≡ part_in m.0 ∷ [] →
-    CanWord (part_in m.0).state serial side router_acts.Wake i → i < t.size → bits ≡ 18446744073709551615 - waiting_bit (opposite side) → Keeps t.count t.size t.id.slots id m i (λ n. bit_and n bits) (told m)
+    CanWord (part_in m.0).state serial side router_acts.Wake i → i < t.size → bits ≡ 18446744073709551615 - waiting_bit (opposite side) → Keeps t.reuses t.count t.size t.id.slots id m i (λ n. bit_and n bits) (told m)
 wake_may t id i serial bits side m told picked whole can inside is =
-    may_by t.count t.size t.id.slots id m i (λ n. bit_and n bits) told (worded i serial side None router_acts.Wake always) picked
-    (words_told t.count t.size t.id.slots id i None m (λ n. bit_and n bits) (λ n m'. m' ≡ (act_view i serial side None router_acts.Wake n m.0, m.1)) inside (names_none t.count t.size id m)
-    (subst (λ (z : ℕ). Keeps t.count t.size t.id.slots id m i (λ n. bit_and n z) (λ n m'. m' ≡ (act_view i serial side None router_acts.Wake n m.0, m.1))) (sym is)
-    (subst (λ (z : Side). Keeps t.count t.size t.id.slots id m i (λ n. bit_and n (18446744073709551615 - waiting_bit (opposite z))) (λ n m'. m' ≡ (act_view i serial z None router_acts.Wake n m.0, m.1))) can.sides
-    (subst (λ (V : ℕ → View → View). Keeps t.count t.size t.id.slots id m i (λ n. bit_and n (18446744073709551615 - waiting_bit (opposite can.router.end.side))) (λ n m'. m' ≡ (V n m.0, m.1))) (wake_view i serial can.router.end.side (source_of can.router))
-    (wakes t.count t.size t.id.slots id i m (part_in m.0) serial can.router whole can.can can.primary)))))
+    may_by t.reuses t.count t.size t.id.slots id m i (λ n. bit_and n bits) told (worded i serial side None router_acts.Wake always) picked
+    (words_told t.reuses t.count t.size t.id.slots id i None m (λ n. bit_and n bits) (λ n m'. m' ≡ (act_view i serial side None router_acts.Wake n m.0, m.1)) inside (names_none t.count t.size id m)
+    (subst (λ (z : ℕ). Keeps t.reuses t.count t.size t.id.slots id m i (λ n. bit_and n z) (λ n m'. m' ≡ (act_view i serial side None router_acts.Wake n m.0, m.1))) (sym is)
+    (subst (λ (z : Side). Keeps t.reuses t.count t.size t.id.slots id m i (λ n. bit_and n (18446744073709551615 - waiting_bit (opposite z))) (λ n m'. m' ≡ (act_view i serial z None router_acts.Wake n m.0, m.1))) can.sides
+    (subst (λ (V : ℕ → View → View). Keeps t.reuses t.count t.size t.id.slots id m i (λ n. bit_and n (18446744073709551615 - waiting_bit (opposite can.router.end.side))) (λ n m'. m' ≡ (V n m.0, m.1))) (wake_view i serial can.router.end.side (source_of can.router))
+    (wakes t.reuses t.count t.size t.id.slots id i m (part_in m.0) serial can.router whole can.can can.primary)))))
 
 pub mark_answers : (x : Word) (s : Side) (o : Option ℕ) (answer : Answer) → answer ≡ word_answer x s o router_acts.Mark → IsAnswerOf router_acts.Mark answer
 unfolding word_answer

@@ -1,5 +1,5 @@
 -- The claim count of a cell: what the calls on it require, answer and leave.
-use Rattle.std.specs.Prelude.{◌≡◌, ◌≢◌, ◌<◌, ◌≤◌, ◌%◌, ℕ, true, false, [], ◌∷◌, ◌++◌, List, Result, Ok, Err, MatchBool, eqb}
+use Rattle.std.specs.Prelude.{◌≡◌, ◌≢◌, ◌<◌, ◌≤◌, ℕ, true, false, [], ◌∷◌, ◌++◌, List, Result, Ok, Err, MatchBool, eqb}
 use mathlib.Core.Option.{some}
 use lib.ListN.{get_elem?}
 use Rattle.ipcz_base.specs.declared.refusal.Refusal.{Refusal}
@@ -9,7 +9,6 @@ use Rattle.ipcz_router.specs.declared.act.Answer.TheVariants as answers
 use Rattle.ipcz_router.specs.declared.act.RouterAct.TheVariants as router_acts
 use Rattle.ipcz_node.specs.declared.act.Act.TheVariants as acts
 use Rattle.ipcz_node.specs.Node.{Node}
-use Rattle.ipcz_slots.specs.Slots.{has_number}
 use Rattle.ipcz_rule.specs.Rule.{saw}
 use Rattle.ipcz_rule.specs.Steps.{act_part, CanAct}
 use Rattle.ipcz_cell.specs.TableNames.{TableName}
@@ -29,10 +28,6 @@ pub record IsNumberAt (t : TableName) (count n : ℕ) : Type 0 where
   pub least : count ≤ n
   pub below : n < t.size
   pub order : t.reuses ≡ false → n ≡ count
-
--- if slots are used again, that of the number is free at the seat
-abbrev pub HasFreeSlot : TableName → List ℕ → ℕ → Type 0
-HasFreeSlot t free n = t.reuses ≡ true → has_number free (n % t.slots) ≡ true
 
 -- a load of the claim count, which finds at most as many as there are, and at least each count that was seen: if it finds all of them,
 -- it is the claim's NoWord

@@ -1,10 +1,10 @@
 -- A step by which an end of a link word is let go, where slots are used again.
-use Rattle.std.specs.Prelude.{◌≡◌, ◌%◌, ℕ, true, bit_or}
+use Rattle.std.specs.Prelude.{◌≡◌, ◌%◌, ◌∷◌, ℕ, bit_or}
 use Rattle.atomic_table.specs.Table.{Me, Allows}
 use Rattle.ipcz_base.specs.declared.side.Side.{Side}
 use Rattle.ipcz_base.specs.declared.side.Side.TheVariants.{A, B}
 use Rattle.ipcz_slots.specs.declared.own.Own.{Own}
-use Rattle.ipcz_slots.specs.Slots.{let_go_word, has_number}
+use Rattle.ipcz_slots.specs.Slots.{let_go_word}
 use Rattle.ipcz_rule.specs.declared.view.View.{View}
 use Rattle.ipcz_rule.specs.Rule.{Slot, Mine}
 use Rattle.ipcz_rule.specs.Lasting.{LastingRules}
@@ -27,4 +27,4 @@ MayLetGo t id m i side told = LetsGo t id m i side (λ n m'. told n (mine_of m')
 
 -- it may, and a slot is the seat's then, to be emptied
 abbrev pub MayLeave : TableName → ℕ → Me Slot (Own View) → ℕ → Side → ℕ → (ℕ → Mine → Type 0) → Type 0
-MayLeave t id m i side slot told = LetsGo t id m i side (λ n m'. told n (mine_of m') × (has_number m'.0.dirty slot ≡ true))
+MayLeave t id m i side slot told = LetsGo t id m i side (λ n m'. told n (mine_of m') × (m'.0.dirty ≡ slot ∷ m.0.dirty) × (m'.0.free ≡ m.0.free))

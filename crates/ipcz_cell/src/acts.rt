@@ -3,7 +3,7 @@ ghost use Rattle.std.specs.Prelude.{◌≡◌, ◌<◌, true, Some, None};
 ghost use Rattle.ipcz_node.specs.Acts.{has_mail_for, stand_in};
 ghost use Rattle.ipcz_node.specs.RoomyNodes.{IsPossibleAct};
 ghost use Rattle.ipcz_world.specs.Wordless.{is_wordless};
-ghost use Rattle.ipcz_cell.specs.GivenUp.{given_up};
+ghost use Rattle.ipcz_cell.specs.GivenUp.{GivesUp};
 ghost use Rattle.ipcz_cell.specs.TurnChains.{acted, untold, Does, TriesTurn, RunsTurns};
 
 use crate::bells::{Ringer, Unheard, Waking};
@@ -86,7 +86,7 @@ impl<F: FabricName> NodeCell<F> {
     ) -> Result<(), Refusal>
         requires touch { is_wordless act ≡ true }
         requires alone { Act.Router serial act ≡ stand_in (Act.Router serial act) }
-        requires keeps { GivenUp.Nothing ≡ given_up F.table.reuses self.old.part.state (Act.Router serial act) }
+        requires keeps { GivesUp F.table.reuses self.old.part.state (Act.Router serial act) GivenUp.Nothing }
         requires possible { IsPossibleAct self.old.part.state (Act.Router serial act) }
         ensures { Does F.table (Act.Router serial act) self.old result self.new }
     {

@@ -7,13 +7,13 @@ ghost use Rattle.ipcz_node.specs.Preparing.{act_grows};
 ghost use Rattle.ipcz_node.specs.Events.{event_of};
 ghost use Rattle.ipcz_cell.specs.CellStates.{part_in, change_part, roomy};
 ghost use Rattle.ipcz_cell.specs.Cells.{AreSound, IsSeated};
-ghost use Rattle.ipcz_cell.specs.Seats.{mine_of, Keeps};
+ghost use Rattle.ipcz_cell.specs.Seats.{mine_of, Keeps, HasNoSlots, SlotsStay};
 ghost use Rattle.ipcz_rule.specs.Steps.{put_part, close_part, act_part};
 ghost use Rattle.ipcz_world.specs.Wordless.{is_wordless};
 ghost use Rattle.ipcz_cell.specs.Parts.{got_part};
 ghost use Rattle.ipcz_rule.specs.Steps.{is_touch_act};
 ghost use Rattle.ipcz_cell.specs.Claims.{CanClaim};
-ghost use Rattle.ipcz_cell.specs.GivenUp.{given_up};
+ghost use Rattle.ipcz_cell.specs.GivenUp.{GivesUp};
 ghost use Rattle.ipcz_cell.specs.Outcomes.{IsPicked, touched};
 
 use crate::fabric::{Fabric, FabricName};
@@ -47,11 +47,11 @@ impl<F: FabricName> Model for NodeCell<F> {
     ghost coded = { Prim.hlevel (codes, code, sets.code) };
 
     ghost use Rattle.ipcz_cell.specs.Cells.{IsCell};
-    ghost use Rattle.ipcz_cell.specs.Seats.{mine_of};
+    ghost use Rattle.ipcz_cell.specs.Seats.{mine_of, HasNoSlots};
 
     ghost view = { λ c. record { part = part_in c.seat.me.0.view; seen = c.seat.me.0.view.seen; room = c.state.room } };
 
-    ghost invariant = { λ c. IsCell F.table c.state.node c.message c.probed c.seat.table_id (mine_of c.seat.me) };
+    ghost invariant = { λ c. IsCell F.table c.state.node c.message c.probed c.seat.table_id (mine_of c.seat.me) × HasNoSlots c.seat.me.0 };
 }
 
 /// A step on the node's touch word.
@@ -62,11 +62,12 @@ pub(crate) fn touch<F: FabricName, X: Outcome>(
 ) -> u64
     requires own { seat.old.table_id ≡ F.table.id }
     requires node { node < F.table.count }
-    requires may { Keeps F.table.count F.table.size F.table.id.slots seat.old.id (mine_of seat.old.me) (F.table.size + 1 + node) (λ n. n)
+    requires may { Keeps F.table.reuses F.table.count F.table.size F.table.id.slots seat.old.id (mine_of seat.old.me) (F.table.size + 1 + node) (λ n. n)
         (X.tells (mine_of seat.old.me)) }
     ensures table { seat.new.table_id ≡ seat.old.table_id }
     ensures done { X.tells (mine_of seat.old.me) result (mine_of seat.new.me) }
     ensures sound { AreSound F.table.count F.table.size seat.new.me.0.view }
+    ensures slots { SlotsStay seat.old.me seat.new.me }
 {
     let _words = fabric.words;
     load_step::<F, X>(seat, fabric, 1 + node as usize)
@@ -87,6 +88,7 @@ pub(crate) fn dry_here<F: FabricName, X: Outcome>(
     ensures table { seat.new.table_id ≡ seat.old.table_id }
     ensures done { (mine_of seat.new.me) ≡ (change_part (act_part (Act.Router serial RouterAct.Claim) Answer.NoWord) seat.old.me.0.view, seat.old.me.1) }
     ensures sound { AreSound F.table.count F.table.size seat.new.me.0.view }
+    ensures slots { SlotsStay seat.old.me seat.new.me }
 {
     let _serial = serial;
     touch::<F, X>(seat, fabric, node);
@@ -109,6 +111,7 @@ fn put_here<F: FabricName, X: Outcome>(
     ensures why { IfErr result (λ e. e.why ≡ unwrap_or (put_refusal profile state.old.node at bytes ends) Refusal.OutOfMemory) }
     ensures back { IfErr result (λ e. (e.bytes ≡ bytes) × (e.ends ≡ ends)) }
     ensures seated { IsSeated F.table state.new.node seat.new.table_id (mine_of seat.new.me) }
+    ensures slots { SlotsStay seat.old.me seat.new.me }
     ensures done { OnOk result ((mine_of seat.new.me) ≡ (change_part (put_part at bytes ends) seat.old.me.0.view, seat.old.me.1)) }
     ensures err { OnErr result ((state.new.node ≡ state.old.node) × ((mine_of seat.new.me) ≡ (mine_of seat.old.me))) }
 {
@@ -131,6 +134,7 @@ fn get_here<F: FabricName, X: Outcome>(
     ensures parcel { IfOk result (λ g. got_at state.old.node at ≡ Some g) }
     ensures why { IfErr result (λ e. get_refusal state.old.node at ≡ Some e) }
     ensures seated { IsSeated F.table state.new.node seat.new.table_id (mine_of seat.new.me) }
+    ensures slots { SlotsStay seat.old.me seat.new.me }
     ensures done { OnOk result ((mine_of seat.new.me) ≡ (change_part (got_part at) seat.old.me.0.view, seat.old.me.1)) }
     ensures err { OnErr result ((state.new.node ≡ state.old.node) × ((mine_of seat.new.me) ≡ (mine_of seat.old.me))) }
 {
@@ -153,6 +157,7 @@ fn close_here<F: FabricName, X: Outcome>(
     ensures number { IfOk result (λ n. n ≡ put_number state.old.node at) }
     ensures why { IfErr result (λ e. e ≡ unwrap_or (close_refusal state.old.node at) Refusal.OutOfMemory) }
     ensures seated { IsSeated F.table state.new.node seat.new.table_id (mine_of seat.new.me) }
+    ensures slots { SlotsStay seat.old.me seat.new.me }
     ensures done { OnOk result ((mine_of seat.new.me) ≡ (change_part (close_part at) seat.old.me.0.view, seat.old.me.1)) }
     ensures err { OnErr result ((state.new.node ≡ state.old.node) × ((mine_of seat.new.me) ≡ (mine_of seat.old.me))) }
 {
@@ -175,8 +180,10 @@ fn act_here<F: FabricName, X: Outcome>(
     requires possible { IsPossibleAct state.old.node act }
     requires serials { act_lacks_serials state.old.node act ≡ false }
     requires ready { IsReadyFor state.old act }
+    requires none { HasNoSlots seat.old.me.0 }
     ensures event { result ≡ event_of state.old.node act Answer.Plain }
     ensures seated { IsSeated F.table state.new.node seat.new.table_id (mine_of seat.new.me) }
+    ensures slots { SlotsStay seat.old.me seat.new.me }
     ensures done { (mine_of seat.new.me) ≡ (change_part (act_part act Answer.Plain) seat.old.me.0.view, seat.old.me.1) }
 {
     let node = state.number();
@@ -196,16 +203,18 @@ fn plain_here<F: FabricName, X: Outcome, T: Told>(
     act: RouterAct,
     given: GivenUp,
 ) -> Result<T, Refusal>
-    requires given { given ≡ given_up F.table.reuses state.old.node (Act.Router serial act) }
+    requires given { GivesUp F.table.reuses state.old.node (Act.Router serial act) given }
     requires picked { IsPicked X.tells (touched (act_part (Act.Router serial act) Answer.Plain)) }
     requires seated { IsSeated F.table state.old.node seat.old.table_id (mine_of seat.old.me) }
     requires touch { is_wordless act ≡ true }
     requires possible { IsPossibleAct state.old.node (Act.Router serial act) }
+    requires none { HasNoSlots seat.old.me.0 }
     ensures event { IfOk result (λ told. T.tells (event_of state.old.node (Act.Router serial act) Answer.Plain) told) }
     ensures why { IfErr result
         (λ e. e ≡ (if act_lacks_serials state.old.node (Act.Router serial act) then Refusal.NumbersEnd else Refusal.OutOfMemory)) }
     ensures grows { act_grows state.old.node (Act.Router serial act) ≡ false → IsOk result }
     ensures seated { IsSeated F.table state.new.node seat.new.table_id (mine_of seat.new.me) }
+    ensures slots { SlotsStay seat.old.me seat.new.me }
     ensures done { OnOk result
         ((mine_of seat.new.me) ≡ (change_part (act_part (Act.Router serial act) Answer.Plain) seat.old.me.0.view, seat.old.me.1)) }
     ensures err { OnErr result ((state.new.node ≡ state.old.node) × ((mine_of seat.new.me) ≡ (mine_of seat.old.me))) }
@@ -344,7 +353,7 @@ impl<F: FabricName> NodeCell<F> {
         act: RouterAct,
         given: GivenUp,
     ) -> Result<T, Refusal>
-        requires given { given ≡ given_up F.table.reuses self.old.part.state (Act.Router serial act) }
+        requires given { GivesUp F.table.reuses self.old.part.state (Act.Router serial act) given }
         requires touch { is_wordless act ≡ true }
         requires possible { IsPossibleAct self.old.part.state (Act.Router serial act) }
         ensures event { IfOk result (λ told. T.tells (event_of self.old.part.state (Act.Router serial act) Answer.Plain) told) }

@@ -1,11 +1,11 @@
 //! The claim count of a cell.
-ghost use Rattle.ipcz_cell.specs.Seats.{mine_of};
-ghost use Rattle.std.specs.Prelude.{◌≡◌, [], ◌∷◌, false, eqb};
+ghost use Rattle.ipcz_cell.specs.Seats.{mine_of, HasNoSlots, HasSlotFor, SlotsStay};
+ghost use Rattle.std.specs.Prelude.{◌≡◌, [], ◌∷◌, eqb, MatchBool};
 ghost use Rattle.ipcz_node.specs.RoomyNodes.{IsPossibleAct, IsReadyFor};
 ghost use Rattle.ipcz_cell.specs.CellStates.{part_in};
 ghost use Rattle.ipcz_cell.specs.Cells.{AreSound};
 ghost use Rattle.ipcz_cell.specs.Outcomes.{IsPicked};
-ghost use Rattle.ipcz_cell.specs.Claims.{CanClaim, IsNumberAt, HasFreeSlot, Answered, counted, claimed};
+ghost use Rattle.ipcz_cell.specs.Claims.{CanClaim, IsNumberAt, Answered, counted, claimed};
 
 use crate::cell::{NodeCell, dry_here};
 use crate::fabric::{Fabric, FabricName};
@@ -31,6 +31,7 @@ fn count_here<F: FabricName, X: Outcome>(
     ensures table { seat.new.table_id ≡ seat.old.table_id }
     ensures done { counted F.table.size serial (mine_of seat.old.me) result (mine_of seat.new.me) }
     ensures sound { AreSound F.table.count F.table.size seat.new.me.0.view }
+    ensures slots { SlotsStay seat.old.me seat.new.me }
 {
     let (_serial, _words) = (serial, fabric.words);
     load_step::<F, X>(seat, fabric, 0)
@@ -49,11 +50,11 @@ fn claim_here<F: FabricName, X: Outcome>(
     requires whole { seat.old.me.0.view.parts ≡ part_in seat.old.me.0.view ∷ [] }
     requires can { CanClaim (part_in seat.old.me.0.view).state serial }
     requires number { IsNumberAt F.table count number }
-    requires slot { HasFreeSlot F.table seat.old.me.0.free number }
+    requires slot { HasSlotFor F.table number seat.old.me.0 }
     ensures table { seat.new.table_id ≡ seat.old.table_id }
     ensures done { claimed F.table.size serial count number (mine_of seat.old.me) result (mine_of seat.new.me) }
-    ensures free { eqb result count ≡ false → seat.new.me.0.free ≡ seat.old.me.0.free }
     ensures sound { AreSound F.table.count F.table.size seat.new.me.0.view }
+    ensures slots { MatchBool (eqb result count) (HasNoSlots seat.new.me.0) (SlotsStay seat.old.me seat.new.me) }
 {
     let (_serial, _words) = (serial, fabric.words);
     claim_step::<F, X>(seat, fabric, count, number)

@@ -1,17 +1,16 @@
 //! What an act gives up of the link words, and the step by which it does.
-ghost use Rattle.std.specs.Prelude.{◌≡◌, ◌<◌, ℕ, [], ◌∷◌, true, false, Some, None};
+ghost use Rattle.std.specs.Prelude.{◌≡◌, ◌<◌, ℕ, [], ◌∷◌, true, false, None};
 ghost use Rattle.ipcz_router.specs.Router.{Router as RouterRecord};
 ghost use Rattle.ipcz_router.specs.LettingGo.{let_go_end};
-ghost use Rattle.ipcz_slots.specs.Slots.{has_number};
 ghost use Rattle.ipcz_node.specs.Acts.{act_lacks_serials};
 ghost use Rattle.ipcz_node.specs.RoomyNodes.{IsPossibleAct};
 ghost use Rattle.ipcz_rule.specs.Steps.{act_part, is_touch_act};
 ghost use Rattle.ipcz_cell.specs.CellStates.{part_in, change_part};
 ghost use Rattle.ipcz_cell.specs.Cells.{AreSound};
-ghost use Rattle.ipcz_cell.specs.GivenUp.{given_up, given_of, left_spare};
+ghost use Rattle.ipcz_cell.specs.GivenUp.{RouterGives, GivesUp};
 ghost use Rattle.ipcz_cell.specs.Lettings.{bit_of_side, MayLetGo, MayLeave};
 ghost use Rattle.ipcz_cell.specs.Outcomes.{IsPicked, touched};
-ghost use Rattle.ipcz_cell.specs.Seats.{mine_of};
+ghost use Rattle.ipcz_cell.specs.Seats.{mine_of, HasNoSlots, SlotsStay};
 
 use crate::cell::touch;
 use crate::fabric::{Fabric, FabricName};
@@ -35,17 +34,6 @@ pub(crate) enum GivenUp {
     EndAndSpare(u32, Side, u32),
 }
 
-// The word that a proxy which leaves has claimed for its bypass.
-#[tactic(auto, unfolding(crate::specs::GivenUp::left_spare, ipcz_router::specs::ActEffects::leaves_by))]
-fn left_spare(router: &Router, act: RouterAct) -> Option<u32>
-    ensures { result ≡ left_spare router.now.router act }
-{
-    if act == RouterAct::Leave {
-        return router.let_go_spare(act);
-    }
-    None
-}
-
 // Whether an act may give something up.
 #[inline(always)]
 #[tactic(auto, unfolding(ipcz_router::specs::LettingGo::let_go_end, ipcz_router::specs::ActEffects::leaves_by))]
@@ -58,23 +46,23 @@ fn may_give_up(act: RouterAct) -> bool
     }
 }
 
-// What an act of a router gives up.
+// What a router gives up by an act.
 fn given_of(router: &Router, act: RouterAct) -> GivenUp
-    ensures { result ≡ given_of (Some router.now.router) act }
+    ensures { RouterGives router.now.router act result }
 {
     let Some((word, side)) = router.let_go_end(act) else {
         return GivenUp::Nothing;
     };
-    match left_spare(router, act) {
-        Some(spare) if spare != word => GivenUp::EndAndSpare(word, side, spare),
-        _ => GivenUp::End(word, side),
+    match router.let_go_spare(act) {
+        Some(spare) => GivenUp::EndAndSpare(word, side, spare),
+        None => GivenUp::End(word, side),
     }
 }
 
 /// What an act of a node gives up, as the node stands before it. Most acts give nothing up, and aren't asked for more than which they are.
 #[inline(always)]
 pub(crate) fn given_up<F: FabricName>(state: &NodeState, fabric: &Fabric<F>, act: Act) -> GivenUp
-    ensures { result ≡ given_up F.table.reuses state.now.node act }
+    ensures { GivesUp F.table.reuses state.now.node act result }
 {
     let Act::Router(serial, deed) = act else {
         return GivenUp::Nothing;
@@ -107,13 +95,12 @@ struct Leaves<F, X, S> {
 }
 
 impl<F: FabricName, X: Outcome, S: SlotName> Play<Option<Message>, Own<View>> for Leaves<F, X, S> {
-    ghost use Rattle.std.specs.Prelude.{◌≡◌, true};
-    ghost use Rattle.ipcz_slots.specs.Slots.{has_number};
+    ghost use Rattle.std.specs.Prelude.{◌≡◌, ◌∷◌};
     ghost use Rattle.ipcz_cell.specs.Cells.{AreSound};
     ghost use Rattle.ipcz_cell.specs.Seats.{mine_of};
 
     ghost then = { λ st m n m'. X.tells (mine_of m) n (mine_of m') × AreSound F.table.count F.table.size m'.0.view ×
-        (has_number m'.0.dirty S.slot ≡ true) };
+        (m'.0.dirty ≡ S.slot ∷ m.0.dirty) × (m'.0.free ≡ m.0.free) };
 }
 
 // The bit of a side in a let-go word.
@@ -139,6 +126,7 @@ fn let_go_step<F: FabricName, X: Outcome>(
     ensures table { seat.new.table_id ≡ seat.old.table_id }
     ensures done { (n : ℕ) × X.tells (mine_of seat.old.me) n (mine_of seat.new.me) }
     ensures sound { AreSound F.table.count F.table.size seat.new.me.0.view }
+    ensures slots { SlotsStay seat.old.me seat.new.me }
 {
     let word = let_go_word(fabric, number_slot(fabric, number));
     fabric
@@ -161,7 +149,8 @@ fn leave_step<F: FabricName, X: Outcome, S: SlotName>(
     requires may { MayLeave F.table seat.old.id seat.old.me number side slot (X.tells (mine_of seat.old.me)) }
     ensures table { seat.new.table_id ≡ seat.old.table_id }
     ensures done { (n : ℕ) × X.tells (mine_of seat.old.me) n (mine_of seat.new.me) }
-    ensures slot { has_number seat.new.me.0.dirty slot ≡ true }
+    ensures slot { seat.new.me.0.dirty ≡ slot ∷ seat.old.me.0.dirty }
+    ensures free { seat.new.me.0.free ≡ seat.old.me.0.free }
     ensures sound { AreSound F.table.count F.table.size seat.new.me.0.view }
 {
     let _slot = slot;
@@ -189,10 +178,12 @@ pub(crate) fn act_step<F: FabricName, X: Outcome>(
     requires touch { is_touch_act act ≡ true }
     requires possible { IsPossibleAct (part_in seat.old.me.0.view).state act }
     requires serials { act_lacks_serials (part_in seat.old.me.0.view).state act ≡ false }
-    requires given { given ≡ given_up F.table.reuses (part_in seat.old.me.0.view).state act }
+    requires given { GivesUp F.table.reuses (part_in seat.old.me.0.view).state act given }
+    requires none { HasNoSlots seat.old.me.0 }
     ensures table { seat.new.table_id ≡ seat.old.table_id }
     ensures done { (mine_of seat.new.me) ≡ (change_part (act_part act Answer.Plain) seat.old.me.0.view, seat.old.me.1) }
     ensures sound { AreSound F.table.count F.table.size seat.new.me.0.view }
+    ensures slots { SlotsStay seat.old.me seat.new.me }
 {
     let _words = fabric.words;
     match given {

@@ -1,5 +1,5 @@
 //! The mailboxes of a cell, each in a word of the table with its slot.
-ghost use Rattle.ipcz_cell.specs.Seats.{mine_of};
+ghost use Rattle.ipcz_cell.specs.Seats.{mine_of, SlotsStay};
 ghost use Rattle.std.specs.Prelude.{◌≡◌, ◌<◌, ◌≤◌, ◌+◌, ◌*◌, true, false, [], ◌∷◌, Some, None, Ok, Err, OnOk, OnErr, IfOk, IfErr, if◌then◌else◌, cond};
 ghost use Rattle.std.specs.Prelude.{is_some};
 ghost use Rattle.atomic_table.specs.Table.{rest};
@@ -67,6 +67,7 @@ fn turn_over(seat: &mut TableSeat, n: usize)
     ensures table { seat.new.table_id ≡ seat.old.table_id }
     ensures id { seat.new.id ≡ seat.old.id }
     ensures me { (mine_of seat.new.me) ≡ (seat.old.me.0.view, turned_by n seat.old.me.1) }
+    ensures slots { SlotsStay seat.old.me seat.new.me }
 {
     if n > 0 {
         seat.turn();
@@ -96,6 +97,7 @@ fn probe_here<F: FabricName, X: Outcome>(
     ensures table { seat.new.table_id ≡ seat.old.table_id }
     ensures done { probed (mail_word F.table node to) (slot_of F.table node to) to (mine_of seat.old.me) result (mine_of seat.new.me) }
     ensures sound { AreSound F.table.count F.table.size seat.new.me.0.view }
+    ensures slots { SlotsStay seat.old.me seat.new.me }
     ensures small { to < 8 }
 {
     let slot = slot_of(fabric, node, to);
@@ -117,6 +119,7 @@ fn post_here<F: FabricName, X: Outcome>(node: u8, seat: &mut TableSeat, fabric: 
     ensures table { seat.new.table_id ≡ seat.old.table_id }
     ensures done { (mine_of seat.new.me) ≡ (change_part (post_part to) seat.old.me.0.view, rest seat.old.me.1) }
     ensures sound { AreSound F.table.count F.table.size seat.new.me.0.view }
+    ensures slots { SlotsStay seat.old.me seat.new.me }
 {
     let slot = slot_of(fabric, node, to);
     let place = place_of(fabric, slot);
@@ -139,6 +142,7 @@ fn look_here<F: FabricName, X: Outcome>(
     ensures table { seat.new.table_id ≡ seat.old.table_id }
     ensures done { looked (mail_word F.table from node) (slot_of F.table from node) from (mine_of seat.old.me) result (mine_of seat.new.me) }
     ensures sound { AreSound F.table.count F.table.size seat.new.me.0.view }
+    ensures slots { SlotsStay seat.old.me seat.new.me }
 {
     let slot = slot_of(fabric, from, node);
     let place = place_of(fabric, slot);
@@ -178,6 +182,7 @@ fn source_here<F: FabricName, X: Outcome>(
     ensures table { seat.new.table_id ≡ seat.old.table_id }
     ensures done { sourced old from (mine_of seat.old.me) result (mine_of seat.new.me) }
     ensures sound { AreSound F.table.count F.table.size seat.new.me.0.view }
+    ensures slots { SlotsStay seat.old.me seat.new.me }
 {
     let (_nodes, _from) = (fabric.nodes, from);
     load_link::<F, X>(seat, fabric, old)
@@ -203,6 +208,7 @@ fn hand_here<F: FabricName, X: Outcome>(
     ensures table { seat.new.table_id ≡ seat.old.table_id }
     ensures done { (mine_of seat.new.me) ≡ (change_part (handed_part from source) seat.old.me.0.view, rest seat.old.me.1) }
     ensures sound { AreSound F.table.count F.table.size seat.new.me.0.view }
+    ensures slots { SlotsStay seat.old.me seat.new.me }
 {
     let _source = source;
     let slot = slot_of(fabric, from, node);

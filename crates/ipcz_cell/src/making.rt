@@ -1,5 +1,5 @@
 //! A table is made and named, and each node gets its cell.
-ghost use Rattle.ipcz_cell.specs.Seats.{mine_of};
+ghost use Rattle.ipcz_cell.specs.Seats.{mine_of, HasNoSlots};
 ghost use Rattle.std.specs.Prelude.{◌≡◌, ◌≤◌, ◌<◌, ◌+◌, ◌-◌, ◌++◌, true, false, [], length, replicate, IfOk, IfErr, OnOk, vec_len, vec_capacity};
 ghost use Rattle.ipcz_node.specs.FirstPairs.{first_pairs};
 ghost use Rattle.ipcz_rule.specs.Start.{opening_words, opening_parts, after_deal, dealt};
@@ -224,6 +224,7 @@ fn deal<F: FabricName>(seat: &mut TableSeat, fabric: &Fabric<F>, node: u8) -> Ta
     ensures table { (seat.new.table_id ≡ F.table.id) × (result.table_id ≡ F.table.id) }
     ensures kept { (mine_of seat.new.me) ≡ (after_deal seat.old.me.0.view, seat.old.me.1) }
     ensures dealt { mine_of result.me ≡ (dealt seat.old.me.0.view, []) }
+    ensures none { HasNoSlots result.me.0 }
 {
     let _node = node;
     let dealt = fabric.table.shared.split_seat::<Deal>(seat);

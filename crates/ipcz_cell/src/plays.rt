@@ -1,10 +1,10 @@
 //! The single steps on the table, each with what it tells of its seat. X says what that is, and each call picks it. A clause speaks of the table
 //! that is folded, in which each number has a word of its own: a step on a number's word is one on its slot.
-ghost use Rattle.std.specs.Prelude.{◌≡◌, ◌≤◌, ◌<◌, ◌+◌, ◌*◌, ◌%◌, ◌==◌, false, eqb};
+ghost use Rattle.std.specs.Prelude.{◌≡◌, ◌≤◌, ◌<◌, ◌+◌, ◌*◌, ◌%◌, ◌==◌, eqb, MatchBool};
 ghost use Rattle.std.specs.Prelude.{bit_and, bit_or};
 ghost use prog.Atomic.{either};
 ghost use Rattle.ipcz_cell.specs.Cells.{AreSound};
-ghost use Rattle.ipcz_cell.specs.Seats.{mine_of, Keeps, IsSlotted, MayClaim};
+ghost use Rattle.ipcz_cell.specs.Seats.{mine_of, Keeps, IsSlotted, MayClaim, HasNoSlots, SlotsStay};
 
 use crate::fabric::{Fabric, FabricName};
 use crate::seat::TableSeat;
@@ -60,10 +60,11 @@ pub(crate) fn load_link<F: FabricName, X: Outcome>(
     requires own { seat.old.table_id ≡ F.table.id }
     requires inside { number < F.table.size }
     requires slotted { IsSlotted F.table seat.old.id seat.old.me.0.view number }
-    requires may { Keeps F.table.count F.table.size F.table.id.slots seat.old.id (mine_of seat.old.me) number (λ n. n) (X.tells (mine_of seat.old.me)) }
+    requires may { Keeps F.table.reuses F.table.count F.table.size F.table.id.slots seat.old.id (mine_of seat.old.me) number (λ n. n) (X.tells (mine_of seat.old.me)) }
     ensures table { seat.new.table_id ≡ seat.old.table_id }
     ensures done { X.tells (mine_of seat.old.me) result (mine_of seat.new.me) }
     ensures sound { AreSound F.table.count F.table.size seat.new.me.0.view }
+    ensures slots { SlotsStay seat.old.me seat.new.me }
 {
     let word = link_word(fabric, number);
     fabric.table.shared.load::<By<F, X>>(seat, word)
@@ -80,11 +81,12 @@ pub(crate) fn exchange_link<F: FabricName, X: Outcome>(
     requires own { seat.old.table_id ≡ F.table.id }
     requires inside { number < F.table.size }
     requires slotted { IsSlotted F.table seat.old.id seat.old.me.0.view number }
-    requires may { Keeps F.table.count F.table.size F.table.id.slots seat.old.id (mine_of seat.old.me) number (λ n. either (n == old) new n)
+    requires may { Keeps F.table.reuses F.table.count F.table.size F.table.id.slots seat.old.id (mine_of seat.old.me) number (λ n. either (n == old) new n)
         (X.tells (mine_of seat.old.me)) }
     ensures table { seat.new.table_id ≡ seat.old.table_id }
     ensures done { X.tells (mine_of seat.old.me) result (mine_of seat.new.me) }
     ensures sound { AreSound F.table.count F.table.size seat.new.me.0.view }
+    ensures slots { SlotsStay seat.old.me seat.new.me }
 {
     let word = link_word(fabric, number);
     fabric
@@ -103,10 +105,11 @@ pub(crate) fn set_link<F: FabricName, X: Outcome>(
     requires own { seat.old.table_id ≡ F.table.id }
     requires inside { number < F.table.size }
     requires slotted { IsSlotted F.table seat.old.id seat.old.me.0.view number }
-    requires may { Keeps F.table.count F.table.size F.table.id.slots seat.old.id (mine_of seat.old.me) number (λ n. bit_or n bits) (X.tells (mine_of seat.old.me)) }
+    requires may { Keeps F.table.reuses F.table.count F.table.size F.table.id.slots seat.old.id (mine_of seat.old.me) number (λ n. bit_or n bits) (X.tells (mine_of seat.old.me)) }
     ensures table { seat.new.table_id ≡ seat.old.table_id }
     ensures done { X.tells (mine_of seat.old.me) result (mine_of seat.new.me) }
     ensures sound { AreSound F.table.count F.table.size seat.new.me.0.view }
+    ensures slots { SlotsStay seat.old.me seat.new.me }
 {
     let word = link_word(fabric, number);
     fabric.table.shared.fetch_or::<By<F, X>>(seat, word, bits)
@@ -122,10 +125,11 @@ pub(crate) fn keep_link<F: FabricName, X: Outcome>(
     requires own { seat.old.table_id ≡ F.table.id }
     requires inside { number < F.table.size }
     requires slotted { IsSlotted F.table seat.old.id seat.old.me.0.view number }
-    requires may { Keeps F.table.count F.table.size F.table.id.slots seat.old.id (mine_of seat.old.me) number (λ n. bit_and n bits) (X.tells (mine_of seat.old.me)) }
+    requires may { Keeps F.table.reuses F.table.count F.table.size F.table.id.slots seat.old.id (mine_of seat.old.me) number (λ n. bit_and n bits) (X.tells (mine_of seat.old.me)) }
     ensures table { seat.new.table_id ≡ seat.old.table_id }
     ensures done { X.tells (mine_of seat.old.me) result (mine_of seat.new.me) }
     ensures sound { AreSound F.table.count F.table.size seat.new.me.0.view }
+    ensures slots { SlotsStay seat.old.me seat.new.me }
 {
     let word = link_word(fabric, number);
     fabric.table.shared.fetch_and::<By<F, X>>(seat, word, bits)
@@ -139,11 +143,12 @@ pub(crate) fn load_step<F: FabricName, X: Outcome>(
 ) -> u64
     requires own { seat.old.table_id ≡ F.table.id }
     requires inside { place < 1 + F.table.count + F.table.count * F.table.count }
-    requires may { Keeps F.table.count F.table.size F.table.id.slots seat.old.id (mine_of seat.old.me) (F.table.size + place) (λ n. n)
+    requires may { Keeps F.table.reuses F.table.count F.table.size F.table.id.slots seat.old.id (mine_of seat.old.me) (F.table.size + place) (λ n. n)
         (X.tells (mine_of seat.old.me)) }
     ensures table { seat.new.table_id ≡ seat.old.table_id }
     ensures done { X.tells (mine_of seat.old.me) result (mine_of seat.new.me) }
     ensures sound { AreSound F.table.count F.table.size seat.new.me.0.view }
+    ensures slots { SlotsStay seat.old.me seat.new.me }
 {
     load_behind::<F, X>(seat, fabric, fabric.slots, place)
 }
@@ -158,11 +163,12 @@ pub(crate) fn load_behind<F: FabricName, X: Outcome>(
     requires own { seat.old.table_id ≡ F.table.id }
     requires slots { slots ≡ F.table.slots }
     requires inside { place < 1 + F.table.count + F.table.count * F.table.count }
-    requires may { Keeps F.table.count F.table.size F.table.id.slots seat.old.id (mine_of seat.old.me) (F.table.size + place) (λ n. n)
+    requires may { Keeps F.table.reuses F.table.count F.table.size F.table.id.slots seat.old.id (mine_of seat.old.me) (F.table.size + place) (λ n. n)
         (X.tells (mine_of seat.old.me)) }
     ensures table { seat.new.table_id ≡ seat.old.table_id }
     ensures done { X.tells (mine_of seat.old.me) result (mine_of seat.new.me) }
     ensures sound { AreSound F.table.count F.table.size seat.new.me.0.view }
+    ensures slots { SlotsStay seat.old.me seat.new.me }
 {
     fabric
         .table
@@ -180,11 +186,12 @@ pub(crate) fn store_step<F: FabricName, X: Outcome>(
     requires own { seat.old.table_id ≡ F.table.id }
     requires behind { 1 ≤ place }
     requires inside { place < 1 + F.table.count + F.table.count * F.table.count }
-    requires may { Keeps F.table.count F.table.size F.table.id.slots seat.old.id (mine_of seat.old.me) (F.table.size + place) (λ _. new)
+    requires may { Keeps F.table.reuses F.table.count F.table.size F.table.id.slots seat.old.id (mine_of seat.old.me) (F.table.size + place) (λ _. new)
         (λ _. X.tells (mine_of seat.old.me) new) }
     ensures table { seat.new.table_id ≡ seat.old.table_id }
     ensures done { X.tells (mine_of seat.old.me) new (mine_of seat.new.me) }
     ensures sound { AreSound F.table.count F.table.size seat.new.me.0.view }
+    ensures slots { SlotsStay seat.old.me seat.new.me }
 {
     let word = fabric.slots as usize + place;
     fabric.table.shared.store::<By<F, X>>(seat, word, new);
@@ -201,11 +208,12 @@ pub(crate) fn exchange_step<F: FabricName, X: Outcome>(
     requires own { seat.old.table_id ≡ F.table.id }
     requires behind { 1 ≤ place }
     requires inside { place < 1 + F.table.count + F.table.count * F.table.count }
-    requires may { Keeps F.table.count F.table.size F.table.id.slots seat.old.id (mine_of seat.old.me) (F.table.size + place)
+    requires may { Keeps F.table.reuses F.table.count F.table.size F.table.id.slots seat.old.id (mine_of seat.old.me) (F.table.size + place)
         (λ n. either (n == old) new n) (X.tells (mine_of seat.old.me)) }
     ensures table { seat.new.table_id ≡ seat.old.table_id }
     ensures done { X.tells (mine_of seat.old.me) result (mine_of seat.new.me) }
     ensures sound { AreSound F.table.count F.table.size seat.new.me.0.view }
+    ensures slots { SlotsStay seat.old.me seat.new.me }
 {
     let word = fabric.slots as usize + place;
     fabric
@@ -214,19 +222,19 @@ pub(crate) fn exchange_step<F: FabricName, X: Outcome>(
         .compare_exchange::<By<F, X>>(seat, word, old, new)
 }
 
-/// A step on the claim count that tells what X says, and that the nodes of the seat are sound.
+/// A step on the claim count that tells what X says, and that the nodes of the seat are sound. If the count was found the seat has no slot then.
 pub(crate) struct Counts<F, X> {
     of: PhantomData<F>,
     by: PhantomData<X>,
 }
 
 impl<F: FabricName, X: Outcome> Play<Option<Message>, Own<View>> for Counts<F, X> {
-    ghost use Rattle.std.specs.Prelude.{◌≡◌, false, eqb};
+    ghost use Rattle.std.specs.Prelude.{eqb, MatchBool};
     ghost use Rattle.ipcz_cell.specs.Cells.{AreSound};
-    ghost use Rattle.ipcz_cell.specs.Seats.{mine_of};
+    ghost use Rattle.ipcz_cell.specs.Seats.{mine_of, HasNoSlots, SlotsStay};
 
     ghost then = { λ st m n m'. X.tells (mine_of m) n (mine_of m') × AreSound F.table.count F.table.size m'.0.view ×
-        (eqb n st.first ≡ false → m'.0.free ≡ m.0.free) };
+        MatchBool (eqb n st.first) (HasNoSlots m'.0) (SlotsStay m m') };
 }
 
 /// Exchanges the claim count for the number behind one, and answers what was found.
@@ -240,9 +248,9 @@ pub(crate) fn claim_step<F: FabricName, X: Outcome>(
     requires may { MayClaim F.table seat.old.id seat.old.me count number X.tells }
     ensures table { seat.new.table_id ≡ seat.old.table_id }
     ensures kept { seat.new.id ≡ seat.old.id }
-    ensures free { eqb result count ≡ false → seat.new.me.0.free ≡ seat.old.me.0.free }
     ensures done { X.tells (mine_of seat.old.me) result (mine_of seat.new.me) }
     ensures sound { AreSound F.table.count F.table.size seat.new.me.0.view }
+    ensures slots { MatchBool (eqb result count) (HasNoSlots seat.new.me.0) (SlotsStay seat.old.me seat.new.me) }
 {
     let next = u64::from(number) + 1;
     fabric

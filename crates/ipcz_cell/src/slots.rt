@@ -1,9 +1,9 @@
 //! The slots of a table's link words: taken, emptied and given back.
-ghost use Rattle.std.specs.Prelude.{◌≡◌, ◌<◌, ◌%◌, ◌⊎◌, true, false, IfSome, is_some};
-ghost use Rattle.ipcz_slots.specs.Slots.{has_number, let_go_word};
+ghost use Rattle.std.specs.Prelude.{◌≡◌, ◌<◌, ◌%◌, ◌⊎◌, true, false, cond, [], ◌∷◌, IfSome, IfNone, is_some};
+ghost use Rattle.ipcz_slots.specs.Slots.{has_number, without_number, let_go_word};
 ghost use Rattle.ipcz_rule.specs.Rule.{Mine};
-ghost use Rattle.ipcz_cell.specs.Claims.{IsNumberAt, HasFreeSlot};
-ghost use Rattle.ipcz_cell.specs.Seats.{mine_of, sizes_of};
+ghost use Rattle.ipcz_cell.specs.Claims.{IsNumberAt};
+ghost use Rattle.ipcz_cell.specs.Seats.{mine_of, sizes_of, HasNoSlots, HasSlotFor};
 
 use crate::fabric::{Fabric, FabricName};
 use crate::making::BOTH_SIDES;
@@ -42,9 +42,9 @@ struct Returns<F> {
 }
 
 impl<F: FabricName> Play<Option<Message>, Own<View>> for Returns<F> {
-    ghost use Rattle.ipcz_cell.specs.Seats.{SameBut};
+    ghost use Rattle.ipcz_cell.specs.Seats.{Returned};
 
-    ghost then = { λ st m n m'. SameBut m m' };
+    ghost then = { λ st m n m'. Returned F.table st.word m m' };
 }
 
 /// Where the word of a slot's let-go bits stands: behind those of the links, of the counts and of the mailboxes.
@@ -73,7 +73,8 @@ fn take_step<F: FabricName>(seat: &mut TableSeat, fabric: &Fabric<F>, slot: u32)
     requires inside { slot < F.table.slots }
     ensures table { (seat.new.table_id ≡ seat.old.table_id) × (seat.new.id ≡ seat.old.id) }
     ensures me { ◌≡◌ {A = Mine} (mine_of seat.new.me) (mine_of seat.old.me) }
-    ensures taken { result ≡ true → has_number seat.new.me.0.dirty slot ≡ true }
+    ensures dirty { seat.new.me.0.dirty ≡ cond result (slot ∷ seat.old.me.0.dirty) seat.old.me.0.dirty }
+    ensures free { seat.new.me.0.free ≡ seat.old.me.0.free }
 {
     let word = let_go_word(fabric, slot);
     let found = fabric
@@ -91,7 +92,8 @@ fn empty_step<F: FabricName>(seat: &mut TableSeat, fabric: &Fabric<F>, slot: u32
     requires taken { has_number seat.old.me.0.dirty slot ≡ true }
     ensures table { (seat.new.table_id ≡ seat.old.table_id) × (seat.new.id ≡ seat.old.id) }
     ensures me { ◌≡◌ {A = Mine} (mine_of seat.new.me) (mine_of seat.old.me) }
-    ensures free { has_number seat.new.me.0.free slot ≡ true }
+    ensures dirty { seat.new.me.0.dirty ≡ without_number seat.old.me.0.dirty slot }
+    ensures free { seat.new.me.0.free ≡ slot ∷ seat.old.me.0.free }
 {
     let _slots = fabric.slots;
     fabric
@@ -108,6 +110,8 @@ pub(crate) fn return_step<F: FabricName>(seat: &mut TableSeat, fabric: &Fabric<F
     requires had { (has_number seat.old.me.0.dirty slot ≡ true) ⊎ (has_number seat.old.me.0.free slot ≡ true) }
     ensures table { (seat.new.table_id ≡ seat.old.table_id) × (seat.new.id ≡ seat.old.id) }
     ensures me { ◌≡◌ {A = Mine} (mine_of seat.new.me) (mine_of seat.old.me) }
+    ensures dirty { seat.new.me.0.dirty ≡ without_number seat.old.me.0.dirty slot }
+    ensures free { seat.new.me.0.free ≡ without_number seat.old.me.0.free slot }
 {
     let word = let_go_word(fabric, slot);
     fabric
@@ -121,9 +125,11 @@ fn find_slot<F: FabricName>(seat: &mut TableSeat, fabric: &Fabric<F>, first: u32
     requires own { seat.old.table_id ≡ F.table.id }
     requires reuses { F.table.reuses ≡ true }
     requires inside { first < F.table.slots }
+    requires none { HasNoSlots seat.old.me.0 }
     ensures table { (seat.new.table_id ≡ seat.old.table_id) × (seat.new.id ≡ seat.old.id) }
     ensures me { ◌≡◌ {A = Mine} (mine_of seat.new.me) (mine_of seat.old.me) }
-    ensures free { IfSome result (λ slot. (slot < F.table.slots) × (has_number seat.new.me.0.free slot ≡ true)) }
+    ensures none { IfNone result (HasNoSlots seat.new.me.0) }
+    ensures free { IfSome result (λ slot. (slot < F.table.slots) × (seat.new.me.0.dirty ≡ []) × (seat.new.me.0.free ≡ slot ∷ [])) }
 {
     let mut slot = first;
     for _tried in 0..fabric.slots {
@@ -144,9 +150,11 @@ pub(crate) fn number_at<F: FabricName>(
 ) -> Option<u32>
     requires own { seat.old.table_id ≡ F.table.id }
     requires few { count < F.table.size }
+    requires none { HasNoSlots seat.old.me.0 }
     ensures table { (seat.new.table_id ≡ seat.old.table_id) × (seat.new.id ≡ seat.old.id) }
     ensures me { ◌≡◌ {A = Mine} (mine_of seat.new.me) (mine_of seat.old.me) }
-    ensures number { IfSome result (λ n. IsNumberAt F.table count n × HasFreeSlot F.table seat.new.me.0.free n) }
+    ensures number { IfSome result (λ n. IsNumberAt F.table count n × HasSlotFor F.table n seat.new.me.0) }
+    ensures none { IfNone result (HasNoSlots seat.new.me.0) }
     ensures order { F.table.reuses ≡ false → is_some result ≡ true }
 {
     if !fabric.reuses {
@@ -171,9 +179,10 @@ pub(crate) fn number_at<F: FabricName>(
 pub(crate) fn leave_slot<F: FabricName>(seat: &mut TableSeat, fabric: &Fabric<F>, number: u32)
     requires own { seat.old.table_id ≡ F.table.id }
     requires below { number < F.table.size }
-    requires slot { HasFreeSlot F.table seat.old.me.0.free number }
+    requires slot { HasSlotFor F.table number seat.old.me.0 }
     ensures table { (seat.new.table_id ≡ seat.old.table_id) × (seat.new.id ≡ seat.old.id) }
     ensures me { ◌≡◌ {A = Mine} (mine_of seat.new.me) (mine_of seat.old.me) }
+    ensures none { HasNoSlots seat.new.me.0 }
 {
     if fabric.reuses {
         return_step(seat, fabric, number_slot(fabric, number));

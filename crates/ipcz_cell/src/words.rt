@@ -1,5 +1,5 @@
 //! The link words of a cell.
-ghost use Rattle.ipcz_cell.specs.Seats.{mine_of};
+ghost use Rattle.ipcz_cell.specs.Seats.{mine_of, SlotsStay};
 ghost use Rattle.std.specs.Prelude.{◌≡◌, ◌<◌, ◌-◌, true, false, [], ◌∷◌, Some, None};
 ghost use Rattle.ipcz_word.specs.Layout.{word_of_bits, bits_of, stable_bit, waiting_bit, locked_bit};
 ghost use Rattle.ipcz_base.specs.Sides.{opposite};
@@ -45,6 +45,7 @@ fn status_here<F: FabricName, X: Outcome>(
     ensures table { seat.new.table_id ≡ seat.old.table_id }
     ensures done { worded i serial side source RouterAct.Lock (is_refused_at side) (mine_of seat.old.me) result (mine_of seat.new.me) }
     ensures sound { AreSound F.table.count F.table.size seat.new.me.0.view }
+    ensures slots { SlotsStay seat.old.me seat.new.me }
 {
     let (_nodes, _source) = (fabric.nodes, source);
     load_link::<F, X>(seat, fabric, i)
@@ -71,6 +72,7 @@ fn lock_here<F: FabricName, X: Outcome>(
     ensures table { seat.new.table_id ≡ seat.old.table_id }
     ensures done { worded i serial side source RouterAct.Lock (λ n. eqb n found) (mine_of seat.old.me) result (mine_of seat.new.me) }
     ensures sound { AreSound F.table.count F.table.size seat.new.me.0.view }
+    ensures slots { SlotsStay seat.old.me seat.new.me }
 {
     let (_nodes, _source) = (fabric.nodes, source);
     exchange_link::<F, X>(seat, fabric, i, found, new)
@@ -92,6 +94,7 @@ fn mark_here<F: FabricName, X: Outcome>(
     ensures table { seat.new.table_id ≡ seat.old.table_id }
     ensures done { worded i serial side None RouterAct.Mark always (mine_of seat.old.me) result (mine_of seat.new.me) }
     ensures sound { AreSound F.table.count F.table.size seat.new.me.0.view }
+    ensures slots { SlotsStay seat.old.me seat.new.me }
 {
     let _nodes = fabric.nodes;
     let bit = stable_bit(side);
@@ -114,6 +117,7 @@ fn unlock_here<F: FabricName, X: Outcome>(
     ensures table { seat.new.table_id ≡ seat.old.table_id }
     ensures done { worded i serial side None RouterAct.Unlock always (mine_of seat.old.me) result (mine_of seat.new.me) }
     ensures sound { AreSound F.table.count F.table.size seat.new.me.0.view }
+    ensures slots { SlotsStay seat.old.me seat.new.me }
 {
     let _nodes = fabric.nodes;
     let kept = unlock_mask(side);
@@ -136,6 +140,7 @@ fn wake_here<F: FabricName, X: Outcome>(
     ensures table { seat.new.table_id ≡ seat.old.table_id }
     ensures done { worded i serial side None RouterAct.Wake always (mine_of seat.old.me) result (mine_of seat.new.me) }
     ensures sound { AreSound F.table.count F.table.size seat.new.me.0.view }
+    ensures slots { SlotsStay seat.old.me seat.new.me }
 {
     let _nodes = fabric.nodes;
     let kept = wake_mask(side);

@@ -1,5 +1,5 @@
 -- A get, a close and a pending close as steps on the own touch word.
-use Rattle.std.specs.Prelude.{◌≡◌, ◌<◌, ℕ, true, false, nat_lt, ◌||◌, List, [], ◌∷◌, ◌++◌, length, Option, Some, None, refl}
+use Rattle.std.specs.Prelude.{◌≡◌, ◌<◌, ℕ, true, false, nat_lt, ◌||◌, List, [], ◌∷◌, ◌++◌, length, Option, Some, None, refl, Bool}
 use Rattle.std.proofs.Common.{arith, ap, ◌∙◌, sym, subst, inl}
 use Rattle.std.proofs.lemmas.Bool.Decides.{nat_tests}
 use Rattle.ipcz_base.specs.declared.end.End.{End}
@@ -30,12 +30,13 @@ use Rattle.ipcz_world.proofs.Whole.{each_step_keeps_lawful, replies_plainly}
 use Rattle.ipcz_rule.specs.Rule.{with_part}
 use Rattle.ipcz_rule.specs.Steps.{get_part, close_part, act_part}
 use Rattle.ipcz_rule.specs.Kinds.{KeepsEnds, IsKept, IsTurns, Gets, Closes, PendingCloses}
-use Rattle.ipcz_world.specs.HeldEnds.{IsEndHeld}
-use Rattle.ipcz_world.proofs.lawful.LettingGo.{held_were_held}
+use Rattle.ipcz_world.specs.HeldEnds.{is_turn}
 use Rattle.ipcz_rule.proofs.KeptEnds.{turns_keep}
 use Rattle.ipcz_rule.proofs.FromLaws.{terminal_books, pending_terminal}
 use Rattle.ipcz_rule.proofs.Touching.{touches, touches_turn, set_moves, After, turn_after}
 use Rattle.ipcz_rule.proofs.Adding.{joined_put, joined_got}
+use Rattle.ipcz_rule.proofs.Touching.{call_keeps}
+use Rattle.ipcz_rule.proofs.KeptEnds.{one_keeps}
 
 -- get
 
@@ -90,17 +91,17 @@ get_lawful w b g n at number q lawful inside fine got =
     )
 
 get_ends : (w : World) (b : Books) (g : Routes) (n : ℕ) (at : End) (number : ℕ) (q : parcels.Parcel) → Lawful w b g → n < w.count →
-    get_refusal (node_at w n) at ≡ None → got_at (node_at w n) at ≡ Some (number, q) → KeepsEnds w (set_node w n (get_node (node_at w n) at))
-get_ends w b g n at number q lawful inside fine got i s held =
+    get_refusal (node_at w n) at ≡ None → got_at (node_at w n) at ≡ Some (number, q) → KeepsEnds true w (set_node w n (get_node (node_at w n) at))
+unfolding is_turn
+get_ends w b g n at number q lawful inside fine got =
     let it = get_step w n at in
-    held_were_held w it.world b g (steps.Get n at) it.reply i s lawful (refl, refl)
-    (subst (λ (u : World). IsEndHeld u i s) (sym (ap (λ (e : Effect). e.world) (get_gives w n at number q inside fine got))) held)
+    subst (KeepsEnds true w) (ap (λ (e : Effect). e.world) (get_gives w n at number q inside fine got)) (call_keeps w it.world b g (steps.Get n at) it.reply lawful refl (refl, refl))
 
-pub gets : Gets IsKept
-gets count size slots id i m p at number q is fine got =
+pub gets : (all : Bool) → Gets (IsKept all)
+gets all count size slots id i m p at number q is fine got =
     let p' = get_part at number q p in
     let v' = with_part p' m.0 in
-    touches count size slots id i m p p' v' is refl refl (record { node = refl; hand = get_hand p.state (terminal_of p.state at); message = refl; probed = refl })
+    touches all count size slots id i m p p' v' is refl refl (record { node = refl; hand = get_hand p.state (terminal_of p.state at); message = refl; probed = refl })
     (λ s r seat inside state.
     let w = r.world in
     let b = r.books in
@@ -120,7 +121,7 @@ gets count size slots id i m p at number q is fine got =
       claimed = claimed-set_node w n p'.state;
       joined = joined_got s.views id m.0 v' p p' b at seat is refl r.joined q keeps.none_gone (ap (λ k. p.got ++ ((at, k), q) ∷ []) index) refl refl;
       lawful = subst (λ (y : Node). Lawful (set_node w n (get_node y at)) (add_got b at q) g') state kept.0;
-      known = subst (λ (y : Node). KeepsEnds w (set_node w n (get_node y at))) state (get_ends w b g n at number q r.lawful inside (rw state fine) (rw state got));
+      known = subst (λ (y : Node). KeepsEnds true w (set_node w n (get_node y at))) state (get_ends w b g n at number q r.lawful inside (rw state fine) (rw state got));
     })
 
 -- close
@@ -154,17 +155,17 @@ close_lawful w b g n at lawful inside fine =
     )
 
 close_ends : (w : World) (b : Books) (g : Routes) (n : ℕ) (at : End) → Lawful w b g → n < w.count → close_refusal (node_at w n) at ≡ None →
-    KeepsEnds w (set_node w n (close_node (node_at w n) at))
-close_ends w b g n at lawful inside fine i s held =
+    KeepsEnds true w (set_node w n (close_node (node_at w n) at))
+unfolding is_turn
+close_ends w b g n at lawful inside fine =
     let it = close_step w n at in
-    held_were_held w it.world b g (steps.Close n at) it.reply i s lawful (inl (refl, refl))
-    (subst (λ (u : World). IsEndHeld u i s) (sym (ap (λ (e : Effect). e.world) (close_gives w n at inside fine))) held)
+    subst (KeepsEnds true w) (ap (λ (e : Effect). e.world) (close_gives w n at inside fine)) (call_keeps w it.world b g (steps.Close n at) it.reply lawful refl (inl (refl, refl)))
 
-pub closes : Closes IsKept
-closes count size slots id i m p at is fine =
+pub closes : (all : Bool) → Closes (IsKept all)
+closes all count size slots id i m p at is fine =
     let p' = close_part at p in
     let v' = with_part p' m.0 in
-    touches count size slots id i m p p' v' is refl refl (record { node = refl; hand = close_hand p.state (release_ends p.state (at ∷ [])) (terminal_of (release_ends p.state (at ∷ [])) at) refl; message = refl; probed = refl })
+    touches all count size slots id i m p p' v' is refl refl (record { node = refl; hand = close_hand p.state (release_ends p.state (at ∷ [])) (terminal_of (release_ends p.state (at ∷ [])) at) refl; message = refl; probed = refl })
     (λ s r seat inside state.
     let w = r.world in
     let b = r.books in
@@ -181,7 +182,7 @@ closes count size slots id i m p at is fine =
       claimed = claimed-set_node w n p'.state;
       joined = joined_put s.views id m.0 v' p p' b at seat is refl r.joined Mark (ap (λ k. p.put ++ ((at, k), Mark) ∷ []) kept.1) refl refl;
       lawful = kept.0;
-      known = subst (λ (y : Node). KeepsEnds w (set_node w n (close_node y at))) state (close_ends w b g n at r.lawful inside (rw state fine));
+      known = subst (λ (y : Node). KeepsEnds true w (set_node w n (close_node y at))) state (close_ends w b g n at r.lawful inside (rw state fine));
     })
 
 -- a pending close
@@ -253,6 +254,6 @@ pending_closes_turns count size slots id i m p e is first =
       known = done.1;
     })
 
-pub pending_closes : PendingCloses IsKept
-pending_closes count size slots id i m p e is first s r deep at small =
-    let t = pending_closes_turns count size slots id i m p e is first s r deep at small in (t.0, t.1, t.2, turns_keep count size s _ r ((p.node, node_acts.Close e) ∷ []) t.3, t.4)
+pub pending_closes : (all : Bool) → PendingCloses (IsKept all)
+pending_closes all count size slots id i m p e is first s r deep at small =
+    let t = pending_closes_turns count size slots id i m p e is first s r deep at small in (t.0, t.1, t.2, turns_keep all count size s _ r ((p.node, node_acts.Close e) ∷ []) (λ h. one_keeps r.world p.node (node_acts.Close e) tt) t.3, t.4)

@@ -38,6 +38,9 @@ use Rattle.ipcz_rule.proofs.Joins.{joined_same}
 use Rattle.ipcz_rule.proofs.Touching.{KeepsHands, set_moves, After}
 use Rattle.ipcz_rule.proofs.Acting.{plain_part, act_routes, act_after, act_hand}
 use Rattle.ipcz_rule.proofs.Wording.{sees}
+use Rattle.ipcz_rule.proofs.Touching.{any_kept}
+use Rattle.ipcz_world.proofs.lawful.StayingHeld.{opening_keeps_held}
+use Rattle.ipcz_rule.proofs.KeptEnds.{where_keeps, claim_keeps}
 
 -- the rule after a step on the claim count that leaves n', if the own node is another
 module _ (count size : ℕ) (s : St) (r : Rules count size s) (id : ℕ) (v v' : View) (p p' : Part) (w' : World) (g' : Routes) (n' : ℕ)
@@ -130,9 +133,9 @@ module _ (count size id : ℕ) (m : Mine) (p : Part) (serial : ℕ) (rt : Router
 pub claims_turns : Claims IsTurns
 claims_turns count size slots id c m p serial rt is can small s r deep at low = claimed_word count size id m p serial rt c is can small s r at
 
-pub claims : Claims IsKept
-claims count size slots id c m p serial rt is can below s r deep at small =
-    let t = claims_turns count size slots id c m p serial rt is can below s r deep at small in (t.0, t.1, t.2, turns_keep count size s _ r _ t.3, t.4)
+pub claims : (all : Bool) → Claims (IsKept all)
+claims all count size slots id c m p serial rt is can below s r deep at small =
+    let t = claims_turns count size slots id c m p serial rt is can below s r deep at small in (t.0, t.1, t.2, turns_keep all count size s _ r (turn_where (eqb (slice_index s.words size) c) p.node (OfRouter serial acts.Claim)) (λ e. where_keeps (eqb (slice_index s.words size) c) r.world p.node (OfRouter serial acts.Claim) (claim_keeps serial)) t.3, t.4)
 
 dry_after : (w : World) (n serial : ℕ) (x : Node) (rt : Router) → node_at w n ≡ x → nat_lt w.claimed w.size ≡ false →
     after_router_act w n serial acts.Claim (Some rt) ≡ set_node w n (commit x (OfRouter serial acts.Claim) answers.NoWord)
@@ -184,9 +187,9 @@ module _ (count size id : ℕ) (m : Mine) (p : Part) (serial : ℕ) (rt : Router
 pub loads_for_claim_turns : LoadsForClaim IsTurns
 loads_for_claim_turns count size slots id m p serial rt is can s r deep at small = dry_found count size id m p serial rt is can s r at
 
-pub loads_for_claim : LoadsForClaim IsKept
-loads_for_claim count size slots id m p serial rt is can s r deep at small =
-    let t = loads_for_claim_turns count size slots id m p serial rt is can s r deep at small in (t.0, t.1, t.2, turns_keep count size s _ r _ t.3, t.4)
+pub loads_for_claim : (all : Bool) → LoadsForClaim (IsKept all)
+loads_for_claim all count size slots id m p serial rt is can s r deep at small =
+    let t = loads_for_claim_turns count size slots id m p serial rt is can s r deep at small in (t.0, t.1, t.2, turns_keep all count size s _ r (turn_where (eqb (slice_index s.words size) size) p.node (OfRouter serial acts.Claim)) (λ e. where_keeps (eqb (slice_index s.words size) size) r.world p.node (OfRouter serial acts.Claim) (claim_keeps serial)) t.3, t.4)
 
 half_moves : (w : World) (c n : ℕ) (x : Node) → NodeMoves w (set_claimed (set_node w n x) c) n x
 half_moves w c n x = record {
@@ -207,7 +210,7 @@ module _ (count size id : ℕ) (m : Mine) (p : Part) (c : ℕ) (is : m.0.parts �
   HalfTold b m' = MatchBool b (m' ≡ (with_part (claimed_part c p) (saw size count_found m.0), m.1)) (m' ≡ (saw size count_found m.0, m.1))
 
   abbrev Half : Bool → Type 0
-  Half b = (v : View) × (a : TableAct Slot) × Valid s.homes m.1 a × ((r' : Rules count size (stepped s size (either b (c + 1) count_found) id m.1 v a)) × KeepsEnds r.world r'.world) × HalfTold b (v, carried_after m.1 a)
+  Half b = (v : View) × (a : TableAct Slot) × Valid s.homes m.1 a × ((r' : Rules count size (stepped s size (either b (c + 1) count_found) id m.1 v a)) × KeepsEnds true r.world r'.world) × HalfTold b (v, carried_after m.1 a)
 
   half_by : (b : Bool) → eqb count_found c ≡ b → Half b
   half_by true e =
@@ -220,24 +223,32 @@ module _ (count size id : ℕ) (m : Mine) (p : Part) (c : ℕ) (is : m.0.parts �
       let w' = set_claimed (set_node w p.node p'.state) (c + 1) in
       let lawful : Lawful w' r.books r.routes = subst (λ (k : ℕ). Lawful (set_claimed (set_node w p.node (record p.state { opening = Some k })) (k + 1)) r.books r.routes) found
       (subst (λ (y : Node). Lawful (set_claimed (set_node w p.node (record y { opening = Some w.claimed })) (w.claimed + 1)) r.books r.routes) sp.state kept) in
-      let ends : KeepsEnds w w' = subst (λ (k : ℕ). KeepsEnds w (set_claimed (set_node w p.node (record p.state { opening = Some k })) (k + 1))) found
-      (subst (λ (y : Node). KeepsEnds w (set_claimed (set_node w p.node (record y { opening = Some w.claimed })) (w.claimed + 1))) sp.state
-      (λ k side held. held_for_open_were_held w r.books r.routes p.node k side r.lawful sp.inside held)) in
+      let ends : KeepsEnds true w w' = subst (λ (k : ℕ). KeepsEnds true w (set_claimed (set_node w p.node (record p.state { opening = Some k })) (k + 1))) found
+      (subst (λ (y : Node). KeepsEnds true w (set_claimed (set_node w p.node (record y { opening = Some w.claimed })) (w.claimed + 1))) sp.state (
+        (λ k side held. held_for_open_were_held w r.books r.routes p.node k side r.lawful sp.inside held),
+        (λ e k side held. opening_keeps_held w r.books r.routes p.node k side r.lawful (ap (λ y. y.opening) sp.state ∙ idle) held),
+      )) in
       let v' = with_part p' (saw size count_found m.0) in (
         v',
         keeps,
         tt,
         claim_rules count size s r id m.0 v' p p' w' r.routes (c + 1) at is refl (inr (size, refl)) (half_moves w (c + 1) p.node p'.state)
             (λ j. word-set_claimed (set_node w p.node p'.state) (c + 1) j ∙ word-set_node w p.node p'.state j) (sym (claimed-set_claimed (set_node w p.node p'.state) (c + 1))) (omega (arith, found))
-            (record { node = refl; hand = refl; message = refl; probed = refl }) refl refl refl lawful (λ u b g. KeepsEnds w u) ends,
+            (record { node = refl; hand = refl; message = refl; probed = refl }) refl refl refl lawful (λ u b g. KeepsEnds true w u) ends,
         refl,
       )
   half_by false e =
       let f = sees s r size id m.0 (saw size count_found m.0) p at is is (inr (size, refl)) in
-      (saw size count_found m.0, keeps, tt, (f.0, (λ k side held. inl (subst (λ (u : World). IsEndHeld u k side) f.1.0 held))), refl)
+      (saw size count_found m.0, keeps, tt, (f.0, ((λ k side held. inl (subst (λ (u : World). IsEndHeld u k side) f.1.0 held)), (λ h k side held. subst (λ (u : World). IsEndHeld u k side) (sym f.1.0) held))), refl)
 
   pub half_claimed : Half (eqb count_found c)
   half_claimed = half_by (eqb count_found c) refl
 
-pub claims_for_open : ClaimsForOpen IsKept
-claims_for_open count size slots id c m p is idle small s r deep at low = half_claimed count size id m p c is idle small s r at
+claims_for_open_all : ClaimsForOpen (IsKept true)
+claims_for_open_all count size slots id c m p is idle small s r deep at low = half_claimed count size id m p c is idle small s r at
+
+pub claims_for_open : (all : Bool) → ClaimsForOpen (IsKept all)
+claims_for_open all count size slots id c m p is idle small =
+    any_kept all count size slots id m size (λ n. either (eqb n c) (c + 1) n) (λ n. [])
+    (λ n m'. MatchBool (eqb n c) (m' ≡ (with_part (claimed_part c p) (saw size n m.0), m.1)) (m' ≡ (saw size n m.0, m.1)))
+    (claims_for_open_all count size slots id c m p is idle small)

@@ -26,12 +26,15 @@ use Rattle.ipcz_world.proofs.Whole.{terminals_keep_books}
 use Rattle.ipcz_rule.specs.declared.view.Part.{Part}
 use Rattle.ipcz_rule.specs.Rule.{Mine, with_part, with_state}
 use Rattle.ipcz_rule.specs.Steps.{CanAct, act_part, add_gone_entry}
-use Rattle.ipcz_rule.specs.Kinds.{IsKept, IsTurns, Touches}
+use Rattle.ipcz_rule.specs.Kinds.{IsTurns, Touches}
 use Rattle.ipcz_rule.proofs.KeptEnds.{turns_keep}
 use Rattle.ipcz_rule.proofs.Touching.{touches_turn, set_moves, After, turn_after}
 use Rattle.ipcz_rule.proofs.Acting.{is_unwritten, plain_part, acts_touch, act_routes, act_hand, here_at, possible, lacks, after_is}
 use Rattle.ipcz_rule.proofs.Adding.{joined_gone}
 use Rattle.ipcz_rule.proofs.Retiring.{both_first, either_false, retires, retired_part_is}
+use Rattle.ipcz_rule.proofs.KeptEnds.{gives_none}
+use Rattle.ipcz_rule.specs.Kinds.{TouchesKept}
+use Rattle.ipcz_rule.proofs.Moved.{spelled}
 
 link_plain : (w : World) (r : Router) (i : Option ℕ) → link_answer w r.end.side (source_of r) acts.Discard i ≡ answers.Plain
 unfolding link_answer word_answer
@@ -134,6 +137,14 @@ touches_acts_turns count size slots id i m p serial rt act is can e = elim (writ
   | inr (inr same) ↦ subst (Acted count size slots id i m p serial) (sym same) (retire_acts count size slots id i m p serial rt is (subst (CanAct p.state serial rt) same can))
 ]
 
-pub touches_acts : Touches IsKept
-touches_acts count size slots id i m p serial rt act is can e s r deep at small =
-    let t = touches_acts_turns count size slots id i m p serial rt act is can e s r deep at small in (t.0, t.1, t.2, turns_keep count size s _ r ((p.node, OfRouter serial act) ∷ []) t.3, t.4)
+-- and they let no end go if they give none up
+pub touches_acts : TouchesKept
+touches_acts all count size slots id i m p serial rt act is can e none s r deep at small =
+    let t = touches_acts_turns count size slots id i m p serial rt act is can e s r deep at small in
+    let sp = spelled s r id m.0 p at is in (
+      t.0,
+      t.1,
+      t.2,
+      turns_keep all count size s _ r ((p.node, OfRouter serial act) ∷ []) (λ h. gives_none r.world r.books r.routes p.node (OfRouter serial act) p.state r.lawful sp.state t.3.1.0.may (none h)) t.3,
+      t.4,
+    )

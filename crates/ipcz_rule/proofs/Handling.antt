@@ -34,6 +34,7 @@ use Rattle.ipcz_rule.proofs.Moved.{spelled}
 use Rattle.ipcz_rule.proofs.Touching.{After, turn_after}
 use Rattle.ipcz_rule.proofs.Mailing.{way_low, way_second, mail_moves, mail_rules}
 use Rattle.ipcz_rule.proofs.Posting.{in_hand, at_two, hand_after, hand_written, hand_can, hand_lacks, turn_routes, three_stays}
+use Rattle.ipcz_rule.proofs.KeptEnds.{one_keeps}
 
 on_found_hand : (n : Node) (f : Option Found) (change : ℕ → Router → Node) → ((s : ℕ) (r : Router) → (change s r).hand ≡ n.hand) → (on_found n f change).hand ≡ n.hand
 unfolding on_found
@@ -120,6 +121,6 @@ hands_turns count size slots id i k from m p x rest is at_k at_i holds has seria
     let G : List (ℕ × Slot) → Type 0 = λ held. (v : View) × (a : TableAct Slot) × Valid s.homes held a × Follows count size s r ((n, node_acts.Hand from) ∷ []) (stepped s i 0 id held v a) × Told (v, carried_after held a) in
     subst G (sym slot) (with_part p' m.0, gives, tt, rules, refl)
 
-pub hands : Hands IsKept
-hands count size slots id i k from m p x rest is at_k at_i holds has serials slot s r deep at small =
-    let t = hands_turns count size slots id i k from m p x rest is at_k at_i holds has serials slot s r deep at small in (t.0, t.1, t.2, turns_keep count size s _ r ((p.node, node_acts.Hand from) ∷ []) t.3, t.4)
+pub hands : (all : Bool) → Hands (IsKept all)
+hands all count size slots id i k from m p x rest is at_k at_i holds has serials slot s r deep at small =
+    let t = hands_turns count size slots id i k from m p x rest is at_k at_i holds has serials slot s r deep at small in (t.0, t.1, t.2, turns_keep all count size s _ r ((p.node, node_acts.Hand from) ∷ []) (λ e. one_keeps r.world p.node (node_acts.Hand from) tt) t.3, t.4)

@@ -1,7 +1,9 @@
 -- All kinds of step that a turn takes, on a table whose link words come back, by the laws of worlds and the rule's own kinds.
 use Rattle.std.specs.Prelude.{◌≡◌, ℕ, Bool, List, [], refl}
-use Rattle.ipcz_world.proofs.Whole.{each_step_keeps_lawful, lawful_worlds_stray_nothing}
-use Rattle.ipcz_world.proofs.lawful.LastingTurns.{turns_held_were_held}
+use Rattle.ipcz_world.proofs.Whole.{each_step_keeps_lawful, messages_in_hand_fit, lawful_worlds_stray_nothing}
+use Rattle.ipcz_world.proofs.lawful.GivingUp.{let_go_are_given_up, claimed_are_held}
+use Rattle.ipcz_world.proofs.lawful.LastingTurns.{turns_held_were_held, turns_keep_held}
+use Rattle.ipcz_world.proofs.lawful.StayingHeld.{held_until_let_go}
 use Rattle.ipcz_world.proofs.lawful.LettingGo.{lost_are_not_held, let_go_are_not_held, accepted_are_held}
 use Rattle.ipcz_world.proofs.runs.PassingOver.{passing_keeps_lawful}
 use Rattle.ipcz_rule.specs.Kinds.{Loads}
@@ -23,15 +25,18 @@ use Rattle.ipcz_rule.proofs.LastsClaims.{claims_last}
 pub ends : EndLaws
 ends = record {
   kept = turns_held_were_held each_step_keeps_lawful;
+  stay = turns_keep_held each_step_keeps_lawful (held_until_let_go messages_in_hand_fit);
   lost = lost_are_not_held;
   let_go = let_go_are_not_held;
+  given_up = let_go_are_given_up;
+  claimed = claimed_are_held;
   accepted = accepted_are_held;
   words = links_are_words;
 }
 
 loads_last : (k : ℕ) (reuses : Bool) (dirty free : List ℕ) → Loads (Behind k reuses dirty free)
 loads_last k reuses dirty free count limit slots id i m p is =
-    behind ends k reuses dirty free count limit slots id m i (λ n. n) (λ n. []) (λ n m'. m' ≡ (saw i n m.0, m.1)) (λ e n. refl) (loads_turns count limit slots id i m p is)
+    behind ends k reuses dirty free count limit slots id m i (λ n. n) (λ n. []) (λ n m'. m' ≡ (saw i n m.0, m.1)) (λ again t r t' r' at n g j s h. h) (λ e n. refl) (loads_turns count limit slots id i m p is)
 
 pub turns_last : TurnsLast
 turns_last = (

@@ -13,7 +13,7 @@ use Rattle.ipcz_rule.specs.declared.view.View.{View}
 use Rattle.ipcz_rule.specs.declared.view.Part.{Part}
 use Rattle.ipcz_rule.specs.Rule.{Mine, with_part, saw}
 use Rattle.ipcz_rule.specs.Steps.{put_part, get_part, close_part, open_part}
-use Rattle.ipcz_slots.specs.SlotKinds.{Keeps, Lives, HasSlot}
+use Rattle.ipcz_slots.specs.SlotKinds.{Keeps, LosesNone, Lives, HasSlot}
 use Rattle.ipcz_rule.specs.Lasting.{virtual, sizes, side_of, own_of}
 use Rattle.ipcz_rule.specs.Kinds.{IsKept}
 use Rattle.ipcz_rule.specs.LastingCalls.{CallBehind, CallOnSlot, keeping, CallsLast, OpensLast}
@@ -24,33 +24,37 @@ use Rattle.ipcz_rule.proofs.Opening.{opens}
 use Rattle.ipcz_rule.proofs.Lasts.{count_is, laws_of, lives_by}
 use Rattle.ipcz_rule.proofs.LastsAll.{ends}
 
-pub ends_kept : (count limit k : ℕ) (reuses : Bool) → Keeps (virtual count limit) (sizes count limit k reuses) (keeping count limit)
-ends_kept count limit k reuses t r t' r' g b i l gone held = ⊎_elim gone (λ far. let e = count_is count limit t r in omega (arith, e, far, l)) (g i (side_of b) held)
+pub ends_kept : (count limit k : ℕ) (reuses : Bool) → Keeps (virtual count limit) (sizes count limit k reuses) (keeping reuses count limit)
+ends_kept count limit k reuses t r t' r' g b i l gone held = ⊎_elim gone (λ far. let e = count_is count limit t r in omega (arith, e, far, l)) (g.0 i (side_of b) held)
+
+-- and where slots are used again they keep each end that is held
+pub ends_held : (count limit k : ℕ) (reuses : Bool) (id : ℕ) (v : View) → LosesNone (virtual count limit) (sizes count limit k reuses) id v (keeping reuses count limit)
+ends_held count limit k reuses id v again t r t' r' at g b i l gone held = gone (g.1 again i (side_of b) held)
 
 -- a step behind the link words which leaves the claim count
 pub behind_kept : (k : ℕ) (reuses : Bool) (dirty free : List ℕ) (count limit slots id : ℕ) (m : Mine) (i : ℕ) (f : ℕ → ℕ) (turns : ℕ → List (ℕ × Act)) (told : ℕ → Mine → Type 0) →
-    (i ≡ limit → (n : ℕ) → f n ≡ n) → IsKept count limit slots id m i f turns told → CallBehind k reuses dirty free count limit slots id m i f turns told
+    (i ≡ limit → (n : ℕ) → f n ≡ n) → IsKept reuses count limit slots id m i f turns told → CallBehind k reuses dirty free count limit slots id m i f turns told
 behind_kept k reuses dirty free count limit slots id m i f turns told leaves steps areas j e inside =
     let x = virtual count limit in
     let z = sizes count limit k reuses in
-    other_steps x z (laws_of ends count limit k reuses) areas (keeping count limit) slots id (own_of m.0 dirty free) m.1 j f told
-    (ends_kept count limit k reuses) inside (λ n h. leaves (omega (arith, e, h)) n) (subst (λ (q : ℕ). IsKept count limit slots id m q f turns told) e steps)
+    other_steps x z (laws_of ends count limit k reuses) areas (keeping reuses count limit) slots id (own_of m.0 dirty free) m.1 j f told
+    (ends_kept count limit k reuses) (ends_held count limit k reuses id m.0) inside (λ n h. leaves (omega (arith, e, h)) n) (subst (λ (q : ℕ). IsKept reuses count limit slots id m q f turns told) e steps)
 
 -- a step on the word of a number that has a slot
 pub slot_kept : (k : ℕ) (reuses : Bool) (dirty free : List ℕ) (count limit slots id : ℕ) (m : Mine) (i : ℕ) (f : ℕ → ℕ) (turns : ℕ → List (ℕ × Act)) (told : ℕ → Mine → Type 0) →
-    HasSlot (virtual count limit) (sizes count limit k reuses) id m.0 i → IsKept count limit slots id m i f turns told → CallOnSlot k reuses dirty free count limit slots id m i f turns told
+    HasSlot (virtual count limit) (sizes count limit k reuses) id m.0 i → IsKept reuses count limit slots id m i f turns told → CallOnSlot k reuses dirty free count limit slots id m i f turns told
 slot_kept k reuses dirty free count limit slots id m i f turns told has steps areas =
-    link_steps (virtual count limit) (sizes count limit k reuses) (laws_of ends count limit k reuses) areas (keeping count limit) slots id (own_of m.0 dirty free) m.1 i f told
-    (ends_kept count limit k reuses) has steps
+    link_steps (virtual count limit) (sizes count limit k reuses) (laws_of ends count limit k reuses) areas (keeping reuses count limit) slots id (own_of m.0 dirty free) m.1 i f told
+    (ends_kept count limit k reuses) (ends_held count limit k reuses id m.0) has steps
 
 pub calls_last : CallsLast
 calls_last k reuses dirty free = (
   (λ profile count limit slots id i m p at bytes ends is fine. behind_kept k reuses dirty free count limit slots id m i (λ n. n) (λ n. []) (λ n m'. m' ≡ (with_part (put_part at bytes ends p) m.0, m.1)) (λ e n. refl)
-      (puts profile count limit slots id i m p at bytes ends is fine)),
+      (puts reuses profile count limit slots id i m p at bytes ends is fine)),
   (λ count limit slots id i m p at number q is fine got. behind_kept k reuses dirty free count limit slots id m i (λ n. n) (λ n. []) (λ n m'. m' ≡ (with_part (get_part at number q p) m.0, m.1)) (λ e n. refl)
-      (gets count limit slots id i m p at number q is fine got)),
+      (gets reuses count limit slots id i m p at number q is fine got)),
   (λ count limit slots id i m p at is fine. behind_kept k reuses dirty free count limit slots id m i (λ n. n) (λ n. []) (λ n m'. m' ≡ (with_part (close_part at p) m.0, m.1)) (λ e n. refl)
-      (closes count limit slots id i m p at is fine)),
+      (closes reuses count limit slots id i m p at is fine)),
 )
 
 -- the word of an open under way lives
@@ -63,4 +67,4 @@ pub opens_last : OpensLast
 opens_last k reuses dirty free count limit slots id i m p is opening fine =
     slot_kept k reuses dirty free count limit slots id m i (λ n. either (eqb n 0) (bits_of open_word) n) (λ n. [])
     (λ n m'. (n ≡ 0) × (m' ≡ (with_part (open_part i p) (saw i n m.0), m.1))) (inl (opening_lives count limit k reuses id i m.0 p is opening))
-    (opens count limit slots id i m p is opening fine)
+    (opens reuses count limit slots id i m p is opening fine)

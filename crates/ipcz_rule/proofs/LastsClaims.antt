@@ -15,7 +15,7 @@ use Rattle.ipcz_router.specs.declared.act.RouterAct.TheVariants as router_acts
 use Rattle.ipcz_router.specs.declared.act.Answer.TheVariants as answers
 use Rattle.ipcz_node.specs.declared.act.Act.{Act}
 use Rattle.ipcz_node.specs.declared.act.Act.TheVariants as acts
-use Rattle.ipcz_world.specs.World.{World, node_at, word_at, mail_at, router_at, set_claimed, way}
+use Rattle.ipcz_world.specs.World.{World, node_at, word_at, mail_at, router_at, set_claimed, way, has_unclaimed_word}
 use Rattle.ipcz_world.specs.Routes.{hand_of}
 use Rattle.ipcz_world.specs.Ranks.{AreTurns}
 use Rattle.ipcz_world.specs.Lawful.{Lawful}
@@ -27,10 +27,11 @@ use Rattle.ipcz_rule.specs.Rule.{Slot, St, Mine, mailbox, MailAt, Rules, Spells,
 use Rattle.ipcz_world.specs.declared.mail.Mail.{Mail}
 use Rattle.ipcz_rule.specs.Steps.{CanAct, act_part}
 use Rattle.ipcz_rule.specs.Kinds.{IsTurns, Follows, Loads, Claims, turn_where}
-use Rattle.ipcz_slots.specs.SlotKinds.{Known, Steps, Keeps, Skips}
+use Rattle.ipcz_slots.specs.SlotKinds.{Known, Steps, Keeps, LosesNone, Skips, Takes}
 use Rattle.ipcz_rule.specs.Lasting.{EndLaws, virtual, sizes, side_of, turns_of, own_of}
 use Rattle.ipcz_rule.specs.LastingClaims.{passing_turns, ClaimsOnSlots, ClaimsInTheirOrder, ClaimsLast}
-use Rattle.ipcz_rule.proofs.Lasts.{are_sizes, count_is, laws_of, kept_by, held_claimed}
+use Rattle.ipcz_rule.proofs.Lasts.{are_sizes, count_is, laws_of, kept_by, loses_none, held_claimed}
+use Rattle.ipcz_rule.proofs.KeptEnds.{one_keeps, claim_keeps}
 use Rattle.ipcz_slots.proofs.Reusing.{claims}
 use Rattle.ipcz_slots.proofs.Ordered.{claims_in_order}
 
@@ -70,6 +71,17 @@ held_same w c i s (ByRouter k r here holds) = ByRouter k r here holds
 held_same w c i s (ByOpen n e) = ByOpen n e
 held_same w c i s (ByOutbox from to place m there holds) = ByOutbox from to place m there holds
 held_same w c i s (ByMailbox k place m there holds) = ByMailbox k place m there holds
+
+pub held_then : (w : World) (c i : ℕ) (s : Side) → IsEndHeld w i s → IsEndHeld (set_claimed w c) i s
+unfolding node_at mail_at router_at set_claimed
+held_then w c i s (ByRouter k r here holds) = ByRouter k r here holds
+held_then w c i s (ByOpen n e) = ByOpen n e
+held_then w c i s (ByOutbox from to place m there holds) = ByOutbox from to place m there holds
+held_then w c i s (ByMailbox k place m there holds) = ByMailbox k place m there holds
+
+unclaimed_left : (w : World) (c : ℕ) → c < w.size → has_unclaimed_word (set_claimed w c) ≡ true
+unfolding set_claimed
+unclaimed_left w c l = grind (arith, nat_tests, l)
 
 -- the table whose count has passed over so many numbers
 module _ (ends : EndLaws) (passing : PassingKeepsLawful) (strays : LawfulStraysNothing) (count limit : ℕ) (t : St) (r : Rules count limit t) (skip : ℕ) (most : r.world.claimed + skip ≤ limit) where
@@ -211,6 +223,22 @@ module _ (ends : EndLaws) (passing : PassingKeepsLawful) (count limit k c skip :
       (λ beyond. omega (arith, beyond, under))
       (was3 t r t' r' g i (side_of b) held)
 
+  -- who is held stays so
+  pub passes_loses : (id : ℕ) (v : View) → LosesNone (virtual count limit) (sizes count limit k true) id v g3
+  passes_loses id v again t r t' r' at g b i l gone held =
+      let most : r.world.claimed + skip ≤ r.world.size = let z = r.words in let e = g.0 in let l = g.1 in omega (arith, z, e, l) in
+      ⊎_elim gone (λ lets. one_keeps (passed_over r.world skip) p.node (acts.Router serial router_acts.Claim) (claim_keeps serial) i (side_of b) lets)
+      (ends.stay (passed_over r.world skip) r'.world r.books r'.books (lose_words r.routes r.world.claimed skip) r'.routes ((p.node, acts.Router serial router_acts.Claim) ∷ []) i (side_of b)
+      (passing r.world r.books r.routes skip r.lawful most) g.2 (held_then r.world (r.world.claimed + skip) i (side_of b) held))
+
+  -- and both ends of the number that is claimed are held
+  pub passes_takes : (id : ℕ) (v : View) → c + skip < limit → Takes (virtual count limit) id v g3 (c + skip)
+  passes_takes id v small t r t' r' at g b gone =
+      let room : has_unclaimed_word (passed_over r.world skip) ≡ true = unclaimed_left r.world (r.world.claimed + skip) (let z = r.words in let e = g.0 in omega (arith, z, e, small)) in
+      let held = ends.claimed.router (passed_over r.world skip) p.node serial (side_of b) g.2.0.may room in
+      gone (subst (λ (n : ℕ). IsEndHeld r'.world n (side_of b)) (claimed_same r.world (r.world.claimed + skip) ∙ (let e = g.0 in omega (arith, e)))
+      (subst (λ (u : World). IsEndHeld u (passed_over r.world skip).claimed (side_of b)) (sym g.2.1.0) held))
+
 claims_beyond : EndLaws → PassingKeepsLawful → LawfulStraysNothing → Loads IsTurns → Claims IsTurns → ClaimsOnSlots
 claims_beyond ends passing strays loads old k dirty free one count limit slots id c skip m p serial rt is can small tiny has =
     let x = virtual count limit in
@@ -223,7 +251,9 @@ claims_beyond ends passing strays loads old k dirty free one count limit slots i
     let P : ℕ → Type 0 = λ q. Steps x (λ t r t' r'. MatchBool (eqb (slice_index t.words limit) c) (g t r t' r') (h t r t' r')) slots id m q (λ j. either (eqb j c) (n + 1) j) (λ j m'. MatchBool (eqb j c) (hit m') (miss j m')) in
     let steps : P limit = λ t r deep at fits. claimed_beyond ends passing strays loads old count limit slots id c skip m p serial rt is can small t r deep at fits tiny in
     claims x z (laws_of ends count limit k true) (are_sizes count limit k one) g h slots id c n (own_of m.0 dirty free) m.1 hit miss
-    (passes_kept ends passing count limit k c skip p serial) (passes_skipped ends passing count limit k c skip p serial) (kept_by ends count limit k true limit (λ j. [])) (omega arith) small has (subst P (omega arith) steps)
+    (passes_kept ends passing count limit k c skip p serial) (passes_loses ends passing count limit k c skip p serial id m.0) (passes_skipped ends passing count limit k c skip p serial)
+    (passes_takes ends passing count limit k c skip p serial id m.0 small) (kept_by ends count limit k true limit (λ j. []))
+    (loses_none ends count limit k true id limit m.0 (λ j. []) (λ again t r t' r' at g j s h. h)) (omega arith) small has (subst P (omega arith) steps)
 
 -- where slots aren't used again a claim is the rule's own
 claims_in_their_order : EndLaws → Claims IsTurns → ClaimsInTheirOrder

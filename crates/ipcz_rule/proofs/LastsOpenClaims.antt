@@ -1,19 +1,22 @@
 -- A claim for an open on a table whose link words come back: the numbers before it are passed over. (As LastsClaims.)
 use Rattle.std.specs.Prelude.{◌≡◌, ◌≤◌, ◌<◌, ◌⊎◌, ◌+◌, ℕ, eqb, Bool, true, false, List, [], ◌∷◌, length, slice_index, None, refl, MatchBool}
-use Rattle.std.proofs.Common.{arith, ◌∙◌, sym, subst, inl, inr, ⊎_elim, get_or-set_same, eqb-true}
+use Rattle.std.proofs.Common.{arith, ap, set, ◌∙◌, sym, subst, inl, inr, ⊎_elim, get_or-set_same, eqb-true}
 use prog.Atomic.{either}
 use mathlib.Core.Option.{some}
 use lib.ListN.{get_elem?}
+use Rattle.atomic_table.proofs.Lists.{set_here}
+use Rattle.ipcz_slots.proofs.Folding.{at_inside}
 use Rattle.atomic_table.specs.Table.{Act as TableAct, Valid, stepped, carried_after}
 use Rattle.ipcz_base.specs.declared.side.Side.{Side}
 use Rattle.ipcz_world.specs.World.{World, set_claimed}
 use Rattle.ipcz_world.specs.WorldLaws.{LawfulStraysNothing}
-use Rattle.ipcz_world.specs.HeldEnds.{IsEndHeld, PassingKeepsLawful, passed_over}
+use Rattle.ipcz_node.specs.Node.{Node}
+use Rattle.ipcz_world.specs.HeldEnds.{IsEndHeld, ByOpen, PassingKeepsLawful, passed_over}
 use Rattle.ipcz_rule.specs.declared.view.View.{View}
 use Rattle.ipcz_rule.specs.declared.view.Part.{Part}
 use Rattle.ipcz_rule.specs.Rule.{Slot, St, Mine, Rules, with_part, saw}
 use Rattle.ipcz_rule.specs.Kinds.{IsTurns, IsKept, KeepsEnds, ClaimsForOpen, Loads}
-use Rattle.ipcz_slots.specs.SlotKinds.{Known, Steps, Keeps, Skips}
+use Rattle.ipcz_slots.specs.SlotKinds.{Known, Steps, Keeps, LosesNone, Skips, Takes}
 use Rattle.ipcz_rule.specs.Lasting.{EndLaws, virtual, sizes, side_of, own_of}
 use Rattle.ipcz_rule.proofs.Lasts.{are_sizes, count_is, laws_of, held_claimed}
 use Rattle.ipcz_slots.proofs.Reusing.{claims}
@@ -24,12 +27,19 @@ use Rattle.ipcz_rule.specs.Steps.{claimed_part}
 use Rattle.ipcz_rule.specs.LastingCalls.{passing_keeping, keeping, ClaimsForOpenLast, ClaimsForOpenInOrder}
 use Rattle.ipcz_rule.proofs.WordKinds.{loads_turns}
 use Rattle.ipcz_rule.proofs.LastsAll.{ends}
-use Rattle.ipcz_rule.proofs.LastsCalls.{ends_kept}
+use Rattle.ipcz_rule.proofs.LastsCalls.{ends_kept, ends_held}
 use Rattle.ipcz_rule.proofs.Claiming.{claims_for_open}
-use Rattle.ipcz_rule.proofs.LastsClaims.{held_same, claimed_same, t1, passed_rules, passed_world, wide1, set_over, eqb_self}
+use Rattle.ipcz_rule.proofs.LastsClaims.{held_same, held_then, claimed_same, t1, passed_rules, passed_world, wide1, set_over, eqb_self}
+
+-- the word of an open under way is held
+opening_held : (count limit id : ℕ) (m : Mine) (p : Part) (k : ℕ) (v : View) → v ≡ with_part (claimed_part k p) (saw limit k m.0) → (t : St) (r : Rules count limit t) → get_elem? t.views id ≡ some v →
+    (s : Side) → IsEndHeld r.world k s
+opening_held count limit id m p k v is t r at s =
+    let sp = (r.shows.parts id v 0 (claimed_part k p) at (ap (λ (q : View). get_elem? q.parts 0) is)).1 in
+    ByOpen p.node (ap (λ (y : Node). y.opening) sp.state)
 
 -- a claim of a number beyond the count, on the virtual table
-module _ (ends : EndLaws) (passing : PassingKeepsLawful) (strays : LawfulStraysNothing) (loads : Loads IsTurns) (old : ClaimsForOpen IsKept)
+module _ (ends : EndLaws) (passing : PassingKeepsLawful) (strays : LawfulStraysNothing) (loads : Loads IsTurns) (old : ClaimsForOpen (IsKept true))
     (count limit slots id c skip : ℕ) (m : Mine) (p : Part) (is : m.0.parts ≡ p ∷ []) (idle : p.state.opening ≡ None) (small : c + skip < limit)
     (t : St) (r : Rules count limit t) (deep : length t.homes ≡ slots) (at : get_elem? t.views id ≡ some m.0) (fits : slice_index t.words limit < 18446744073709551616) (tiny : limit < 18446744073709551616) where
   abbrev n2 : ℕ
@@ -43,7 +53,7 @@ module _ (ends : EndLaws) (passing : PassingKeepsLawful) (strays : LawfulStraysN
   Res2 b = (v : View) × (a : TableAct Slot) × Valid t.homes m.1 a ×
       ((r' : Rules count limit (stepped t limit (either b (c + skip + 1) n2) id m.1 v a)) ×
       MatchBool b (passing_keeping count limit c skip t r (stepped t limit (either b (c + skip + 1) n2) id m.1 v a) r')
-      (keeping count limit t r (stepped t limit (either b (c + skip + 1) n2) id m.1 v a) r')) ×
+      (keeping true count limit t r (stepped t limit (either b (c + skip + 1) n2) id m.1 v a) r')) ×
       MatchBool b (◌≡◌ {A = Mine} (v, carried_after m.1 a) left2) (◌≡◌ {A = Mine} (v, carried_after m.1 a) (saw limit n2 m.0, m.1))
 
   by2 : (b : Bool) → eqb n2 c ≡ b → Res2 b
@@ -57,17 +67,32 @@ module _ (ends : EndLaws) (passing : PassingKeepsLawful) (strays : LawfulStraysN
       let same : r.world.claimed + skip ≡ k = omega (arith, found) in
       let here : slice_index t'.words limit ≡ k = get_or-set_same t.words limit (r.world.claimed + skip) 0 (wide1 ends passing strays count limit t r skip most) ∙ same in
       let Raw : ℕ → Bool → Type 0 = λ j b. (v : View) × (a : TableAct Slot) × Valid t.homes m.1 a ×
-      ((r' : Rules count limit (stepped t' limit (either b (k + 1) j) id m.1 v a)) × KeepsEnds r1.world r'.world) ×
+      ((r' : Rules count limit (stepped t' limit (either b (k + 1) j) id m.1 v a)) × KeepsEnds true r1.world r'.world) ×
       MatchBool b (◌≡◌ {A = Mine} (v, carried_after m.1 a) (with_part (claimed_part k p) (saw limit j m.0), m.1)) (◌≡◌ {A = Mine} (v, carried_after m.1 a) (saw limit j m.0, m.1)) in
       let raw : Raw (slice_index t'.words limit) (eqb (slice_index t'.words limit) k) = old count limit slots id k m p is idle small t' r1 deep at (subst (λ (q : ℕ). q < 18446744073709551616) (sym here) (omega (arith, small, tiny))) in
       let done : Raw k true = subst (λ (b : Bool). Raw k b) (eqb_self k) (subst (λ (j : ℕ). Raw j (eqb j k)) here raw) in
       let Out : List ℕ → Type 0 = λ ws. (r' : Rules count limit (record { words = ws; homes = (stepped t' limit (k + 1) id m.1 done.0 done.1).homes; views = (stepped t' limit (k + 1) id m.1 done.0 done.1).views })) ×
-      KeepsEnds (passed_over r.world skip) r'.world in
-      let out = subst Out (set_over t.words limit (r.world.claimed + skip) (k + 1)) (done.3.0, subst (λ (u : World). KeepsEnds u done.3.0.world) (passed_world ends passing strays count limit t r skip most) done.3.1) in
-      (done.0, done.1, done.2, (out.0, (found, omega (arith, small), out.1)), done.4)
+      KeepsEnds true (passed_over r.world skip) r'.world in
+      let out = subst Out (set_over t.words limit (r.world.claimed + skip) (k + 1)) (done.3.0, subst (λ (u : World). KeepsEnds true u done.3.0.world) (passed_world ends passing strays count limit t r skip most) done.3.1) in (
+        done.0,
+        done.1,
+        done.2,
+        (
+          out.0,
+          (
+            found,
+            omega (arith, small),
+            out.1,
+            (λ side. opening_held count limit id m p k done.0 (ap (λ (q : Mine). q.0) done.4)
+                (record { words = set t.words limit (k + 1); homes = (stepped t' limit (k + 1) id m.1 done.0 done.1).homes; views = (stepped t' limit (k + 1) id m.1 done.0 done.1).views }) out.0
+                (set_here t.views id done.0 (at_inside t.views id m.0 at)) side),
+          ),
+        ),
+        done.4,
+      )
   by2 false e =
       let f = loads count limit slots id limit m p is t r deep at fits in
-      (f.0, f.1, f.2, (f.3.0, (λ q side held. inl (subst (λ (u : World). IsEndHeld u q side) f.3.1.0 held))), f.4)
+      (f.0, f.1, f.2, (f.3.0, ((λ q side held. inl (subst (λ (u : World). IsEndHeld u q side) f.3.1.0 held)), (λ h q side held. subst (λ (u : World). IsEndHeld u q side) (sym f.3.1.0) held))), f.4)
 
   pub claimed_beyond : Res2 (eqb n2 c)
   claimed_beyond = by2 (eqb n2 c) refl
@@ -80,7 +105,7 @@ module _ (ends : EndLaws) (count limit k c skip : ℕ) where
   was3 : (t : St) (r : Rules count limit t) (t' : St) (r' : Rules count limit t') → g3 t r t' r' → (i : ℕ) (s : Side) → IsEndHeld r'.world i s → IsEndHeld r.world i s ⊎ (c + skip ≤ i)
   was3 t r t' r' g i s held =
       ⊎_elim (λ h. inl (held_same r.world (r.world.claimed + skip) i s h)) (λ far. inr (let e = g.0 in let q = claimed_same r.world (r.world.claimed + skip) in omega (arith, far, e, q)))
-      (g.2 i s held)
+      (g.2.0 i s held)
 
   pub passes_kept : Keeps (virtual count limit) (sizes count limit k true) g3
   passes_kept t r t' r' g b i l gone held = ⊎_elim gone (λ far. let e = count_is count limit t r in let f = g.0 in omega (arith, e, f, far, l)) (was3 t r t' r' g i (side_of b) held)
@@ -91,19 +116,28 @@ module _ (ends : EndLaws) (count limit k c skip : ℕ) where
       (λ beyond. omega (arith, beyond, under))
       (was3 t r t' r' g i (side_of b) held)
 
+  -- who is held stays so
+  pub passes_loses : (id : ℕ) (v : View) → LosesNone (virtual count limit) (sizes count limit k true) id v g3
+  passes_loses id v again t r t' r' at g b i l gone held = gone (g.2.1 refl i (side_of b) (held_then r.world (r.world.claimed + skip) i (side_of b) held))
+
+  -- and both ends of the number that is claimed are held
+  pub passes_takes : (id : ℕ) (v : View) → Takes (virtual count limit) id v g3 (c + skip)
+  passes_takes id v t r t' r' at g b gone = gone (g.3 (side_of b))
+
 pub claims_for_open_last : ClaimsForOpenLast
 claims_for_open_last k dirty free one count limit slots id c skip m p is idle small tiny has =
     let x = virtual count limit in
     let z = sizes count limit k true in
     let n : ℕ = c + skip in
     let g : Known x = passing_keeping count limit c skip in
-    let h : Known x = keeping count limit in
+    let h : Known x = keeping true count limit in
     let hit : Mine → Type 0 = λ m'. m' ≡ (with_part (claimed_part n p) (saw limit n m.0), m.1) in
     let miss : ℕ → Mine → Type 0 = λ j m'. m' ≡ (saw limit j m.0, m.1) in
     let P : ℕ → Type 0 = λ q. Steps x (λ t r t' r'. MatchBool (eqb (slice_index t.words limit) c) (g t r t' r') (h t r t' r')) slots id m q (λ j. either (eqb j c) (n + 1) j) (λ j m'. MatchBool (eqb j c) (hit m') (miss j m')) in
-    let steps : P limit = λ t r deep at fits. claimed_beyond ends passing_keeps_lawful lawful_worlds_stray_nothing loads_turns claims_for_open count limit slots id c skip m p is idle small t r deep at fits tiny in
+    let steps : P limit = λ t r deep at fits. claimed_beyond ends passing_keeps_lawful lawful_worlds_stray_nothing loads_turns (claims_for_open true) count limit slots id c skip m p is idle small t r deep at fits tiny in
     claims x z (laws_of ends count limit k true) (are_sizes count limit k one) g h slots id c n (own_of m.0 dirty free) m.1 hit miss
-    (passes_kept ends count limit k c skip) (passes_skipped ends count limit k c skip) (ends_kept count limit k true) (omega arith) small has (subst P (omega arith) steps)
+    (passes_kept ends count limit k c skip) (passes_loses ends count limit k c skip id m.0) (passes_skipped ends count limit k c skip) (passes_takes ends count limit k c skip id m.0)
+    (ends_kept count limit k true) (ends_held count limit k true id m.0) (omega arith) small has (subst P (omega arith) steps)
 
 -- where slots aren't used again it is the rule's own
 pub claims_for_open_in_order : ClaimsForOpenInOrder
@@ -111,6 +145,6 @@ claims_for_open_in_order k dirty free count limit slots id c m p is idle few are
     let x = virtual count limit in
     let z = sizes count limit k false in
     let told : ℕ → Mine → Type 0 = λ n m'. MatchBool (eqb n c) (m' ≡ (with_part (claimed_part c p) (saw limit n m.0), m.1)) (m' ≡ (saw limit n m.0, m.1)) in
-    claims_in_order x z (laws_of ends count limit k false) areas (keeping count limit) slots id c (own_of m.0 dirty free) m.1 told
+    claims_in_order x z (laws_of ends count limit k false) areas (keeping false count limit) slots id c (own_of m.0 dirty free) m.1 told
     (ends_kept count limit k false) refl few
-    (subst (λ (q : ℕ). Steps x (keeping count limit) slots id m q (λ n. either (eqb n c) (c + 1) n) told) (omega arith) (claims_for_open count limit slots id c m p is idle few))
+    (subst (λ (q : ℕ). Steps x (keeping false count limit) slots id m q (λ n. either (eqb n c) (c + 1) n) told) (omega arith) (claims_for_open false count limit slots id c m p is idle few))

@@ -1,5 +1,5 @@
 -- Seats of a table whose link words come back are dealt and joined.
-use Rattle.std.proofs.Common.{subst}
+use Rattle.std.proofs.Common.{sym, subst}
 use Rattle.ipcz_world.specs.World.{World}
 use Rattle.ipcz_world.specs.HeldEnds.{IsEndHeld}
 use Rattle.ipcz_rule.specs.Start.{after_deal, dealt}
@@ -16,7 +16,19 @@ use Rattle.ipcz_rule.proofs.LastsAll.{ends}
 pub seats_last : SeatsLast
 seats_last = (
   (λ count limit k id reuses o nodes n below is. dealing (virtual count limit) (sizes count limit k reuses) (laws_of ends count limit k reuses) id o (after_deal o.view) (dealt o.view)
-      (λ t r at. (deals_opening count limit id o.view nodes n below is t r at, (λ b i gone held. gone (subst (λ (u : World). IsEndHeld u i (side_of b)) (deals_opening_world count limit id o.view nodes n below is t r at) held))))),
+      (λ t r at. (
+        deals_opening count limit id o.view nodes n below is t r at,
+        (
+          (λ b i gone held. gone (subst (λ (u : World). IsEndHeld u i (side_of b)) (deals_opening_world count limit id o.view nodes n below is t r at) held)),
+          (λ b i gone held. gone (subst (λ (u : World). IsEndHeld u i (side_of b)) (sym (deals_opening_world count limit id o.view nodes n below is t r at)) held)),
+        ),
+      ))),
   (λ count limit k id other reuses o p. joins_seats (virtual count limit) (sizes count limit k reuses) id other o p (together o.view p.view) spent
-      (λ t r at apart there. (joins count limit id o.view other p.view t r at apart there, (λ b i gone held. gone (subst (λ (u : World). IsEndHeld u i (side_of b)) (joins_world count limit id o.view other p.view t r at apart there) held))))),
+      (λ t r at apart there. (
+        joins count limit id o.view other p.view t r at apart there,
+        (
+          (λ b i gone held. gone (subst (λ (u : World). IsEndHeld u i (side_of b)) (joins_world count limit id o.view other p.view t r at apart there) held)),
+          (λ b i gone held. gone (subst (λ (u : World). IsEndHeld u i (side_of b)) (sym (joins_world count limit id o.view other p.view t r at apart there)) held)),
+        ),
+      ))),
 )

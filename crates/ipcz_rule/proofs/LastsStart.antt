@@ -14,6 +14,13 @@ use Rattle.ipcz_slots.specs.declared.own.Own.{Own}
 use Rattle.ipcz_rule.specs.Lasting.{virtual, sizes, own_of}
 use Rattle.ipcz_rule.specs.LastingStart.{lasting_words, whole_words, LastingStarts, WholeStarts, StartLasts}
 use Rattle.ipcz_slots.proofs.Beginning.{starts}
+use Rattle.ipcz_word.specs.Word.{open_word, is_free}
+use Rattle.ipcz_word.specs.SideSets.{has, both, none}
+use Rattle.ipcz_word.specs.Layout.{bits_of, sets_bits, source_bits, word_of_bits}
+use Rattle.ipcz_word.proofs.Return.{sets_return}
+use Rattle.ipcz_world.specs.World.{word_at}
+use Rattle.ipcz_rule.specs.Rule.{Rules}
+use Rattle.ipcz_rule.specs.Lasting.{side_of}
 use Rattle.ipcz_rule.proofs.Starting.{opens}
 use Rattle.ipcz_rule.proofs.Lasts.{laws_of}
 use Rattle.ipcz_rule.proofs.LastsAll.{ends}
@@ -57,6 +64,24 @@ at_links p r q i ys zs l m = dite (dec_lt i p)
         ∙ (get_or_append_left (replicate n 0) ws 0 (i - p) (rw (long_of n 0) (omega (arith, far, k)))
         ∙ get_or-replicate n (i - p) 0 0 (omega (arith, far, k)))
 
+three_is : 3 ≡ bits_of open_word
+unfolding bits_of sets_bits open_word has both none source_bits
+three_is = refl
+
+open_free : is_free open_word ≡ true
+unfolding open_word has both none
+open_free = refl
+
+-- the words of the first pairs are free at the start
+opened : (count limit : ℕ) (r : Rules count limit (opening (opening_words count limit) (no_messages (count * count)) (opening_view count))) (p : ℕ) → p < length (first_pairs count) → p < limit →
+    is_free (word_at r.world p) ≡ true
+opened count limit r p few below =
+    let n : ℕ = length (first_pairs count) in
+    let rest : List ℕ = replicate (limit - n) 0 ++ n ∷ replicate (count + count * count) 0 in
+    let three : slice_index (opening_words count limit) p ≡ 3 = get_or_append_left (replicate n 3) rest 0 p (rw (long_of n 3) few) ∙ get_or-replicate n p 3 0 few in
+    let same : word_at r.world p ≡ open_word = sym (sets_return (word_at r.world p)) ∙ (ap word_of_bits (sym (r.shows.links p (rw r.words below)) ∙ (three ∙ three_is)) ∙ sets_return open_word) in
+    ap is_free same ∙ open_free
+
 lasting_starts : LastingStarts
 lasting_starts count limit spare limits room =
     let n : ℕ = length (first_pairs count) in
@@ -84,6 +109,7 @@ lasting_starts count limit spare limits room =
       links = λ p l. at_links n spare more p (middle ++ last) middle l (omega (arith, l, room, all));
       claimed = λ p l. let_go p ∙ (get_or_append_left (replicate n 0) (replicate spare 3) 0 p (rw (long_of n 0) (omega (arith, count_there, l))) ∙ get_or-replicate n p 0 0 (omega (arith, count_there, l)));
       unclaimed = λ p far l. let_go p ∙ (get_or-append_right (replicate n 0) (replicate spare 3) n p 0 (long_of n 0) (omega (arith, count_there, far)) ∙ get_or-replicate spare (p - n) 3 0 (omega (arith, count_there, far, l)));
+      held = λ again b p l gone. gone (ends.claimed.free r.world r.books r.routes p (side_of b) r.lawful (opened count limit r p (omega (arith, count_there, l)) (omega (arith, count_there, l, room))));
       none = λ id o at. none_of (own_of (opening_view count) [] []) id o refl refl at;
     })
 
@@ -115,6 +141,7 @@ whole_starts count size limits =
       links = λ p l. front p (omega (arith, tall, l));
       claimed = λ p l. let_go p (omega (arith, count_there, l, room));
       unclaimed = λ p far l. let_go p l;
+      held = λ again. absurd (cc);
       none = λ id o at. none_of (own_of (opening_view count) [] []) id o refl refl at;
     })
 

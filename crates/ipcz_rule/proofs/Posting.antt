@@ -40,6 +40,7 @@ use Rattle.ipcz_rule.proofs.Touches.{same_hand}
 use Rattle.ipcz_rule.proofs.Touching.{After, turn_after}
 use Rattle.ipcz_rule.proofs.Wording.{sees}
 use Rattle.ipcz_rule.proofs.Mailing.{way_low, way_first, way_second, mail_moves, mail_rules}
+use Rattle.ipcz_rule.proofs.KeptEnds.{one_keeps, where_keeps}
 
 -- the message in hand stands in the mailbox
 pub in_hand : (w : World) (n from : ℕ) (x : Message) → hand_of w n (Some from) ≡ Some x → mail_at w (way w from n) ≡ mails.Hand x
@@ -203,9 +204,9 @@ posts_turns count size slots id i k to m p x rest is at_k at_i small_to has full
     let G : List (ℕ × Slot) → Type 0 = λ held. (v : View) × (a : TableAct Slot) × Valid s.homes held a × Follows count size s r ((n, node_acts.Post to) ∷ []) (stepped s i 1 id held v a) × Told (v, carried_after held a) in
     subst G (sym slot) (with_part p' m.0, gives, tt, rules, refl)
 
-pub posts : Posts IsKept
-posts count size slots id i k to m p x rest is at_k at_i small_to has full first slot s r deep at small =
-    let t = posts_turns count size slots id i k to m p x rest is at_k at_i small_to has full first slot s r deep at small in (t.0, t.1, t.2, turns_keep count size s _ r ((p.node, node_acts.Post to) ∷ []) t.3, t.4)
+pub posts : (all : Bool) → Posts (IsKept all)
+posts all count size slots id i k to m p x rest is at_k at_i small_to has full first slot s r deep at small =
+    let t = posts_turns count size slots id i k to m p x rest is at_k at_i small_to has full first slot s r deep at small in (t.0, t.1, t.2, turns_keep all count size s _ r ((p.node, node_acts.Post to) ∷ []) (λ e. one_keeps r.world p.node (node_acts.Post to) tt) t.3, t.4)
 
 module _ (count size slots id i k from : ℕ) (m : Mine) (p : Part) (is : m.0.parts ≡ p ∷ []) (at_k : k ≡ from * count + p.node) (at_i : i ≡ size + 1 + count + k) (small_from : from < count)
     (idle : p.state.hand ≡ None) (s : St) (r : Rules count size s) (at : get_elem? s.views id ≡ some m.0) (x : Message) where
@@ -276,6 +277,6 @@ module _ (count size slots id i k from : ℕ) (m : Mine) (p : Part) (is : m.0.pa
 pub looks_turns : Looks IsTurns
 looks_turns count size slots id i k from m p is at_k at_i small_from idle s r deep at small = looked count size slots id i k from m p is at_k at_i small_from idle s r at
 
-pub looks : Looks IsKept
-looks count size slots id i k from m p is at_k at_i small_from idle s r deep at small =
-    let t = looks_turns count size slots id i k from m p is at_k at_i small_from idle s r deep at small in (t.0, t.1, t.2, turns_keep count size s _ r _ t.3, t.4)
+pub looks : (all : Bool) → Looks (IsKept all)
+looks all count size slots id i k from m p is at_k at_i small_from idle s r deep at small =
+    let t = looks_turns count size slots id i k from m p is at_k at_i small_from idle s r deep at small in (t.0, t.1, t.2, turns_keep all count size s _ r (turn_where (eqb (slice_index s.words i) 1) p.node (node_acts.Look from)) (λ e. where_keeps (eqb (slice_index s.words i) 1) r.world p.node (node_acts.Look from) tt) t.3, t.4)

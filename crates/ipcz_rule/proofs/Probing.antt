@@ -77,6 +77,6 @@ module _ (count size id i k to : ℕ) (m : Mine) (p : Part) (is : m.0.parts ≡ 
 pub probes_turns : Probes IsTurns
 probes_turns count size slots id i k to m p is at_k at_i small_to s r deep at low = probed_mail count size id i k to m p is at_k at_i small_to s r at
 
-pub probes : Probes IsKept
-probes count size slots id i k to m p is at_k at_i small_to s r deep at small =
-    let t = probes_turns count size slots id i k to m p is at_k at_i small_to s r deep at small in (t.0, t.1, t.2, turns_keep count size s _ r [] t.3, t.4)
+pub probes : (all : Bool) → Probes (IsKept all)
+probes all count size slots id i k to m p is at_k at_i small_to s r deep at small =
+    let t = probes_turns count size slots id i k to m p is at_k at_i small_to s r deep at small in (t.0, t.1, t.2, turns_keep all count size s _ r [] (λ e j side g. g) t.3, t.4)

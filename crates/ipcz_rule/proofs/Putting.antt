@@ -1,5 +1,5 @@
 -- A put as a step on the own touch word.
-use Rattle.std.specs.Prelude.{◌≡◌, ℕ, [], ◌∷◌, ◌++◌, length, Option, Some, None, refl}
+use Rattle.std.specs.Prelude.{◌≡◌, ℕ, [], ◌∷◌, ◌++◌, length, Option, Some, None, refl, Bool, true}
 use Rattle.std.proofs.Common.{ap, subst}
 use Rattle.ipcz_base.specs.declared.item.Item.TheVariants.{Parcel}
 use Rattle.ipcz_node.specs.Node.{Node, Found, on_found, terminal_of}
@@ -20,12 +20,12 @@ unfolding on_found
 found_hand n None p = refl
 found_hand n (Some f) p = refl
 
-pub puts : Puts IsKept
-puts profile count size slots id i m p at bytes ends is fine =
+pub puts : (all : Bool) → Puts (IsKept all)
+puts all profile count size slots id i m p at bytes ends is fine =
     let p' = put_part at bytes ends p in
     let item = Parcel (record { bytes = bytes; ends = ends }) in
     let v' = with_part p' m.0 in
-    touches count size slots id i m p p' v' is refl refl (record { node = refl; hand = found_hand p.state (terminal_of p.state at) (record { bytes = bytes; ends = ends }); message = refl; probed = refl })
+    touches all count size slots id i m p p' v' is refl refl (record { node = refl; hand = found_hand p.state (terminal_of p.state at) (record { bytes = bytes; ends = ends }); message = refl; probed = refl })
     (λ s r seat inside state.
     let w = r.world in
     let b = r.books in
@@ -42,5 +42,5 @@ puts profile count size slots id i m p at bytes ends is fine =
       claimed = claimed-set_node w n p'.state;
       joined = joined_put s.views id m.0 v' p p' b at seat is refl r.joined item (ap (λ k. p.put ++ ((at, k), item) ∷ []) kept.1) refl refl;
       lawful = kept.0;
-      known = subst (λ (y : Node). KeepsEnds w (set_node w n (put_node y at (record { bytes = bytes; ends = ends })))) state (put_ends profile w b g n at bytes ends r.lawful inside (rw state fine));
+      known = subst (λ (y : Node). KeepsEnds true w (set_node w n (put_node y at (record { bytes = bytes; ends = ends })))) state (put_ends profile w b g n at bytes ends r.lawful inside (rw state fine));
     })

@@ -1,5 +1,5 @@
 -- A probed mailbox is given back, and so is the slot of a message in hand.
-use Rattle.std.specs.Prelude.{◌≡◌, ◌≢◌, ◌<◌, ◌+◌, ◌*◌, ℕ, zero, suc, true, nat_eq, List, [], length, slice_index, Some, None, is_some, refl}
+use Rattle.std.specs.Prelude.{◌≡◌, ◌≢◌, ◌<◌, ◌+◌, ◌*◌, ℕ, zero, suc, true, nat_eq, List, [], length, slice_index, Some, None, is_some, refl, Bool}
 use Rattle.std.proofs.Common.{arith, ap, ◌∙◌, sym, inl, inr, subst, set, length-set, get_or-set_same, get_or-set_other}
 use Rattle.std.proofs.lemmas.Bool.Decides.{nat_tests}
 use mathlib.Core.Option.{some}
@@ -63,9 +63,9 @@ unprobes_turns count size slots id i k to m p rest is at_k at_i small_to has slo
     let G : List (ℕ × Slot) → Type 0 = λ held. (v : View) × (a : TableAct Slot) × Valid s.homes held a × Follows count size s r [] (stepped s i 0 id held v a) × Told (v, carried_after held a) in
     subst G (sym slot) (with_part p' m.0, gives, tt, rules, refl)
 
-pub unprobes : Unprobes IsKept
-unprobes count size slots id i k to m p rest is at_k at_i small_to has slot s r deep at small =
-    let t = unprobes_turns count size slots id i k to m p rest is at_k at_i small_to has slot s r deep at small in (t.0, t.1, t.2, turns_keep count size s _ r [] t.3, t.4)
+pub unprobes : (all : Bool) → Unprobes (IsKept all)
+unprobes all count size slots id i k to m p rest is at_k at_i small_to has slot s r deep at small =
+    let t = unprobes_turns count size slots id i k to m p rest is at_k at_i small_to has slot s r deep at small in (t.0, t.1, t.2, turns_keep all count size s _ r [] (λ e j side g. g) t.3, t.4)
 
 -- a mailbox at 2 shows its mail whatever its slot
 any_home : (n : ℕ) (home other : maybe.Option (maybe.Option Slot)) (x : Mail) → is_some (hand_message x) ≡ true → MailAt n home x → (n ≡ 2) × MailAt n other x
@@ -114,6 +114,6 @@ gives_back_turns count size slots id i k from m p y rest is at_k at_i holds slot
     let G : List (ℕ × Slot) → Type 0 = λ held. (v : View) × (a : TableAct Slot) × Valid s.homes held a × Follows count size s r [] (stepped s i word id held v a) × Told (v, carried_after held a) in
     subst G (sym slot) (v', gives, tt, rules, refl)
 
-pub gives_back : GivesBack IsKept
-gives_back count size slots id i k from m p y rest is at_k at_i holds slot s r deep at small =
-    let t = gives_back_turns count size slots id i k from m p y rest is at_k at_i holds slot s r deep at small in (t.0, t.1, t.2, turns_keep count size s _ r [] t.3, t.4)
+pub gives_back : (all : Bool) → GivesBack (IsKept all)
+gives_back all count size slots id i k from m p y rest is at_k at_i holds slot s r deep at small =
+    let t = gives_back_turns count size slots id i k from m p y rest is at_k at_i holds slot s r deep at small in (t.0, t.1, t.2, turns_keep all count size s _ r [] (λ e j side g. g) t.3, t.4)

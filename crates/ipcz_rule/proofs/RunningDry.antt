@@ -1,5 +1,5 @@
 -- A claim of a proxy that is told that no word is left, at any time, as a step on the own touch word.
-use Rattle.std.specs.Prelude.{◌≡◌, ℕ, true, Some, refl}
+use Rattle.std.specs.Prelude.{◌≡◌, ℕ, true, Some, refl, Bool}
 use Rattle.std.proofs.Common.{ap, ◌∙◌, sym, subst, inl}
 use Rattle.ipcz_router.specs.Router.{Router}
 use Rattle.ipcz_router.specs.ActTable.{may_take}
@@ -33,12 +33,12 @@ dry_can : (w : World) (n serial : ℕ) (rt : Router) → router_of w n serial �
 unfolding can_take may_act
 dry_can w n serial rt here may = rw here may
 
-pub dries : Dries IsKept
+pub dries : (all : Bool) → Dries (IsKept all)
 unfolding router_at
-dries count size slots id i m p serial rt is can =
+dries all count size slots id i m p serial rt is can =
     let p' = plain_part serial router_acts.Claim answers.NoWord p in
     let v' = with_part p' m.0 in
-    touches count size slots id i m p p' v' is refl refl (record { node = refl; hand = act_hand p.state serial router_acts.Claim answers.NoWord; message = refl; probed = refl })
+    touches all count size slots id i m p p' v' is refl refl (record { node = refl; hand = act_hand p.state serial router_acts.Claim answers.NoWord; message = refl; probed = refl })
     (λ s r seat inside state.
     let w = r.world in
     let n : ℕ = p.node in
@@ -54,5 +54,8 @@ dries count size slots id i m p serial rt is can =
       claimed = claimed-set_node w n p'.state;
       joined = joined_same s.views id m.0 v' p p' r.books seat is refl refl refl refl r.joined;
       lawful = subst (λ (u : World). Lawful u r.books r.routes) (sym there) (dry_keeps_lawful w r.books r.routes n serial rt r.lawful inside here (dry_can w n serial rt here can.may));
-      known = subst (λ (u : World). KeepsEnds w u) (sym there) (λ k side held. inl ((deeds_keep_ends.dries w (record { node = n; serial = serial }) rt k side here).were held));
+      known = subst (λ (u : World). KeepsEnds true w u) (sym there) (
+        (λ k side held. inl ((deeds_keep_ends.dries w (record { node = n; serial = serial }) rt k side here).were held)),
+        (λ e k side held. (deeds_keep_ends.dries w (record { node = n; serial = serial }) rt k side here).are held),
+      );
     })

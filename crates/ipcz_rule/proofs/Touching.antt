@@ -1,5 +1,5 @@
 -- The kinds of atomic step that change the own node and no mailbox, each with the rule after it.
-use Rattle.std.specs.Prelude.{◌≡◌, ◌<◌, ℕ, true, false, nat_lt, List, [], ◌∷◌, length, slice_index, None, refl}
+use Rattle.std.specs.Prelude.{◌≡◌, ◌<◌, ℕ, true, false, nat_lt, List, [], ◌∷◌, length, slice_index, None, refl, Bool}
 use Rattle.std.proofs.Common.{arith, ap, ◌∙◌, sym, subst, inl, set}
 use Rattle.std.proofs.lemmas.List.{set-get_or}
 use Rattle.std.proofs.lemmas.Bool.Decides.{nat_tests}
@@ -32,11 +32,13 @@ use Rattle.ipcz_world.proofs.Whole.{each_step_keeps_lawful, replies_plainly}
 use Rattle.ipcz_rule.specs.declared.view.View.{View}
 use Rattle.ipcz_rule.specs.declared.view.Part.{Part}
 use Rattle.ipcz_rule.specs.Rule.{St, Mine, mailbox, Joined, Rules}
-use Rattle.ipcz_world.specs.HeldEnds.{IsEndHeld}
+use Rattle.ipcz_world.specs.HeldEnds.{is_turn}
 use Rattle.ipcz_world.proofs.lawful.LettingGo.{held_were_held}
 use Rattle.ipcz_rule.specs.Kinds.{IsTurns, KeepsEnds, IsKept}
 use Rattle.ipcz_rule.proofs.Moved.{ruled_with, spelled, keeps_sources}
 use Rattle.ipcz_rule.proofs.Touches.{NodeMoves, others_spell, own_spells, mails_show}
+use Rattle.ipcz_world.specs.HeldEnds.{is_turn}
+use Rattle.ipcz_world.proofs.lawful.StayingHeld.{calls_keep_held}
 
 -- what a touch owes: the world after it, lawful with the books after it, and what is known of it
 pub record Touched (w : World) (views : List View) (p p' : Part) (G : World → Books → Routes → Type 0) : Type 0 where
@@ -81,14 +83,21 @@ touched count size id i m p p' v' is is' same_seen k s r at G t =
     }) t.joined t.lawful G t.known in
     subst After (sym (set-get_or s.words i 0)) rules
 
+-- who keeps all ends keeps them
+pub any_kept : (all : Bool) (count size slots id : ℕ) (m : Mine) (i : ℕ) (f : ℕ → ℕ) (turns : ℕ → List (ℕ × Act)) (told : ℕ → Mine → Type 0) → IsKept true count size slots id m i f turns told →
+    IsKept all count size slots id m i f turns told
+any_kept all count size slots id m i f turns told may s r deep at small =
+    let h = may s r deep at small in (h.0, h.1, h.2, (h.3.0, (h.3.1.0, (λ e. h.3.1.1 refl))), h.4)
+
 -- touch, of a call
-pub touches : (count size slots id i : ℕ) (m : Mine) (p p' : Part) (v' : View) → m.0.parts ≡ p ∷ [] → v'.parts ≡ p' ∷ [] → v'.seen ≡ m.0.seen → KeepsHands p p' →
+pub touches : (all : Bool) (count size slots id i : ℕ) (m : Mine) (p p' : Part) (v' : View) → m.0.parts ≡ p ∷ [] → v'.parts ≡ p' ∷ [] → v'.seen ≡ m.0.seen → KeepsHands p p' →
     ((s : St) (r : Rules count size s) → get_elem? s.views id ≡ some m.0 → p.node < r.world.count → node_at r.world p.node ≡ p.state →
-    Touched r.world (set s.views id v') p p' (λ w b g. KeepsEnds r.world w)) →
-    IsKept count size slots id m i (λ n. n) (λ n. []) (λ n m'. m' ≡ (v', m.1))
-touches count size slots id i m p p' v' is is' same_seen k owes s r deep at small =
+    Touched r.world (set s.views id v') p p' (λ w b g. KeepsEnds true r.world w)) →
+    IsKept all count size slots id m i (λ n. n) (λ n. []) (λ n m'. m' ≡ (v', m.1))
+touches all count size slots id i m p p' v' is is' same_seen k owes =
+    any_kept all count size slots id m i (λ n. n) (λ n. []) (λ n m'. m' ≡ (v', m.1)) (λ s r deep at small.
     let sp = spelled s r id m.0 p at is in
-    (v', keeps, tt, touched count size id i m p p' v' is is' same_seen k s r at (λ w b g. KeepsEnds r.world w) (owes s r at sp.inside sp.state), refl)
+    (v', keeps, tt, touched count size id i m p p' v' is is' same_seen k s r at (λ w b g. KeepsEnds true r.world w) (owes s r at sp.inside sp.state), refl))
 
 -- touch, of an act
 pub touches_turn : (count size slots id i : ℕ) (m : Mine) (p p' : Part) (v' : View) (act : Act) → m.0.parts ≡ p ∷ [] → v'.parts ≡ p' ∷ [] → v'.seen ≡ m.0.seen → KeepsHands p p' →
@@ -172,14 +181,20 @@ unfolding advance routes_after
 put_lawful Printed w b g n at bytes ends = done_by Printed w b g n at bytes ends (steps.Put n at bytes ends) (inl (refl, refl)) refl refl (λ h. h.0)
 put_lawful Wide w b g n at bytes ends = done_by Wide w b g n at bytes ends (steps.PutWide n at bytes ends) (inl (refl, refl)) refl refl (λ h. h.0)
 
--- and lets nobody have an end that nobody had
+-- a call lets no end go, and lets nobody have one that nobody had
+pub call_keeps : (w v : World) (b : Books) (g : Routes) (step : Step) (reply : Reply) → Lawful w b g → is_turn step ≡ false → StepAny w step reply v → KeepsEnds true w v
+call_keeps w v b g step reply lawful call is =
+    ((λ i s held. held_were_held w v b g step reply i s lawful is held), (λ e i s held. calls_keep_held w v b g step reply i s lawful call is held))
+
+-- so does a put
 pub put_ends : (profile : Profile) (w : World) (b : Books) (g : Routes) (n : ℕ) (at : End) (bytes : List ℕ) (ends : List End) → Lawful w b g → n < w.count →
-    put_refusal profile (node_at w n) at bytes ends ≡ None → KeepsEnds w (set_node w n (put_node (node_at w n) at (record { bytes = bytes; ends = ends })))
-put_ends Printed w b g n at bytes ends lawful inside fine i s held =
+    put_refusal profile (node_at w n) at bytes ends ≡ None → KeepsEnds true w (set_node w n (put_node (node_at w n) at (record { bytes = bytes; ends = ends })))
+unfolding is_turn
+put_ends Printed w b g n at bytes ends lawful inside fine =
     let it = put_step Printed w n at (record { bytes = bytes; ends = ends }) in
-    held_were_held w it.world b g (steps.Put n at bytes ends) it.reply i s lawful (inl (refl, refl))
-    (subst (λ (u : World). IsEndHeld u i s) (sym (ap (λ (e : Effect). e.world) (put_gives Printed w n at bytes ends inside fine))) held)
-put_ends Wide w b g n at bytes ends lawful inside fine i s held =
+    subst (KeepsEnds true w) (ap (λ (e : Effect). e.world) (put_gives Printed w n at bytes ends inside fine))
+    (call_keeps w it.world b g (steps.Put n at bytes ends) it.reply lawful refl (inl (refl, refl)))
+put_ends Wide w b g n at bytes ends lawful inside fine =
     let it = put_step Wide w n at (record { bytes = bytes; ends = ends }) in
-    held_were_held w it.world b g (steps.PutWide n at bytes ends) it.reply i s lawful (inl (refl, refl))
-    (subst (λ (u : World). IsEndHeld u i s) (sym (ap (λ (e : Effect). e.world) (put_gives Wide w n at bytes ends inside fine))) held)
+    subst (KeepsEnds true w) (ap (λ (e : Effect). e.world) (put_gives Wide w n at bytes ends inside fine))
+    (call_keeps w it.world b g (steps.PutWide n at bytes ends) it.reply lawful refl (inl (refl, refl)))

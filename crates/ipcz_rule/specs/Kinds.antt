@@ -34,6 +34,7 @@ use Rattle.ipcz_world.specs.HeldEnds.{IsEndHeld}
 use Rattle.ipcz_world.specs.Ranks.{AreTurns}
 use Rattle.ipcz_world.specs.World.{World}
 use Rattle.ipcz_world.specs.Wordless.{is_wordless}
+use Rattle.ipcz_rule.specs.GivenUp.{GivesEnd}
 use Rattle.ipcz_rule.specs.Rule.{Slot, St, Mine, Rules, has_number, with_part, saw}
 use Rattle.ipcz_rule.specs.Steps.{put_part, get_part, close_part, claimed_part, open_part, act_part, acted_view, CanAct}
 use Rattle.ipcz_rule.specs.Steps.{is_touch_act}
@@ -57,17 +58,19 @@ IsTurns count size slots id me i f turns told =
     Follows count size s r (turns (slice_index s.words i)) (stepped s i (f (slice_index s.words i)) id me.1 v a) ×
     told (slice_index s.words i) (v, carried_after me.1 a)
 
--- an end that is held in the second world was held in the first, or its number wasn't claimed there
-abbrev pub KeepsEnds : World → World → Type 0
-KeepsEnds w v = (i : ℕ) (s : Side) → IsEndHeld v i s → IsEndHeld w i s ⊎ (w.claimed ≤ i)
+-- an end that is held in the second world was held in the first, or its number wasn't claimed there; and if `all` do, each that was held in the
+-- first is held in the second
+abbrev pub KeepsEnds : (all : Bool) → World → World → Type 0
+KeepsEnds all w v =
+    ((i : ℕ) (s : Side) → IsEndHeld v i s → IsEndHeld w i s ⊎ (w.claimed ≤ i)) × (all ≡ true → (i : ℕ) (s : Side) → IsEndHeld w i s → IsEndHeld v i s)
 
--- that it keeps the rule, and that ends which nobody held are held by nobody
-abbrev pub IsKept : Form
-IsKept count size slots id me i f turns told =
+-- that it keeps the rule, that ends which nobody held are held by nobody, and if `all` are kept that those which were held are
+abbrev pub IsKept : (all : Bool) → Form
+IsKept all count size slots id me i f turns told =
     (s : St) (r : Rules count size s) → length s.homes ≡ slots → get_elem? s.views id ≡ some me.0 →
     slice_index s.words i < 18446744073709551616 →
     (v : View) × (a : TableAct Slot) × Valid s.homes me.1 a ×
-    ((r' : Rules count size (stepped s i (f (slice_index s.words i)) id me.1 v a)) × KeepsEnds r.world r'.world) ×
+    ((r' : Rules count size (stepped s i (f (slice_index s.words i)) id me.1 v a)) × KeepsEnds all r.world r'.world) ×
     told (slice_index s.words i) (v, carried_after me.1 a)
 
 -- one act of a node if a test holds, else nothing
@@ -108,6 +111,13 @@ Touches F = (count size slots id i : ℕ) (m : Mine) (p : Part) (serial : ℕ) (
     CanAct p.state serial r act → is_wordless act ≡ true →
     F count size slots id m i (λ n. n) (λ n. (p.node, acts.Router serial act) ∷ []) (λ n m'. m' ≡
     (with_part (act_part (acts.Router serial act) answers.Plain p) m.0, m.1))
+
+-- the same, where it keeps all ends if the act gives none up
+abbrev pub TouchesKept : Type 0
+TouchesKept = (all : Bool) (count size slots id i : ℕ) (m : Mine) (p : Part) (serial : ℕ) (r : Router) (act : RouterAct) → m.0.parts ≡ p ∷ [] →
+    CanAct p.state serial r act → is_wordless act ≡ true → (all ≡ true → GivesEnd p.state (acts.Router serial act) None) →
+    IsKept all count size slots id m i (λ n. n) (λ n. (p.node, acts.Router serial act) ∷ [])
+    (λ n m'. m' ≡ (with_part (act_part (acts.Router serial act) answers.Plain p) m.0, m.1))
 
 -- touch, of any of these acts
 abbrev pub TouchActs : Form → Type 0

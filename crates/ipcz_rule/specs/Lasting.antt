@@ -1,27 +1,30 @@
 -- The table whose link words come back: its rule is that it folds a table which keeps the rule of one whose words don't, and each kind of step
 -- of that is one of this.
-use Rattle.std.specs.Prelude.{◌≡◌, ◌≢◌, ◌≤◌, ◌<◌, ◌⊎◌, ◌+◌, ◌*◌, ◌%◌, ℕ, Bool, true, false, List, [], ◌∷◌, Some, slice_index, MatchBool, bit_or, eqb}
+use Rattle.std.specs.Prelude.{◌≡◌, ◌≤◌, ◌<◌, ◌⊎◌, ◌+◌, ◌*◌, ◌%◌, ℕ, Bool, true, false, List, [], ◌∷◌, Some, None, slice_index, MatchBool, bit_or, eqb}
 use prog.Atomic.{either}
 use Rattle.atomic_table.specs.Table.{State}
 use Rattle.ipcz_base.specs.declared.side.Side.{Side}
 use Rattle.ipcz_base.specs.declared.side.Side.TheVariants.{A, B}
 use Rattle.ipcz_router.specs.Router.{Router}
 use Rattle.ipcz_router.specs.declared.act.RouterAct.{RouterAct}
-use Rattle.ipcz_router.specs.declared.act.RouterAct.TheVariants as router_acts
+use Rattle.ipcz_router.specs.LettingGo.{let_go_end, let_go_spare}
 use Rattle.ipcz_router.specs.declared.act.Answer.TheVariants as answers
 use Rattle.ipcz_node.specs.declared.act.Act.{Act}
 use Rattle.ipcz_node.specs.declared.act.Act.TheVariants as acts
+use Rattle.ipcz_node.specs.Acts.{act_lacks_serials}
+use Rattle.ipcz_node.specs.RoomyNodes.{IsPossibleAct}
 use Rattle.ipcz_world.specs.Ranks.{AreTurns}
 use Rattle.ipcz_world.specs.Wordless.{is_wordless}
-use Rattle.ipcz_world.specs.HeldEnds.{IsEndHeld, TurnsHeldWereHeld, LostAreNotHeld, LetGoAreNotHeld, AcceptedAreHeld, lets_go}
+use Rattle.ipcz_world.specs.HeldEnds.{IsEndHeld, TurnsHeldWereHeld, TurnsKeepHeld, LostAreNotHeld, LetGoAreNotHeld, LetGoAreGivenUp, ClaimedAreHeld, AcceptedAreHeld}
 use Rattle.ipcz_rule.specs.declared.view.View.{View}
 use Rattle.ipcz_rule.specs.declared.view.Part.{Part}
 use Rattle.ipcz_rule.specs.Rule.{Slot, Mine, Rules, with_part}
 use Rattle.ipcz_rule.specs.RuleLaws.{LinksAreWords}
-use Rattle.ipcz_rule.specs.Steps.{CanAct, act_part}
+use Rattle.ipcz_rule.specs.GivenUp.{GivesEnd}
+use Rattle.ipcz_rule.specs.Steps.{CanAct, act_part, is_touch_act}
 use Rattle.ipcz_rule.specs.Kinds.{Form, IsTurns, Marks, Wakes, Unlocks, TriesLock, LoadsForLock, LoadsForClaim, LoadsForHand, Touches, TouchActs, Probes, Unprobes, Posts, Looks, Hands, GivesBack}
 use Rattle.ipcz_slots.specs.declared.own.Own.{Own}
-use Rattle.ipcz_slots.specs.Slots.{Virtual, Sizes, AreSizes, Lasting, has_number, without_number, let_go_word}
+use Rattle.ipcz_slots.specs.Slots.{Virtual, Sizes, AreSizes, Lasting, NoSlotIsLost, has_number, without_number, let_go_word}
 use Rattle.ipcz_slots.specs.SlotKinds.{Known, LastingSteps, same_own, side_bit}
 
 -- a side by its bit
@@ -44,8 +47,11 @@ LastingRules count limit slots reuses = Lasting (virtual count limit) (sizes cou
 -- the laws of worlds that this takes
 pub record EndLaws : Type 0 where
   pub kept : TurnsHeldWereHeld
+  pub stay : TurnsKeepHeld
   pub lost : LostAreNotHeld
   pub let_go : LetGoAreNotHeld
+  pub given_up : LetGoAreGivenUp
+  pub claimed : ClaimedAreHeld
   pub accepted : AcceptedAreHeld
   pub words : LinksAreWords
 
@@ -77,19 +83,27 @@ SlotKindsLast = EndLaws → (k : ℕ) (reuses : Bool) (dirty free : List ℕ) �
     (Unlocks IsTurns → Unlocks (OnSlot k reuses dirty free)) × (TriesLock IsTurns → TriesLock (OnSlot k reuses dirty free)) ×
     (LoadsForLock IsTurns → LoadsForLock (OnSlot k reuses dirty free)) × (LoadsForHand IsTurns → LoadsForHand (OnSlot k reuses dirty free))
 
+-- touch, of any of these acts: where slots are used again it gives up no end of a link word
+abbrev pub TouchActsLast : (k : ℕ) (reuses : Bool) (dirty free : List ℕ) → Type 0
+TouchActsLast k reuses dirty free = (count size slots id i : ℕ) (m : Mine) (p : Part) (act : Act) → m.0.parts ≡ p ∷ [] → is_touch_act act ≡ true →
+    IsPossibleAct p.state act → act_lacks_serials p.state act ≡ false → (reuses ≡ true → GivesEnd p.state act None) →
+    Behind k reuses dirty free count size slots id m i (λ n. n) (λ n. (p.node, act) ∷ [])
+    (λ n m'. m' ≡ (with_part (act_part act answers.Plain p) m.0, m.1))
+
 -- the kinds of step behind the link words that a turn takes, but for claims
 abbrev pub OtherKindsLast : Type 0
 OtherKindsLast = EndLaws → (k : ℕ) (reuses : Bool) (dirty free : List ℕ) →
-    (TouchActs IsTurns → TouchActs (Behind k reuses dirty free)) × (LoadsForClaim IsTurns → LoadsForClaim (Behind k reuses dirty free)) ×
+    (TouchActs IsTurns → TouchActsLast k reuses dirty free) × (LoadsForClaim IsTurns → LoadsForClaim (Behind k reuses dirty free)) ×
     (Probes IsTurns → Probes (Behind k reuses dirty free)) × (Unprobes IsTurns → Unprobes (Behind k reuses dirty free)) ×
     (Posts IsTurns → Posts (Behind k reuses dirty free)) × (Looks IsTurns → Looks (Behind k reuses dirty free)) ×
     (Hands IsTurns → Hands (Behind k reuses dirty free)) × (GivesBack IsTurns → GivesBack (Behind k reuses dirty free))
 
--- an act by which a router lets its end of a number go: its step is on the let-go word of the number's slot, and sets the side's bit
+-- an act by which a router gives up its end of a number, and no spare: its step is on the let-go word of the number's slot, and sets the side's
+-- bit
 abbrev pub LetsGoOnSlots : Type 0
 LetsGoOnSlots = (k : ℕ) (reuses : Bool) (dirty free : List ℕ) →
     (count limit slots id i : ℕ) (b : Bool) (m : Mine) (p : Part) (serial : ℕ) (r : Router) (act : RouterAct) → m.0.parts ≡ p ∷ [] →
-    CanAct p.state serial r act → is_wordless act ≡ true → lets_go i (side_of b) r act ≡ true →
+    CanAct p.state serial r act → is_wordless act ≡ true → let_go_end r act ≡ Some (i, side_of b) → let_go_spare r act ≡ None →
     AreSizes (sizes count limit k reuses) →
     LastingSteps (virtual count limit) (sizes count limit k reuses) (turns_of count limit i (λ n. (p.node, acts.Router serial act) ∷ [])) slots id
     (own_of m.0 dirty free, m.1) (let_go_word (sizes count limit k reuses) (i % k)) (λ n. bit_or n (side_bit b))
@@ -107,14 +121,14 @@ ReusingLasts = (k : ℕ) (dirty free : List ℕ) → 1 ≤ k → (count limit sl
     (turns_of count limit 0 (λ n. [])) slots id (own_of m.0 dirty free, m.1) (let_go_word (sizes count limit k true) p) (λ n. 3)
     (λ n m'. m' ≡ (own_of m.0 (without_number dirty p) (without_number free p), m.1)))
 
--- a proxy that leaves lets its end of its central link go, and the spare that it has is used no more: its slot is the seat's, to be emptied
+-- the same of an act by which the router gives up a spare too: the slot of that is the seat's, to be emptied
 abbrev pub LeavesOnSlots : Type 0
 LeavesOnSlots = (k : ℕ) (dirty free : List ℕ) → 1 ≤ k →
-    (count limit slots id i j : ℕ) (b : Bool) (m : Mine) (p : Part) (serial : ℕ) (r : Router) → m.0.parts ≡ p ∷ [] →
-    CanAct p.state serial r router_acts.Leave → lets_go i (side_of b) r router_acts.Leave ≡ true → r.spare ≡ Some j → j ≢ i →
-    LastingSteps (virtual count limit) (sizes count limit k true) (turns_of count limit i (λ n. (p.node, acts.Router serial router_acts.Leave) ∷ [])) slots
+    (count limit slots id i j : ℕ) (b : Bool) (m : Mine) (p : Part) (serial : ℕ) (r : Router) (act : RouterAct) → m.0.parts ≡ p ∷ [] →
+    CanAct p.state serial r act → is_wordless act ≡ true → let_go_end r act ≡ Some (i, side_of b) → let_go_spare r act ≡ Some j →
+    LastingSteps (virtual count limit) (sizes count limit k true) (turns_of count limit i (λ n. (p.node, acts.Router serial act) ∷ [])) slots
     id (own_of m.0 dirty free, m.1) (let_go_word (sizes count limit k true) (i % k)) (λ n. bit_or n (side_bit b))
-    (λ n m'. (◌≡◌ {A = Mine} (m'.0.view, m'.1) (with_part (act_part (acts.Router serial router_acts.Leave) answers.Plain p) m.0, m.1)) ×
+    (λ n m'. (◌≡◌ {A = Mine} (m'.0.view, m'.1) (with_part (act_part (acts.Router serial act) answers.Plain p) m.0, m.1)) ×
     (m'.0.dirty ≡ (j % k) ∷ dirty) × (m'.0.free ≡ free))
 
 -- by these laws, and the rule's own kind
@@ -123,3 +137,7 @@ LettingGoLasts = EndLaws → Touches IsTurns → LetsGoOnSlots
 
 abbrev pub LeavingLasts : Type 0
 LeavingLasts = EndLaws → Touches IsTurns → LeavesOnSlots
+
+-- no slot of such a table is lost: an end of its number is held, or both sides have let it go and it is to be had, or a seat has it
+abbrev pub NoSlotOfItIsLost : Type 0
+NoSlotOfItIsLost = (count limit k : ℕ) → NoSlotIsLost (virtual count limit) (sizes count limit k true)

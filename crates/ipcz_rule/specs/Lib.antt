@@ -1,4 +1,5 @@
 pub mod End
+pub mod GivenUp
 pub mod Kinds
 pub mod Races
 pub mod Rule

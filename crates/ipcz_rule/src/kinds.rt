@@ -1,7 +1,8 @@
 //! The kinds of atomic step of a seat with one node (specs/Kinds). Each function does nothing: its contract says that the step keeps the
 //! rule of the table, what it leaves of its seat, and which turns of the shown world it is: none, or one act of its node. Of a call's it says in
-//! place of turns that ends of link words which nobody held are held by nobody.
+//! place of turns that the ends of link words which are held are those that were, and those of a number that it claims.
 
+ghost use Rattle.std.specs.Prelude.{true};
 ghost use Rattle.ipcz_rule.specs.Kinds.{Loads, Puts, Gets, Closes, PendingCloses, Touches, TouchActs, Marks, Wakes, Unlocks, TriesLock};
 ghost use Rattle.ipcz_rule.specs.Kinds.{LoadsForLock};
 ghost use Rattle.ipcz_rule.specs.Kinds.{IsKept, IsTurns, LoadsForClaim, Dries, Claims, ClaimsForOpen, Opens, Probes, Unprobes, Posts, Looks, LoadsForHand};
@@ -14,17 +15,17 @@ pub fn a_load_keeps_the_rule()
 
 /// A touch is a put that the node doesn't refuse: the node's part gains the item under its number.
 pub fn a_put_keeps_the_rule()
-    ensures { Puts IsKept }
+    ensures { Puts (IsKept true) }
 {}
 
 /// A touch is a get that gives a parcel: the part gains it under its number.
 pub fn a_get_keeps_the_rule()
-    ensures { Gets IsKept }
+    ensures { Gets (IsKept true) }
 {}
 
 /// A touch is a close: the part gains the mark.
 pub fn a_close_keeps_the_rule()
-    ensures { Closes IsKept }
+    ensures { Closes (IsKept true) }
 {}
 
 /// A touch is a close that is pending.
@@ -74,7 +75,7 @@ pub fn a_load_for_a_claim_keeps_the_rule()
 
 /// A claim that is told that no word is left, at any time.
 pub fn a_claim_that_finds_no_slot_keeps_the_rule()
-    ensures { Dries IsKept }
+    ensures { Dries (IsKept true) }
 {}
 
 /// A claim of a proxy's spare.
@@ -84,12 +85,12 @@ pub fn a_claim_keeps_the_rule()
 
 /// The first half of an open.
 pub fn a_claim_for_an_open_keeps_the_rule()
-    ensures { ClaimsForOpen IsKept }
+    ensures { ClaimsForOpen (IsKept true) }
 {}
 
 /// An open, which finds its word empty.
 pub fn an_open_keeps_the_rule()
-    ensures { Opens IsKept }
+    ensures { Opens (IsKept true) }
 {}
 
 /// A probe takes the slot of an empty mailbox.

@@ -5,5 +5,6 @@ pub mod Beginning
 pub mod Discarding
 pub mod Uniting
 pub mod NextNumber
+pub mod NoSlotLost
 pub mod Ordered
 pub mod Returning

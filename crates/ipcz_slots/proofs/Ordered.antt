@@ -10,9 +10,9 @@ use native.Mathlib.Decide.{ℕ_discrete, dec_lt}
 use lib.ListN.{get_elem?}
 use Rattle.atomic_table.specs.Table.{State, Act, Valid, stepped, carried_after, homes_after}
 use Rattle.ipcz_slots.specs.declared.own.Own.{Own}
-use Rattle.ipcz_slots.specs.Slots.{Virtual, Sizes, AreSizes, Laws, Folds, SlotSays, LetGo, Shows, slot_of, let_go_word}
+use Rattle.ipcz_slots.specs.Slots.{Virtual, Sizes, AreSizes, Laws, Folds, of_none, SlotSays, LetGo, Shows, slot_of, let_go_word}
 use Rattle.ipcz_slots.specs.SlotKinds.{ClaimsInOrder}
-use Rattle.ipcz_slots.proofs.Folding.{other_folds, says_still, view_at, own_after, get_or-set_at, shows_slot}
+use Rattle.ipcz_slots.proofs.Folding.{other_folds, says_still, view_at, own_after, owned_after, get_or-set_at, shows_slot}
 
 -- a claim which found the count that it was for
 module _ {S V : Type 0} (x : Virtual S V) (z : Sizes) (laws : Laws x z) (sizes : AreSizes z) (s : State S (Own V)) (t : State S V) (r : x.holds t) (f : Folds x z s t r)
@@ -41,19 +41,20 @@ module _ {S V : Type 0} (x : Virtual S V) (z : Sizes) (laws : Laws x z) (sizes :
   bits1 : (p : ℕ) → slice_index s1.words (let_go_word z p) ≡ slice_index s.words (let_go_word z p)
   bits1 p = get_or-set_other s.words (z.slots + 0) (let_go_word z p) (n + 1) 0 (λ e. let h = sizes.count in omega (arith, e, h))
 
-  slots1 : (p : ℕ) → p < z.slots → SlotSays x z t1 r' p (slice_index s1.words p) (slice_index s1.words (let_go_word z p)) (f.status p)
+  slots1 : (p : ℕ) → p < z.slots → SlotSays x z of_none t1 r' p (slice_index s1.words p) (slice_index s1.words (let_go_word z p)) (f.status p)
   slots1 p l =
       let word : slice_index s1.words p ≡ slice_index s.words p = get_or-set_other s.words (z.slots + 0) p (n + 1) 0 (λ e. omega (arith, e, l)) in
       let shown : f.status p ≡ Shows p = (f.whole order).shows p l in
-      subst (λ k. SlotSays x z t1 r' p k (slice_index s1.words (let_go_word z p)) (f.status p)) (sym word)
-      (subst (λ k. SlotSays x z t1 r' p (slice_index s.words p) k (f.status p)) (sym (bits1 p))
+      subst (λ k. SlotSays x z of_none t1 r' p k (slice_index s1.words (let_go_word z p)) (f.status p)) (sym word)
+      (subst (λ k. SlotSays x z of_none t1 r' p (slice_index s.words p) k (f.status p)) (sym (bits1 p))
       (dite (ℕ_discrete p n)
       (λ e.
-      let was = shows_slot x z t r p (slice_index s.words p) (slice_index s.words (let_go_word z p)) p (f.status p) shown (f.slots p l) in
+      let was = shows_slot x z of_none t r p (slice_index s.words p) (slice_index s.words (let_go_word z p)) p (f.status p) shown (f.slots p l) in
       let none : slice_index s.words (let_go_word z p) ≡ 0 = (f.whole order).fresh p (omega (arith, e, is)) l in
-      subst (λ y. SlotSays x z t1 r' p (slice_index s.words p) (slice_index s.words (let_go_word z p)) y) (sym shown) (was.0, was.1, was.2 ∙ sym (word1 p was.1), subst (λ k. LetGo x t1 r' k p) (sym none) tt))
-      (λ ne. says_still x z t t1 r r' p (slice_index s.words p) (slice_index s.words (let_go_word z p)) (f.status p) (λ i e l1. word1 i l1)
+      subst (λ y. SlotSays x z of_none t1 r' p (slice_index s.words p) (slice_index s.words (let_go_word z p)) y) (sym shown) (was.0, was.1, was.2 ∙ sym (word1 p was.1), subst (λ k. LetGo x t1 r' k p) (sym none) tt, (λ again other. absurd (cc))))
+      (λ ne. says_still x z of_none t t1 r r' p (slice_index s.words p) (slice_index s.words (let_go_word z p)) (f.status p) (λ i e l1. word1 i l1)
       (λ b i e. gone1 b i (λ h. ne ((let k = sym shown ∙ e in cc) ∙ h)))
+      (λ again b i e other g. absurd (cc))
       (f.slots p l))))
 
   rest1 : (k : ℕ) → k < z.others → slice_index s1.words (z.slots + k) ≡ slice_index t1.words (z.limit + k)
@@ -78,6 +79,7 @@ module _ {S V : Type 0} (x : Virtual S V) (z : Sizes) (laws : Laws x z) (sizes :
     slots = slots1;
     others = λ i l. inl (shows1 i l);
     own = own_after z s.views f.status f.status id o1 f.own (λ j1 p ne. ((λ e. e), (λ e. e))) (let w = f.own id o at in record { dirty_is = w.dirty_is; free_is = w.free_is });
+    owned = λ p l. owned_after s.views id o o1 p (f.status p) at (λ h. h) (λ h. h) (f.owned p l);
     whole = λ e. record { shows = (f.whole order).shows; fresh = λ p far l. bits1 p ∙ (f.whole order).fresh p (let h = count1 in omega (arith, far, h, is)) l };
   }
 
@@ -90,7 +92,7 @@ ordered_by : {S V : Type 0} (x : Virtual S V) (z : Sizes) (laws : Laws x z) (siz
 ordered_by x z laws sizes s t r f id o c at v a count m order below is true e r' keep = ordered_folds x z laws sizes s t r f id o c at v a count (is ∙ eqb-true m count e) order below r' keep
 ordered_by x z laws sizes s t r f id o c at v a count m order below is false e r' keep =
     other_folds x z laws sizes s t r f id o c at v a 0 m (let k = sizes.count in omega (arith, k)) r'
-    (get_or-set_at t.words (z.limit + 0) z.limit m (omega arith) (let w = f.tall in let k = sizes.count in omega (arith, w, k)) ∙ sym is) keep
+    (get_or-set_at t.words (z.limit + 0) z.limit m (omega arith) (let w = f.tall in let k = sizes.count in omega (arith, w, k)) ∙ sym is) keep (λ again. absurd (cc))
 
 pub claims_in_order : {S V : Type 0} (x : Virtual S V) (z : Sizes) → Laws x z → AreSizes z → ClaimsInOrder x z
 claims_in_order {S} {V} x z laws sizes g slots id count o c told keep order below steps s l deep at small =

@@ -9,10 +9,10 @@ use lib.ListN.{get_elem?}
 use Rattle.atomic_table.specs.Table.{State, keeps}
 use Rattle.atomic_table.proofs.Lists.{set_again}
 use Rattle.ipcz_slots.specs.declared.own.Own.{Own}
-use Rattle.ipcz_slots.specs.Slots.{Virtual, Sizes, Folds, SlotSays, Status, Shows, Dirty, Free, Spare, slot_of, let_go_word, without_number}
+use Rattle.ipcz_slots.specs.Slots.{Virtual, Sizes, Folds, of_none, HasOwner, SlotSays, Status, Shows, Dirty, Free, Spare, slot_of, let_go_word, without_number}
 use Rattle.ipcz_slots.specs.SlotKinds.{Returns}
-use Rattle.ipcz_slots.proofs.Folding.{view_at, own_after, get_or-set_at}
-use Rattle.ipcz_slots.proofs.Reusing.{status_at, status_here, status_else, still_there}
+use Rattle.ipcz_slots.proofs.Folding.{view_at, own_after, owned_after, get_or-set_at}
+use Rattle.ipcz_slots.proofs.Reusing.{status_at, status_here, status_else, still_there, without_other}
 
 module _ {S V : Type 0} (x : Virtual S V) (z : Sizes) (s : State S (Own V)) (t : State S V) (r : x.holds t) (f : Folds x z s t r)
     (id : ℕ) (o : Own V) (at : get_elem? s.views id ≡ some o) (p : ℕ) (low : p < z.slots) (is : (f.status p ≡ Dirty id) ⊎ (f.status p ≡ Free id)) where
@@ -34,16 +34,16 @@ module _ {S V : Type 0} (x : Virtual S V) (z : Sizes) (s : State S (Own V)) (t :
   not_free : (j : ℕ) → j ≢ id → f.status p ≡ Free j → ⊥
   not_free j ne e = ⊎_elim (λ d. let h = sym e ∙ d in cc) (λ d. let h = sym e ∙ d in ne (cc)) is
 
-  slots1 : (q : ℕ) → q < z.slots → SlotSays x z t r q (slice_index s1.words q) (slice_index s1.words (let_go_word z q)) (status1 q)
+  slots1 : (q : ℕ) → q < z.slots → SlotSays x z of_none t r q (slice_index s1.words q) (slice_index s1.words (let_go_word z q)) (status1 q)
   slots1 q l =
       let word : slice_index s1.words q ≡ slice_index s.words q = get_or-set_other s.words (let_go_word z p) q 3 0 (λ e. omega (arith, e, l)) in
       dite (ℕ_discrete q p)
-      (λ e. subst (λ y. SlotSays x z t r q (slice_index s1.words q) (slice_index s1.words (let_go_word z q)) y) (sym (status_here f.status p Spare q e))
+      (λ e. subst (λ y. SlotSays x z of_none t r q (slice_index s1.words q) (slice_index s1.words (let_go_word z q)) y) (sym (status_here f.status p Spare q e))
       (get_or-set_at s.words (let_go_word z p) (let_go_word z q) 3 (omega (arith, e)) (let w = f.wide in omega (arith, w, low))))
       (λ ne. let bits : slice_index s1.words (let_go_word z q) ≡ slice_index s.words (let_go_word z q) = get_or-set_other s.words (let_go_word z p) (let_go_word z q) 3 0 (λ e. ne (omega (arith, e))) in
-      subst (λ y. SlotSays x z t r q (slice_index s1.words q) (slice_index s1.words (let_go_word z q)) y) (sym (status_else f.status p Spare q ne))
-      (subst (λ k. SlotSays x z t r q k (slice_index s1.words (let_go_word z q)) (f.status q)) (sym word)
-      (subst (λ k. SlotSays x z t r q (slice_index s.words q) k (f.status q)) (sym bits) (f.slots q l))))
+      subst (λ y. SlotSays x z of_none t r q (slice_index s1.words q) (slice_index s1.words (let_go_word z q)) y) (sym (status_else f.status p Spare q ne))
+      (subst (λ k. SlotSays x z of_none t r q k (slice_index s1.words (let_go_word z q)) (f.status q)) (sym word)
+      (subst (λ k. SlotSays x z of_none t r q (slice_index s.words q) k (f.status q)) (sym bits) (f.slots q l))))
 
   pub returned : Folds x z s1 t r
   returned = record {
@@ -67,6 +67,10 @@ module _ {S V : Type 0} (x : Virtual S V) (z : Sizes) (s : State S (Own V)) (t :
           dirty_is = λ q h. let there = still_there o.dirty p q h in let k = w.dirty_is q there.1 in (k.0, status_else f.status p Spare q there.0 ∙ k.1);
           free_is = λ q h. let there = still_there o.free p q h in let k = w.free_is q there.1 in (k.0, status_else f.status p Spare q there.0 ∙ k.1);
         });
+    owned = λ q l. dite (ℕ_discrete q p)
+        (λ e. subst (HasOwner s1.views q) (sym (status_here f.status p Spare q e)) tt)
+        (λ ne. subst (HasOwner s1.views q) (sym (status_else f.status p Spare q ne)) (owned_after s.views id o o1 q (f.status q) at
+        (λ h. without_other o.dirty p q ne ∙ h) (λ h. without_other o.free p q ne ∙ h) (f.owned q l)));
     whole = λ e. absurd (not_shown p ((f.whole e).shows p low));
   }
 

@@ -9,11 +9,11 @@ use mathlib.Core.Logic.{dite}
 use native.Mathlib.Decide.{ℕ_discrete, dec_lt}
 use lib.ListN.{get_elem?}
 use Rattle.atomic_table.specs.Table.{State, Me, Act, Valid, stepped, carried_after, homes_after, keeps}
-use Rattle.atomic_table.proofs.Lists.{set_again}
+use Rattle.atomic_table.proofs.Lists.{set_again, set_here}
 use Rattle.ipcz_slots.specs.declared.own.Own.{Own}
-use Rattle.ipcz_slots.specs.Slots.{Virtual, Sizes, AreSizes, Lasting, Laws, Unused, Folds, SlotSays, LetGo, Status, Shows, Dirty, Free, slot_of, let_go_word, has_number, without_number}
-use Rattle.ipcz_slots.specs.SlotKinds.{Known, Reclaims, Empties, Claims, Skips, claimed_own, Keeps}
-use Rattle.ipcz_slots.proofs.Folding.{other_folds, says_still, view_at, own_after, get_or-set_at, shows_slot}
+use Rattle.ipcz_slots.specs.Slots.{Virtual, Sizes, AreSizes, Lasting, Laws, Unused, Folds, of_none, HasOwner, SlotSays, LetGo, NotLetGo, Status, Shows, Dirty, Free, slot_of, let_go_word, has_number, without_number}
+use Rattle.ipcz_slots.specs.SlotKinds.{Known, Reclaims, Empties, Claims, Skips, Takes, claimed_own, Keeps, LosesNone}
+use Rattle.ipcz_slots.proofs.Folding.{other_folds, says_still, view_at, own_after, owned_after, at_inside, lost_stays, get_or-set_at, shows_slot}
 
 itself_by : (b : Bool) (js : List ℕ) (i j : ℕ) → nat_eq j i ≡ b → has_number (without_number js i) i ≡ false → has_number (cond b (without_number js i) (j ∷ without_number js i)) i ≡ false
 itself_by true js i j e h = h
@@ -28,7 +28,7 @@ other_by : (b : Bool) (js : List ℕ) (i j k : ℕ) → k ≢ i → nat_eq j i �
 other_by true js i j k ne e h = let apart : nat_eq k j ≡ false = grind (arith, e, ne, nat_tests) in h ∙ sym (ap (λ b. b || has_number js k) apart)
 other_by false js i j k ne e h = ap (λ b. nat_eq k j || b) h
 
-without_other : (js : List ℕ) (i k : ℕ) → k ≢ i → has_number (without_number js i) k ≡ has_number js k
+pub without_other : (js : List ℕ) (i k : ℕ) → k ≢ i → has_number (without_number js i) k ≡ has_number js k
 without_other [] i k ne = refl
 without_other (j ∷ js) i k ne = other_by (nat_eq j i) js i j k ne refl (without_other js i k ne)
 
@@ -42,6 +42,17 @@ still_there js i k h = dite (ℕ_discrete k i)
 pub one_more : (js : List ℕ) (i k : ℕ) → has_number (i ∷ js) k ≡ true → (k ≡ i) ⊎ (has_number js k ≡ true)
 one_more js i k h = dite (ℕ_discrete k i) (λ e. inl e)
     (λ ne. inr (let apart : nat_eq k i ≡ false = grind (arith, ne, nat_tests) in sym (ap (λ b. b || has_number js k) apart) ∙ h))
+
+-- a list has what it has one more of, and what it had
+pub has_first : (js : List ℕ) (i : ℕ) → has_number (i ∷ js) i ≡ true
+has_first js i = let h : nat_eq i i ≡ true = grind (arith, nat_tests) in ap (λ b. b || has_number js i) h
+
+pub has_more : (js : List ℕ) (i k : ℕ) → has_number js k ≡ true → has_number (i ∷ js) k ≡ true
+has_more js i k h = ap (λ b. nat_eq k i || b) h ∙ or_true (nat_eq k i)
+  where
+    or_true : (b : Bool) → (b || true) ≡ true
+    or_true true = refl
+    or_true false = refl
 
 -- one slot is for something else
 abbrev pub status_at : (ℕ → Status) → ℕ → Status → ℕ → Status
@@ -67,27 +78,27 @@ module _ {S V : Type 0} (x : Virtual S V) (z : Sizes) (sizes : AreSizes z) (s : 
 
   -- it was nobody's
   not_dirty : (j : ℕ) → f.status p ≡ Dirty j → ⊥
-  not_dirty j e = let h : slice_index s.words (let_go_word z p) ≡ 0 = subst (λ y. SlotSays x z t r p (slice_index s.words p) (slice_index s.words (let_go_word z p)) y) e (f.slots p low) in omega (arith, h, three)
+  not_dirty j e = let h : slice_index s.words (let_go_word z p) ≡ 0 = subst (λ y. SlotSays x z of_none t r p (slice_index s.words p) (slice_index s.words (let_go_word z p)) y) e (f.slots p low) in omega (arith, h, three)
 
   not_free : (j : ℕ) → f.status p ≡ Free j → ⊥
   not_free j e =
-      let h : (slice_index s.words (let_go_word z p) ≡ 0) × (slice_index s.words p ≡ 0) = subst (λ y. SlotSays x z t r p (slice_index s.words p) (slice_index s.words (let_go_word z p)) y) e (f.slots p low) in
+      let h : (slice_index s.words (let_go_word z p) ≡ 0) × (slice_index s.words p ≡ 0) = subst (λ y. SlotSays x z of_none t r p (slice_index s.words p) (slice_index s.words (let_go_word z p)) y) e (f.slots p low) in
       let a = h.0 in omega (arith, a, three)
 
-  slots5 : (q : ℕ) → q < z.slots → SlotSays x z t r q (slice_index s5.words q) (slice_index s5.words (let_go_word z q)) (status5 q)
+  slots5 : (q : ℕ) → q < z.slots → SlotSays x z of_none t r q (slice_index s5.words q) (slice_index s5.words (let_go_word z q)) (status5 q)
   slots5 q l = dite (ℕ_discrete q p)
-      (λ e. subst (λ y. SlotSays x z t r q (slice_index s5.words q) (slice_index s5.words (let_go_word z q)) y) (sym (status_here f.status p (Dirty id) q e))
+      (λ e. subst (λ y. SlotSays x z of_none t r q (slice_index s5.words q) (slice_index s5.words (let_go_word z q)) y) (sym (status_here f.status p (Dirty id) q e))
       (get_or-set_at s.words (let_go_word z p) (let_go_word z q) 0 (omega (arith, e)) (let w = f.wide in omega (arith, w, low))))
       (λ ne. let word : slice_index s5.words q ≡ slice_index s.words q = get_or-set_other s.words (let_go_word z p) q 0 0 (λ e. omega (arith, e, l)) in
       let bits : slice_index s5.words (let_go_word z q) ≡ slice_index s.words (let_go_word z q) = get_or-set_other s.words (let_go_word z p) (let_go_word z q) 0 0 (λ e. ne (omega (arith, e))) in
-      subst (λ y. SlotSays x z t r q (slice_index s5.words q) (slice_index s5.words (let_go_word z q)) y) (sym (status_else f.status p (Dirty id) q ne))
-      (subst (λ k. SlotSays x z t r q k (slice_index s5.words (let_go_word z q)) (f.status q)) (sym word)
-      (subst (λ k. SlotSays x z t r q (slice_index s.words q) k (f.status q)) (sym bits) (f.slots q l))))
+      subst (λ y. SlotSays x z of_none t r q (slice_index s5.words q) (slice_index s5.words (let_go_word z q)) y) (sym (status_else f.status p (Dirty id) q ne))
+      (subst (λ k. SlotSays x z of_none t r q k (slice_index s5.words (let_go_word z q)) (f.status q)) (sym word)
+      (subst (λ k. SlotSays x z of_none t r q (slice_index s.words q) k (f.status q)) (sym bits) (f.slots q l))))
 
   unused5 : (i : ℕ) → f.status (slot_of z i) ≡ Shows i → slot_of z i ≡ p → Unused x t r i
   unused5 i e h =
       let shown : f.status p ≡ Shows i = ap f.status (sym h) ∙ e in
-      subst (λ k. LetGo x t r k i) three (shows_slot x z t r p (slice_index s.words p) (slice_index s.words (let_go_word z p)) i (f.status p) shown (f.slots p low)).3
+      subst (λ k. LetGo x t r k i) three (shows_slot x z of_none t r p (slice_index s.words p) (slice_index s.words (let_go_word z p)) i (f.status p) shown (f.slots p low)).3
 
   pub reclaimed : Folds x z s5 t r
   reclaimed = record {
@@ -114,6 +125,9 @@ module _ {S V : Type 0} (x : Virtual S V) (z : Sizes) (sizes : AreSizes z) (s : 
               (one_more o.dirty p q h);
           free_is = λ q h. let k = w.free_is q h in (k.0, dite (ℕ_discrete q p) (λ e. absurd (not_free id (ap f.status (sym e) ∙ k.1))) (λ ne. status_else f.status p (Dirty id) q ne ∙ k.1));
         });
+    owned = λ q l. dite (ℕ_discrete q p)
+        (λ e. subst (HasOwner s5.views q) (sym (status_here f.status p (Dirty id) q e)) (o5, set_here s.views id o5 (at_inside s.views id o at), ap (λ n. has_number (p ∷ o.dirty) n) e ∙ has_first o.dirty p))
+        (λ ne. subst (HasOwner s5.views q) (sym (status_else f.status p (Dirty id) q ne)) (owned_after s.views id o o5 q (f.status q) at (has_more o.dirty p q) (λ h. h) (f.owned q l)));
     whole = λ e. absurd (cc);
   }
 
@@ -163,18 +177,18 @@ module _ {S V : Type 0} (x : Virtual S V) (z : Sizes) (sizes : AreSizes z) (s : 
   is6 : f.status p ≡ Dirty id
   is6 = ((f.own id o at).dirty_is p has).1
 
-  slots6 : (q : ℕ) → q < z.slots → SlotSays x z t r q (slice_index s6.words q) (slice_index s6.words (let_go_word z q)) (status6 q)
+  slots6 : (q : ℕ) → q < z.slots → SlotSays x z of_none t r q (slice_index s6.words q) (slice_index s6.words (let_go_word z q)) (status6 q)
   slots6 q l =
       let bits : slice_index s6.words (let_go_word z q) ≡ slice_index s.words (let_go_word z q) = get_or-set_other s.words p (let_go_word z q) 0 0 (λ e. let h = low6 in omega (arith, e, h)) in
       dite (ℕ_discrete q p)
-      (λ e. subst (λ y. SlotSays x z t r q (slice_index s6.words q) (slice_index s6.words (let_go_word z q)) y) (sym (status_here f.status p (Free id) q e)) (
-        bits ∙ subst (λ y. SlotSays x z t r q (slice_index s.words q) (slice_index s.words (let_go_word z q)) y) (ap f.status e ∙ is6) (f.slots q l),
+      (λ e. subst (λ y. SlotSays x z of_none t r q (slice_index s6.words q) (slice_index s6.words (let_go_word z q)) y) (sym (status_here f.status p (Free id) q e)) (
+        bits ∙ subst (λ y. SlotSays x z of_none t r q (slice_index s.words q) (slice_index s.words (let_go_word z q)) y) (ap f.status e ∙ is6) (f.slots q l),
         get_or-set_at s.words p q 0 e (let w = f.wide in let h = low6 in omega (arith, w, h)),
       ))
       (λ ne. let word : slice_index s6.words q ≡ slice_index s.words q = get_or-set_other s.words p q 0 0 ne in
-      subst (λ y. SlotSays x z t r q (slice_index s6.words q) (slice_index s6.words (let_go_word z q)) y) (sym (status_else f.status p (Free id) q ne))
-      (subst (λ k. SlotSays x z t r q k (slice_index s6.words (let_go_word z q)) (f.status q)) (sym word)
-      (subst (λ k. SlotSays x z t r q (slice_index s.words q) k (f.status q)) (sym bits) (f.slots q l))))
+      subst (λ y. SlotSays x z of_none t r q (slice_index s6.words q) (slice_index s6.words (let_go_word z q)) y) (sym (status_else f.status p (Free id) q ne))
+      (subst (λ k. SlotSays x z of_none t r q k (slice_index s6.words (let_go_word z q)) (f.status q)) (sym word)
+      (subst (λ k. SlotSays x z of_none t r q (slice_index s.words q) k (f.status q)) (sym bits) (f.slots q l))))
 
   not_shown : (i : ℕ) → f.status p ≡ Shows i → ⊥
   not_shown i e = let h = sym e ∙ is6 in cc
@@ -210,6 +224,9 @@ module _ {S V : Type 0} (x : Virtual S V) (z : Sizes) (sizes : AreSizes z) (s : 
               (λ had. let k = w.free_is q had in (k.0, status_else f.status p (Free id) q (λ e. not_freed id (ap f.status (sym e) ∙ k.1)) ∙ k.1))
               (one_more o.free p q h);
         });
+    owned = λ q l. dite (ℕ_discrete q p)
+        (λ e. subst (HasOwner s6.views q) (sym (status_here f.status p (Free id) q e)) (o6, set_here s.views id o6 (at_inside s.views id o at), ap (λ n. has_number (p ∷ o.free) n) e ∙ has_first o.free p))
+        (λ ne. subst (HasOwner s6.views q) (sym (status_else f.status p (Free id) q ne)) (owned_after s.views id o o6 q (f.status q) at (λ h. without_other o.dirty p q ne ∙ h) (has_more o.free p q) (f.owned q l)));
     whole = λ e. absurd (let h = sym ((f.whole e).shows p low6) ∙ is6 in cc);
   }
 
@@ -228,7 +245,9 @@ module _ {S V : Type 0} (x : Virtual S V) (z : Sizes) (laws : Laws x z) (sizes :
     (id : ℕ) (o : Own V) (c : List (ℕ × S)) (at : get_elem? s.views id ≡ some o) (v : V) (a : Act S) (n : ℕ) (up : slice_index t.words z.limit ≤ n) (below : n < z.limit)
     (has : has_number o.free (slot_of z n) ≡ true) (r' : x.holds (stepped t (z.limit + 0) (n + 1) id c v a))
     (keep : (b : Bool) (i : ℕ) → i < slice_index t.words z.limit → x.gone t r b i → x.gone (stepped t (z.limit + 0) (n + 1) id c v a) r' b i)
-    (skip : (b : Bool) (i : ℕ) → slice_index t.words z.limit ≤ i → i < n → x.gone (stepped t (z.limit + 0) (n + 1) id c v a) r' b i) where
+    (skip : (b : Bool) (i : ℕ) → slice_index t.words z.limit ≤ i → i < n → x.gone (stepped t (z.limit + 0) (n + 1) id c v a) r' b i)
+    (lose : z.reuses ≡ true → (b : Bool) (i : ℕ) → i < slice_index t.words z.limit → x.gone (stepped t (z.limit + 0) (n + 1) id c v a) r' b i → x.gone t r b i)
+    (held : (b : Bool) → x.gone (stepped t (z.limit + 0) (n + 1) id c v a) r' b n → ⊥) where
   abbrev t7 : State S V
   t7 = stepped t (z.limit + 0) (n + 1) id c v a
 
@@ -261,23 +280,25 @@ module _ {S V : Type 0} (x : Virtual S V) (z : Sizes) (laws : Laws x z) (sizes :
   word7 : (i : ℕ) → i < z.limit → slice_index t7.words i ≡ slice_index t.words i
   word7 i l = get_or-set_other t.words (z.limit + 0) i (n + 1) 0 (λ e. omega (arith, e, l))
 
-  slots7 : (q : ℕ) → q < z.slots → SlotSays x z t7 r' q (slice_index s7.words q) (slice_index s7.words (let_go_word z q)) (status7 q)
+  slots7 : (q : ℕ) → q < z.slots → SlotSays x z of_none t7 r' q (slice_index s7.words q) (slice_index s7.words (let_go_word z q)) (status7 q)
   slots7 q l =
       let word : slice_index s7.words q ≡ slice_index s.words q = get_or-set_other s.words (z.slots + 0) q (n + 1) 0 (λ e. omega (arith, e, l)) in
       let bits : slice_index s7.words (let_go_word z q) ≡ slice_index s.words (let_go_word z q) = get_or-set_other s.words (z.slots + 0) (let_go_word z q) (n + 1) 0 (λ e. let h = sizes.count in omega (arith, e, h)) in
-      subst (λ k. SlotSays x z t7 r' q k (slice_index s7.words (let_go_word z q)) (status7 q)) (sym word)
-      (subst (λ k. SlotSays x z t7 r' q (slice_index s.words q) k (status7 q)) (sym bits)
+      subst (λ k. SlotSays x z of_none t7 r' q k (slice_index s7.words (let_go_word z q)) (status7 q)) (sym word)
+      (subst (λ k. SlotSays x z of_none t7 r' q (slice_index s.words q) k (status7 q)) (sym bits)
       (dite (ℕ_discrete q p7)
-      (λ e. let empty : (slice_index s.words (let_go_word z q) ≡ 0) × (slice_index s.words q ≡ 0) = subst (λ y. SlotSays x z t r q (slice_index s.words q) (slice_index s.words (let_go_word z q)) y) (ap f.status e ∙ is7) (f.slots q l) in
-      subst (λ y. SlotSays x z t7 r' q (slice_index s.words q) (slice_index s.words (let_go_word z q)) y) (sym (status_here f.status p7 (Shows n) q e)) (
+      (λ e. let empty : (slice_index s.words (let_go_word z q) ≡ 0) × (slice_index s.words q ≡ 0) = subst (λ y. SlotSays x z of_none t r q (slice_index s.words q) (slice_index s.words (let_go_word z q)) y) (ap f.status e ∙ is7) (f.slots q l) in
+      subst (λ y. SlotSays x z of_none t7 r' q (slice_index s.words q) (slice_index s.words (let_go_word z q)) y) (sym (status_here f.status p7 (Shows n) q e)) (
         sym e,
         below,
         empty.1 ∙ sym (word7 n below ∙ laws.empty t r n up below),
         subst (λ k. LetGo x t7 r' k n) (sym empty.0) tt,
+        λ again other. subst (λ k. NotLetGo x t7 r' k n) (sym empty.0) (held false, held true),
       ))
-      (λ ne. subst (λ y. SlotSays x z t7 r' q (slice_index s.words q) (slice_index s.words (let_go_word z q)) y) (sym (status_else f.status p7 (Shows n) q ne))
-      (says_still x z t t7 r r' q (slice_index s.words q) (slice_index s.words (let_go_word z q)) (f.status q) (λ i e l1. word7 i l1)
-      (λ b i e. gone7 b i (λ h. ne (sym (shows_slot x z t r q (slice_index s.words q) (slice_index s.words (let_go_word z q)) i (f.status q) e (f.slots q l)).0 ∙ ap (slot_of z) h)))
+      (λ ne. subst (λ y. SlotSays x z of_none t7 r' q (slice_index s.words q) (slice_index s.words (let_go_word z q)) y) (sym (status_else f.status p7 (Shows n) q ne))
+      (says_still x z of_none t t7 r r' q (slice_index s.words q) (slice_index s.words (let_go_word z q)) (f.status q) (λ i e l1. word7 i l1)
+      (λ b i e. gone7 b i (λ h. ne (sym (shows_slot x z of_none t r q (slice_index s.words q) (slice_index s.words (let_go_word z q)) i (f.status q) e (f.slots q l)).0 ∙ ap (slot_of z) h)))
+      (λ again b i e other. lost_stays x z laws t t7 r r' (lose again) b i)
       (f.slots q l)))))
 
   not_shown7 : (i : ℕ) → f.status p7 ≡ Shows i → ⊥
@@ -323,18 +344,24 @@ module _ {S V : Type 0} (x : Virtual S V) (z : Sizes) (laws : Laws x z) (sizes :
           dirty_is = λ q h. let k = w.dirty_is q h in (k.0, status_else f.status p7 (Shows n) q (λ e. not_dirty7 id (ap f.status (sym e) ∙ k.1)) ∙ k.1);
           free_is = λ q h. let there = still_there o.free p7 q h in let k = w.free_is q there.1 in (k.0, status_else f.status p7 (Shows n) q there.0 ∙ k.1);
         });
+    owned = λ q l. dite (ℕ_discrete q p7)
+        (λ e. subst (HasOwner s7.views q) (sym (status_here f.status p7 (Shows n) q e)) tt)
+        (λ ne. subst (HasOwner s7.views q) (sym (status_else f.status p7 (Shows n) q ne)) (owned_after s.views id o o7 q (f.status q) at (λ h. h) (λ h. without_other o.free p7 q ne ∙ h) (f.owned q l)));
     whole = λ e. absurd (let h = sym ((f.whole e).shows p7 low7) ∙ is7 in cc);
   }
 
 -- a claim of a number whose slot is free
 module _ {S V : Type 0} (x : Virtual S V) (z : Sizes) (laws : Laws x z) (sizes : AreSizes z) (g h : Known x) (slots id count n : ℕ) (o : Own V) (c : List (ℕ × S))
-    (hit : Me S V → Type 0) (miss : ℕ → Me S V → Type 0) (keep : Keeps x z g) (skip : Skips x z g n) (stay : Keeps x z h) (up : count ≤ n) (below : n < z.limit) (has : has_number o.free (slot_of z n) ≡ true)
+    (hit : Me S V → Type 0) (miss : ℕ → Me S V → Type 0) (keep : Keeps x z g) (lose : LosesNone x z id o.view g) (skip : Skips x z g n) (take : Takes x id o.view g n) (stay : Keeps x z h) (stay_lose : LosesNone x z id o.view h) (up : count ≤ n) (below : n < z.limit) (has : has_number o.free (slot_of z n) ≡ true)
     (s : State S (Own V)) (l : Lasting x z s) (at : get_elem? s.views id ≡ some o) where
   abbrev old8 : ℕ
   old8 = slice_index l.0.words z.limit
 
   abbrev i8 : ℕ
   i8 = z.limit + 0
+
+  at8 : get_elem? l.0.views id ≡ some o.view
+  at8 = view_at x z s l.0 l.1 l.2 id o at
 
   -- what the step of the virtual table is for this number found and this outcome
   abbrev V8 : Bool → ℕ → Type 0
@@ -354,7 +381,15 @@ module _ {S V : Type 0} (x : Virtual S V) (z : Sizes) (laws : Laws x z) (sizes :
         claimed_own z n o st.0,
         st.1,
         subst (λ hs. Valid hs c st.1) (sym l.2.homes) st.2,
-        ((t', st.3.0, claimed_folds x z laws sizes s l.0 l.1 l.2 id o c at st.0 st.1 n (omega (arith, up, is_count)) below has st.3.0 (keep l.0 l.1 t' st.3.0 st.3.1) (skip l.0 l.1 t' st.3.0 st.3.1)), st.3.1),
+        (
+          (
+            t',
+            st.3.0,
+            claimed_folds x z laws sizes s l.0 l.1 l.2 id o c at st.0 st.1 n (omega (arith, up, is_count)) below has st.3.0 (keep l.0 l.1 t' st.3.0 st.3.1) (skip l.0 l.1 t' st.3.0 st.3.1)
+                (λ again. lose again l.0 l.1 t' st.3.0 at8 st.3.1) (take l.0 l.1 t' st.3.0 at8 st.3.1),
+          ),
+          st.3.1,
+        ),
         (refl, (st.4, refl)),
       )
   folded8 false m e is st =
@@ -363,12 +398,12 @@ module _ {S V : Type 0} (x : Virtual S V) (z : Sizes) (laws : Laws x z) (sizes :
         record { view = st.0; dirty = o.dirty; free = o.free },
         st.1,
         subst (λ hs. Valid hs c st.1) (sym l.2.homes) st.2,
-        ((t', st.3.0, other_folds x z laws sizes s l.0 l.1 l.2 id o c at st.0 st.1 0 m (let k = sizes.count in omega (arith, k)) st.3.0 same (stay l.0 l.1 t' st.3.0 st.3.1)), st.3.1),
+        ((t', st.3.0, other_folds x z laws sizes s l.0 l.1 l.2 id o c at st.0 st.1 0 m (let k = sizes.count in omega (arith, k)) st.3.0 same (stay l.0 l.1 t' st.3.0 st.3.1) (λ again. stay_lose again l.0 l.1 t' st.3.0 at8 st.3.1)), st.3.1),
         (refl, (st.4, refl)),
       )
 
 pub claims : {S V : Type 0} (x : Virtual S V) (z : Sizes) → Laws x z → AreSizes z → Claims x z
-claims {S} {V} x z laws sizes g h slots id count n o c hit miss keep skip stay up below has steps s l deep at small =
+claims {S} {V} x z laws sizes g h slots id count n o c hit miss keep lose skip take stay stay_lose up below has steps s l deep at small =
     let t = l.0 in
     let r = l.1 in
     let m : ℕ = slice_index s.words (z.slots + 0) in
@@ -383,7 +418,7 @@ claims {S} {V} x z laws sizes g h slots id count n o c hit miss keep skip stay u
     MatchBool (eqb k2 count) (hit (v, carried_after c a)) (miss k2 (v, carried_after c a)) in
     let raw : Raw old (slice_index t.words i) = steps t r (ap length (sym l.2.homes) ∙ deep) (view_at x z s t r l.2 id o at) (subst (λ k. k < 18446744073709551616) (sym found) small) in
     let st : Raw m m = subst (λ k. Raw k m) is (subst (λ k. Raw old k) found raw) in
-    let done = folded8 x z laws sizes g h slots id count n o c hit miss keep skip stay up below has s l at (eqb m count) m refl is st in (
+    let done = folded8 x z laws sizes g h slots id count n o c hit miss keep lose skip take stay stay_lose up below has s l at (eqb m count) m refl is st in (
       done.0,
       done.1,
       done.2,

@@ -25,6 +25,18 @@ Keeps {S} {V} x z g =
     (t : State S V) (r : x.holds t) (t' : State S V) (r' : x.holds t') → g t r t' r' → (b : Bool) (i : ℕ) → i < slice_index t.words z.limit →
     x.gone t r b i → x.gone t' r' b i
 
+-- and where slots are used again, an end that is somewhere, as the seat knows: none becomes nowhere
+abbrev pub LosesNone : {S V : Type 0} (x : Virtual S V) → Sizes → (id : ℕ) → V → Known x → Type 0
+LosesNone {S} {V} x z id v g =
+    z.reuses ≡ true → (t : State S V) (r : x.holds t) (t' : State S V) (r' : x.holds t') → get_elem? t.views id ≡ some v → g t r t' r' → (b : Bool) (i : ℕ) →
+    i < slice_index t.words z.limit → x.gone t' r' b i → x.gone t r b i
+
+-- or none but those that are told
+abbrev pub LosesBut : {S V : Type 0} (x : Virtual S V) → Sizes → (id : ℕ) → V → (Bool → ℕ → Type 0) → Known x → Type 0
+LosesBut {S} {V} x z id v but g =
+    z.reuses ≡ true → (t : State S V) (r : x.holds t) (t' : State S V) (r' : x.holds t') → get_elem? t.views id ≡ some v → g t r t' r' → (b : Bool) (i : ℕ) →
+    i < slice_index t.words z.limit → (but b i → ⊥) → x.gone t' r' b i → x.gone t r b i
+
 -- what a seat has beside its view stays
 abbrev pub same_own : {S V : Type 0} → (o : Own V) → (ℕ → Me S V → Type 0) → ℕ → Me S (Own V) → Type 0
 same_own o told n m' = told n (m'.0.view, m'.1) × (m'.0.dirty ≡ o.dirty) × (m'.0.free ≡ o.free)
@@ -46,7 +58,8 @@ LastingSteps {S} {V} x z g slots id me i f told =
 -- a step on a word behind the link words which leaves the claim count: that of the virtual table
 abbrev pub OtherSteps : {S V : Type 0} → Virtual S V → Sizes → Type 1
 OtherSteps {S} {V} x z =
-    (g : Known x) (slots id : ℕ) (o : Own V) (c : List (ℕ × S)) (j : ℕ) (f : ℕ → ℕ) (told : ℕ → Me S V → Type 0) → Keeps x z g → j < z.others →
+    (g : Known x) (slots id : ℕ) (o : Own V) (c : List (ℕ × S)) (j : ℕ) (f : ℕ → ℕ) (told : ℕ → Me S V → Type 0) → Keeps x z g → LosesNone x z id o.view g →
+    j < z.others →
     ((n : ℕ) → j ≡ 0 → f n ≡ n) → Steps x g slots id (o.view, c) (z.limit + j) f told →
     LastingSteps x z g slots id (o, c) (z.slots + j) f (same_own o told)
 
@@ -57,7 +70,8 @@ HasSlot x z id v i = Lives x z id v i ⊎ ((z.reuses ≡ false) × (i < z.limit)
 -- a step on the word of a number that has a slot: that of the virtual table on its word, here on its slot
 abbrev pub LinkSteps : {S V : Type 0} → Virtual S V → Sizes → Type 1
 LinkSteps {S} {V} x z =
-    (g : Known x) (slots id : ℕ) (o : Own V) (c : List (ℕ × S)) (i : ℕ) (f : ℕ → ℕ) (told : ℕ → Me S V → Type 0) → Keeps x z g → HasSlot x z id o.view i →
+    (g : Known x) (slots id : ℕ) (o : Own V) (c : List (ℕ × S)) (i : ℕ) (f : ℕ → ℕ) (told : ℕ → Me S V → Type 0) → Keeps x z g → LosesNone x z id o.view g →
+    HasSlot x z id o.view i →
     Steps x g slots id (o.view, c) i f told → LastingSteps x z g slots id (o, c) (slot_of z i) f (same_own o told)
 
 -- the bit of a side in a let-go word
@@ -65,10 +79,11 @@ abbrev pub side_bit : Bool → ℕ
 side_bit false = 1
 side_bit true = 2
 
--- an act by which the end of a number at a side is let go: a touch of the virtual table, here the side's bit in the let-go word
+-- an act by which the end of a number at a side is let go, and no other: a touch of the virtual table, here the side's bit in the let-go word
 abbrev pub LetsGo : {S V : Type 0} → Virtual S V → Sizes → Type 1
 LetsGo {S} {V} x z =
-    (g : Known x) (slots id : ℕ) (o : Own V) (c : List (ℕ × S)) (i : ℕ) (b : Bool) (told : Me S V → Type 0) → Keeps x z g → Lives x z id o.view i →
+    (g : Known x) (slots id : ℕ) (o : Own V) (c : List (ℕ × S)) (i : ℕ) (b : Bool) (told : Me S V → Type 0) → Keeps x z g →
+    LosesBut x z id o.view (λ d k. (d ≡ b) × (k ≡ i)) g → Lives x z id o.view i →
     ((t : State S V) (r : x.holds t) (t' : State S V) (r' : x.holds t') → get_elem? t.views id ≡ some o.view → g t r t' r' → x.gone t' r' b i) →
     Steps x g slots id (o.view, c) i (λ n. n) (λ n m'. told m') →
     LastingSteps x z g slots id (o, c) (let_go_word z (slot_of z i)) (λ n. bit_or n (side_bit b)) (same_own o (λ n m'. told m'))
@@ -101,6 +116,11 @@ Skips {S} {V} x z g n =
     (t : State S V) (r : x.holds t) (t' : State S V) (r' : x.holds t') → g t r t' r' → (b : Bool) (i : ℕ) → slice_index t.words z.limit ≤ i → i < n →
     x.gone t' r' b i
 
+-- both its ends are somewhere then
+abbrev pub Takes : {S V : Type 0} (x : Virtual S V) → (id : ℕ) → V → Known x → ℕ → Type 0
+Takes {S} {V} x id v g n =
+    (t : State S V) (r : x.holds t) (t' : State S V) (r' : x.holds t') → get_elem? t.views id ≡ some v → g t r t' r' → (b : Bool) → x.gone t' r' b n → ⊥
+
 -- the view after a claim of a number
 abbrev pub claimed_own : {V : Type 0} → Sizes → ℕ → Own V → V → Own V
 claimed_own z n o v = record { view = v; dirty = o.dirty; free = without_number o.free (slot_of z n) }
@@ -108,8 +128,8 @@ claimed_own z n o v = record { view = v; dirty = o.dirty; free = without_number 
 -- a claim of a number whose slot is free: the count is exchanged for the next number, if it is what was found before; else the step was a load
 abbrev pub Claims : {S V : Type 0} → Virtual S V → Sizes → Type 1
 Claims {S} {V} x z =
-    (g h : Known x) (slots id count n : ℕ) (o : Own V) (c : List (ℕ × S)) (hit : Me S V → Type 0) (miss : ℕ → Me S V → Type 0) → Keeps x z g → Skips x z g n → Keeps x z h →
-    count ≤ n → n < z.limit → has_number o.free (slot_of z n) ≡ true →
+    (g h : Known x) (slots id count n : ℕ) (o : Own V) (c : List (ℕ × S)) (hit : Me S V → Type 0) (miss : ℕ → Me S V → Type 0) → Keeps x z g → LosesNone x z id o.view g → Skips x z g n →
+    Takes x id o.view g n → Keeps x z h → LosesNone x z id o.view h → count ≤ n → n < z.limit → has_number o.free (slot_of z n) ≡ true →
     Steps x (λ t r t' r'. MatchBool (eqb (slice_index t.words z.limit) count) (g t r t' r') (h t r t' r')) slots id (o.view, c) (z.limit + 0)
     (λ m. either (eqb m count) (n + 1) m) (λ m m'. MatchBool (eqb m count) (hit m') (miss m m')) →
     LastingSteps x z (λ t r t' r'. MatchBool (eqb (slice_index t.words z.limit) count) (g t r t' r') (h t r t' r')) slots id (o, c) (z.slots + 0)
@@ -133,16 +153,17 @@ LivesWhole {S} {V} x z id v j =
 -- emptied
 abbrev pub LetsGoWhole : {S V : Type 0} → Virtual S V → Sizes → Type 1
 LetsGoWhole {S} {V} x z =
-    (g : Known x) (slots id : ℕ) (o : Own V) (c : List (ℕ × S)) (i j : ℕ) (b : Bool) (told : Me S V → Type 0) → Keeps x z g → z.reuses ≡ true → Lives x z id o.view i →
-    LivesWhole x z id o.view j → j ≢ i →
+    (g : Known x) (slots id : ℕ) (o : Own V) (c : List (ℕ × S)) (i j : ℕ) (b : Bool) (told : Me S V → Type 0) → Keeps x z g → LosesBut x z id o.view (λ d k. ((d ≡ b) × (k ≡ i)) ⊎ (k ≡ j)) g →
+    z.reuses ≡ true → Lives x z id o.view i → LivesWhole x z id o.view j →
+    ((t : State S V) (r : x.holds t) → get_elem? t.views id ≡ some o.view → j ≢ i) →
     ((t : State S V) (r : x.holds t) (t' : State S V) (r' : x.holds t') → get_elem? t.views id ≡ some o.view → g t r t' r' →
     x.gone t' r' b i × Unused x t' r' j) →
     Steps x g slots id (o.view, c) i (λ n. n) (λ n m'. told m') →
     LastingSteps x z g slots id (o, c) (let_go_word z (slot_of z i)) (λ n. bit_or n (side_bit b))
     (λ n m'. told (m'.0.view, m'.1) × (m'.0.dirty ≡ slot_of z j ∷ o.dirty) × (m'.0.free ≡ o.free))
 
--- the table at the start: each slot shows its own number; if slots are used again, both sides of those that aren't claimed yet count as having let
--- go
+-- the table at the start: each slot shows its own number; if slots are used again, both ends of those that are claimed are somewhere, and both
+-- sides of the others count as having let go
 pub record Begins {S V : Type 0} (x : Virtual S V) (z : Sizes) (s : State S (Own V)) (t : State S V) (r : x.holds t) : Type 0 where
   pub wide : length s.words ≡ z.slots + z.others + z.slots
   pub tall : length t.words ≡ z.limit + z.others
@@ -154,10 +175,15 @@ pub record Begins {S V : Type 0} (x : Virtual S V) (z : Sizes) (s : State S (Own
   pub links : (p : ℕ) → p < z.slots → slice_index s.words p ≡ slice_index t.words p
   pub claimed : (p : ℕ) → p < slice_index t.words z.limit → slice_index s.words (let_go_word z p) ≡ 0
   pub unclaimed : (p : ℕ) → slice_index t.words z.limit ≤ p → p < z.slots → slice_index s.words (let_go_word z p) ≡ cond z.reuses 3 0
+  pub held : z.reuses ≡ true → (b : Bool) (p : ℕ) → p < slice_index t.words z.limit → x.gone t r b p → ⊥
   pub none : (id : ℕ) (o : Own V) → get_elem? s.views id ≡ some o → (o.dirty ≡ []) × (o.free ≡ [])
 
 abbrev pub Starts : {S V : Type 0} → Virtual S V → Sizes → Type 0
 Starts {S} {V} x z = (s : State S (Own V)) (t : State S V) (r : x.holds t) → Begins x z s t r → Lasting x z s
+
+-- the same ends are nowhere
+abbrev pub SameEnds : {S V : Type 0} (x : Virtual S V) (t : State S V) → x.holds t → (t' : State S V) → x.holds t' → Type 0
+SameEnds x t r t' r' = ((b : Bool) (i : ℕ) → x.gone t r b i → x.gone t' r' b i) × ((b : Bool) (i : ℕ) → x.gone t' r' b i → x.gone t r b i)
 
 -- a seat is dealt a part of a view, and its slots stay where they are
 abbrev pub Deals : {S V : Type 0} → Virtual S V → Sizes → Type 0
@@ -165,7 +191,7 @@ Deals {S} {V} x z =
     (id : ℕ) (o : Own V) (left right : V) →
     ((t : State S V) (r : x.holds t) → get_elem? t.views id ≡ some o.view →
     (r' : x.holds (record { words = t.words; homes = t.homes; views = slice_set t.views id left ++ right ∷ [] })) ×
-    ((b : Bool) (i : ℕ) → x.gone t r b i → x.gone (record { words = t.words; homes = t.homes; views = slice_set t.views id left ++ right ∷ [] }) r' b i)) →
+    SameEnds x t r (record { words = t.words; homes = t.homes; views = slice_set t.views id left ++ right ∷ [] }) r') →
     Splits (Lasting x z) id o (record { view = left; dirty = o.dirty; free = o.free }) (record { view = right; dirty = []; free = [] })
 
 -- a seat takes in the view of another, and its slots
@@ -174,5 +200,5 @@ JoinsSeats {S} {V} x z =
     (id other : ℕ) (o p : Own V) (both spent : V) →
     ((t : State S V) (r : x.holds t) → get_elem? t.views id ≡ some o.view → ¬ (other ≡ id) → get_elem? (slice_set t.views id both) other ≡ some p.view →
     (r' : x.holds (record { words = t.words; homes = t.homes; views = slice_set (slice_set t.views id both) other spent })) ×
-    ((b : Bool) (i : ℕ) → x.gone t r b i → x.gone (record { words = t.words; homes = t.homes; views = slice_set (slice_set t.views id both) other spent }) r' b i)) →
+    SameEnds x t r (record { words = t.words; homes = t.homes; views = slice_set (slice_set t.views id both) other spent }) r') →
     Joins (Lasting x z) id o other p (record { view = both; dirty = o.dirty ++ p.dirty; free = o.free ++ p.free }) (record { view = spent; dirty = []; free = [] })

@@ -11,4 +11,4 @@ touch-requires-clause-node g c = let number = number_inside _ _ _ _ c.requires.s
 pub touch-requires-clause-may : goal.touch-requires-clause-may
 touch-requires-clause-may g c =
     let was = c.requires.seated in
-    may_by _ _ _ _ _ _ (λ n. n) _ _ c.requires.picked ((puts c.args.profile _ _ _ _ _ _ _ c.args.at c.args.bytes c.args.ends was.whole (ap (λ (z : Node). put_refusal c.args.profile z c.args.at c.args.bytes c.args.ends) was.state ∙ c.in_ok-n.ensures.allowed)))
+    may_by _ _ _ _ _ _ _ (λ n. n) _ _ c.requires.picked ((puts _ c.args.profile _ _ _ _ _ _ _ c.args.at c.args.bytes c.args.ends was.whole (ap (λ (z : Node). put_refusal c.args.profile z c.args.at c.args.bytes c.args.ends) was.state ∙ c.in_ok-n.ensures.allowed)))

@@ -6,7 +6,7 @@ use Rattle.ipcz_rule.specs.Lasting.{LastingRules}
 use Rattle.ipcz_slots.specs.Slots.{let_go_word}
 use Rattle.ipcz_cell.specs.Lettings.{bit_of_side}
 use Rattle.ipcz_cell.specs.Seats.{mine_of, sizes_of}
-use Rattle.ipcz_cell.proofs.Slotting.{Told, slots_stay}
+use Rattle.ipcz_cell.proofs.Slotting.{Told, slots_are}
 use Rattle.ipcz_cell.proofs.letting.let_go_step.Goals as goal
 
 pub fetch_or-requires : goal.fetch_or-requires
@@ -20,5 +20,5 @@ fetch_or-requires g c =
       c.requires.own ∙ sym f.0,
       omega (arith, wide, inside),
       subst (λ (b : ℕ). Allows (LastingRules c.fabric.inside.table.shared.key.nodes c.fabric.inside.table.shared.key.words c.fabric.inside.table.shared.key.slots c.fabric.inside.table.shared.key.reuses) c.fabric.inside.table.shared.table_id.slots c.args.seat.now.id c.args.seat.now.me c.let_go_word-word.result (λ k. bit_or k b) (Told t (g.X.Outcome.tells (mine_of c.args.seat.now.me)) c.args.seat.now.me)) (sym c.side_bit.ensures)
-          (slots_stay _ _ _ _ _ _ (let_go_word (sizes_of t) (c.args.number % t.slots)) t c.args.seat.now.id c.args.seat.now.me (λ k. bit_or k (bit_of_side c.args.side)) (g.X.Outcome.tells (mine_of c.args.seat.now.me)) f.1 f.2 f.6 f.7 (ap (λ (z : TableId). z.slots) f.0) at c.requires.may),
+          (slots_are _ _ _ _ _ _ (let_go_word (sizes_of t) (c.args.number % t.slots)) t c.args.seat.now.id c.args.seat.now.me (λ k. bit_or k (bit_of_side c.args.side)) (g.X.Outcome.tells (mine_of c.args.seat.now.me)) c.args.seat.now.me.0.dirty c.args.seat.now.me.0.free f.1 f.2 f.6 f.7 (ap (λ (z : TableId). z.slots) f.0) at c.requires.may),
     )

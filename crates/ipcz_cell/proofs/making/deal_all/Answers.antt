@@ -34,9 +34,11 @@ invariant_of-push_reserved g c =
     let nodes = c.fabric.invariant.3 in
     let below : c.loop-node.node < g.F.FabricName.table.count = omega (arith, c.loop-node-test.true, nodes) in
     let taken = body-taken _ _ _ _ _ _ below l.left c.pop_front.ensures.items c.in-Some.is in
-    let body = c.body.view_is ∙ taken.0 in
-    first-cell _ out c.loop-node.node below _ _ _ _ _ c.deal-own.ensures.table.1 c.deal-own.ensures.dealt (ap (λ (m : Mine). m.0.parts) l.me)
-    (ap (λ (b : BodyValue). b.node) body) (ap (λ (b : BodyValue). b.probed) body)
+    let body = c.body.view_is ∙ taken.0 in (
+      first-cell _ out c.loop-node.node below _ _ _ _ _ c.deal-own.ensures.table.1 c.deal-own.ensures.dealt (ap (λ (m : Mine). m.0.parts) l.me)
+          (ap (λ (b : BodyValue). b.node) body) (ap (λ (b : BodyValue). b.probed) body),
+      c.deal-own.ensures.none,
+    )
 
 pub loop-node-preserved : goal.loop-node-preserved
 loop-node-preserved g c =

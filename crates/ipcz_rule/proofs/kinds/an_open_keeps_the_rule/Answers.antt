@@ -1,5 +1,6 @@
+use Rattle.std.specs.Prelude.{true}
 use Rattle.ipcz_rule.proofs.Opening.{opens}
 use Rattle.ipcz_rule.proofs.kinds.an_open_keeps_the_rule.Goals as goal
 
 pub returns : goal.returns
-returns c = opens
+returns c = opens true

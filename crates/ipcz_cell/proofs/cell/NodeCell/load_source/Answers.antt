@@ -4,20 +4,21 @@ use Rattle.ipcz_cell.specs.CellStates.{CellState, part_in}
 use Rattle.ipcz_cell.specs.Mails.{old_named}
 use Rattle.ipcz_cell.proofs.Mailing.{seen_cell}
 use Rattle.ipcz_cell.proofs.Sources.{loads_none, loads_one, message_named}
+use Rattle.ipcz_cell.proofs.Slotting.{none_then}
 use Rattle.ipcz_cell.proofs.cell.NodeCell.load_source.Goals as goal
 use Rattle.ipcz_cell.specs.Seats.{mine_of}
 
 pub returns-in_default : goal.returns-in_default
 returns-in_default g c =
     loads_none g.F.FabricName.table.size c.args.from c.args.self.now
-    (ap (λ (z : CellState). old_named z.part.message) (sym c.self.view_is) ∙ (ap old_named c.self.invariant.message ∙ (sym c.old_word.ensures ∙ c.in_default.is)))
+    (ap (λ (z : CellState). old_named z.part.message) (sym c.self.view_is) ∙ (ap old_named c.self.invariant.0.message ∙ (sym c.old_word.ensures ∙ c.in_default.is)))
 
 pub source_here-found-requires-clause-hand : goal.source_here-found-requires-clause-hand
 source_here-found-requires-clause-hand g c = ap (λ (z : CellState). z.part.state.hand) c.self.view_is ∙ c.requires
 
 pub source_here-found-requires-clause-message : goal.source_here-found-requires-clause-message
 source_here-found-requires-clause-message g c =
-    message_named (part_in c.self.inside.seat.me.0.view).message c.in-Some.old (ap old_named c.self.invariant.message ∙ (sym c.old_word.ensures ∙ c.in-Some.is))
+    message_named (part_in c.self.inside.seat.me.0.view).message c.in-Some.old (ap old_named c.self.invariant.0.message ∙ (sym c.old_word.ensures ∙ c.in-Some.is))
 
 pub source_here-found-requires-clause-inside : goal.source_here-found-requires-clause-inside
 source_here-found-requires-clause-inside g c = let words = c.fabric.invariant.4 in let less = c.if-old-fabric.false in omega (arith, words, less)
@@ -25,11 +26,11 @@ source_here-found-requires-clause-inside g c = let words = c.fabric.invariant.4 
 pub invariant_of-self : goal.invariant_of-self
 invariant_of-self g c =
     let done = c.source_here-found.ensures in
-    seen_cell g.F.FabricName.table _ _ _ _ _ c.self.invariant _ (mine_of c.source_here-found.new.seat.me) done.table done.sound c.in-Some.old c.source_here-found.result done.done.2
+    (seen_cell g.F.FabricName.table _ _ _ _ _ c.self.invariant.0 _ (mine_of c.source_here-found.new.seat.me) done.table done.sound c.in-Some.old c.source_here-found.result done.done.2, none_then c.source_here-found.ensures.slots c.self.invariant.1)
 
 pub returns : goal.returns
 returns g c =
-    let was = c.self.invariant in
+    let was = c.self.invariant.0 in
     let done = c.source_here-found.ensures.done in
     let i = c.in-Some.old in
     let n = c.source_here-found.result in

@@ -6,6 +6,7 @@ use Rattle.ipcz_cell.specs.Mails.{mail_word, slot_of}
 use Rattle.ipcz_cell.specs.Outcomes.{is_itself}
 use Rattle.ipcz_cell.proofs.Seating.{number_is, number_inside}
 use Rattle.ipcz_cell.proofs.Mailing.{told_hit, told_miss, probed_cell, probe_tells, load_tells}
+use Rattle.ipcz_cell.proofs.Slotting.{none_then}
 use Rattle.ipcz_cell.proofs.cell.NodeCell.mail_probe.Goals as goal
 use Rattle.ipcz_cell.specs.Seats.{mine_of}
 
@@ -14,7 +15,7 @@ probe_here-found-requires-clause-picked g c = is_itself _
 
 pub probe_here-found-requires-clause-node : goal.probe_here-found-requires-clause-node
 probe_here-found-requires-clause-node g c =
-    let was = c.self.invariant.seated in
+    let was = c.self.invariant.0.seated in
     let same = number_is _ _ _ _ was in
     let inside = number_inside _ _ _ _ was in
     let is = c.number.ensures in
@@ -22,18 +23,18 @@ probe_here-found-requires-clause-node g c =
 
 pub invariant_of-self-2 : goal.invariant_of-self-2
 invariant_of-self-2 g c =
-    let was = c.self.invariant in
+    let was = c.self.invariant.0 in
     let t = g.F.FabricName.table in
     let to = c.args.to in
     let done = c.probe_here-found.ensures in
     let node : c.number.result ≡ (part_in c.self.inside.seat.me.0.view).node = c.number.ensures ∙ number_is _ _ _ _ was.seated in
     let hit = told_hit _ 0 _ _ c.if-found-ne0.false done.done in
     let cell = probed_cell _ _ _ _ _ _ was _ _ done.table done.sound (mail_word t c.number.result to) (slot_of t c.number.result to) to _ c.requires (ap (λ (n : ℕ). n * t.count + to) node) hit in
-    subst (λ (l : List ℕ). IsCell t c.self.inside.state.node c.self.inside.message l c.probe_here-found.new.seat.table_id (mine_of c.probe_here-found.new.seat.me)) (sym c.add.ensures) cell
+    (subst (λ (l : List ℕ). IsCell t c.self.inside.state.node c.self.inside.message l c.probe_here-found.new.seat.table_id (mine_of c.probe_here-found.new.seat.me)) (sym c.add.ensures) cell, none_then c.probe_here-found.ensures.slots c.self.invariant.1)
 
 pub returns : goal.returns
 returns g c =
-    let was = c.self.invariant in
+    let was = c.self.invariant.0 in
     let t = g.F.FabricName.table in
     let to = c.args.to in
     let node : c.number.result ≡ c.args.self.now.part.node = c.number.ensures ∙ (number_is _ _ _ _ was.seated ∙ ap (λ (z : CellState). z.part.node) c.self.view_is) in
@@ -43,7 +44,7 @@ returns g c =
 
 pub returns-then-found-ne0 : goal.returns-then-found-ne0
 returns-then-found-ne0 g c =
-    let was = c.self.invariant in
+    let was = c.self.invariant.0 in
     let t = g.F.FabricName.table in
     let to = c.args.to in
     let node : c.number.result ≡ c.args.self.now.part.node = c.number.ensures ∙ (number_is _ _ _ _ was.seated ∙ ap (λ (z : CellState). z.part.node) c.self.view_is) in

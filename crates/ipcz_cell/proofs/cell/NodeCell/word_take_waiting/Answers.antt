@@ -11,15 +11,16 @@ use Rattle.ipcz_cell.specs.CellStates.{CellState, part_in}
 use Rattle.ipcz_cell.specs.Words.{CanWord}
 use Rattle.ipcz_cell.proofs.Seating.{own_sound}
 use Rattle.ipcz_cell.proofs.Wording.{wake_answers, acted_cell}
+use Rattle.ipcz_cell.proofs.Slotting.{none_then}
 use Rattle.ipcz_cell.proofs.cell.NodeCell.word_take_waiting.Goals as goal
 use Rattle.ipcz_cell.specs.Seats.{mine_of}
 
 pub wake_here-found-requires-clause-can : goal.wake_here-found-requires-clause-can
-wake_here-found-requires-clause-can g c = subst (λ (z : Node). CanWord z c.args.serial c.word_named-i.result.1 router_acts.Wake c.word_named-i.result.0) (sym c.self.invariant.seated.state) c.word_named-i.ensures.can
+wake_here-found-requires-clause-can g c = subst (λ (z : Node). CanWord z c.args.serial c.word_named-i.result.1 router_acts.Wake c.word_named-i.result.0) (sym c.self.invariant.0.seated.state) c.word_named-i.ensures.can
 
 pub wake_here-found-requires-clause-inside : goal.wake_here-found-requires-clause-inside
 wake_here-found-requires-clause-inside g c =
-    let was = c.self.invariant.seated in
+    let was = c.self.invariant.0.seated in
     let can = subst (λ (z : Node). CanWord z c.args.serial c.word_named-i.result.1 router_acts.Wake c.word_named-i.result.0) (sym was.state) c.word_named-i.ensures.can in
     (own_sound _ _ _ _ was).primary c.args.serial can.router c.word_named-i.result.0 can.can.there can.primary
 
@@ -28,14 +29,16 @@ commit_word-requires-clause-answer g c = wake_answers _ _ None _ c.answer_act-an
 
 pub invariant_of-self : goal.invariant_of-self
 invariant_of-self g c =
-    let was = c.self.invariant in
-    let done = c.wake_here-found.ensures in
-    acted_cell g.F.FabricName.table _ _ _ _ (mine_of c.self.inside.seat.me) was _ (mine_of c.wake_here-found.new.seat.me) done.table done.sound c.commit_word.new.state.node c.word_named-i.result.0 c.args.serial c.wake_here-found.result c.word_named-i.result.1 None router_acts.Wake c.answer_act-answered.result.answer done.done.2 c.answer_act-answered.ensures.answer
-    c.commit_word.ensures
+    let was = c.self.invariant.0 in
+    let done = c.wake_here-found.ensures in (
+      acted_cell g.F.FabricName.table _ _ _ _ (mine_of c.self.inside.seat.me) was _ (mine_of c.wake_here-found.new.seat.me) done.table done.sound c.commit_word.new.state.node c.word_named-i.result.0 c.args.serial c.wake_here-found.result c.word_named-i.result.1 None router_acts.Wake c.answer_act-answered.result.answer done.done.2 c.answer_act-answered.ensures.answer
+          c.commit_word.ensures,
+      none_then c.wake_here-found.ensures.slots c.self.invariant.1,
+    )
 
 pub returns : goal.returns
 returns g c =
-    let was = c.self.invariant in
+    let was = c.self.invariant.0 in
     let done = c.wake_here-found.ensures.done in
     let side = c.word_named-i.result.1 in record {
       word = c.word_named-i.result.0;

@@ -13,6 +13,7 @@ use Rattle.ipcz_cell.specs.Words.{CanWord}
 use Rattle.ipcz_cell.proofs.Seating.{own_sound}
 use Rattle.ipcz_cell.proofs.Wording.{unlock_answers, acted_cell}
 use Rattle.ipcz_node.proofs.Growing.{grows_not}
+use Rattle.ipcz_cell.proofs.Slotting.{none_then}
 use Rattle.ipcz_cell.proofs.cell.NodeCell.word_unlock.Goals as goal
 use Rattle.ipcz_cell.specs.Seats.{mine_of}
 
@@ -20,11 +21,11 @@ pub word_here-i-requires-clause-grows : goal.word_here-i-requires-clause-grows
 word_here-i-requires-clause-grows g c = grows_not _ c.args.serial router_acts.Unlock refl
 
 pub unlock_here-found-requires-clause-can : goal.unlock_here-found-requires-clause-can
-unlock_here-found-requires-clause-can g c = subst (λ (z : Node). CanWord z c.args.serial c.word_here-i.result.1 router_acts.Unlock c.word_here-i.result.0) (sym c.self.invariant.seated.state) c.word_here-i.ensures.can
+unlock_here-found-requires-clause-can g c = subst (λ (z : Node). CanWord z c.args.serial c.word_here-i.result.1 router_acts.Unlock c.word_here-i.result.0) (sym c.self.invariant.0.seated.state) c.word_here-i.ensures.can
 
 pub unlock_here-found-requires-clause-inside : goal.unlock_here-found-requires-clause-inside
 unlock_here-found-requires-clause-inside g c =
-    let was = c.self.invariant.seated in
+    let was = c.self.invariant.0.seated in
     let can = subst (λ (z : Node). CanWord z c.args.serial c.word_here-i.result.1 router_acts.Unlock c.word_here-i.result.0) (sym was.state) c.word_here-i.ensures.can in
     (own_sound _ _ _ _ was).primary c.args.serial can.router c.word_here-i.result.0 can.can.there can.primary
 
@@ -33,14 +34,16 @@ commit_word-requires-clause-answer g c = unlock_answers _ _ None _ c.answer_act-
 
 pub invariant_of-self : goal.invariant_of-self
 invariant_of-self g c =
-    let was = c.self.invariant in
-    let done = c.unlock_here-found.ensures in
-    acted_cell g.F.FabricName.table _ _ _ _ (mine_of c.self.inside.seat.me) was _ (mine_of c.unlock_here-found.new.seat.me) done.table done.sound c.commit_word.new.state.node c.word_here-i.result.0 c.args.serial c.unlock_here-found.result c.word_here-i.result.1 None router_acts.Unlock c.answer_act-answered.result.answer done.done.2 c.answer_act-answered.ensures.answer
-    (c.commit_word.ensures ∙ ap (λ (z : Node). commit z (acts.Router c.args.serial router_acts.Unlock) c.answer_act-answered.result.answer) c.word_here-i.ensures.node)
+    let was = c.self.invariant.0 in
+    let done = c.unlock_here-found.ensures in (
+      acted_cell g.F.FabricName.table _ _ _ _ (mine_of c.self.inside.seat.me) was _ (mine_of c.unlock_here-found.new.seat.me) done.table done.sound c.commit_word.new.state.node c.word_here-i.result.0 c.args.serial c.unlock_here-found.result c.word_here-i.result.1 None router_acts.Unlock c.answer_act-answered.result.answer done.done.2 c.answer_act-answered.ensures.answer
+          (c.commit_word.ensures ∙ ap (λ (z : Node). commit z (acts.Router c.args.serial router_acts.Unlock) c.answer_act-answered.result.answer) c.word_here-i.ensures.node),
+      none_then c.unlock_here-found.ensures.slots c.self.invariant.1,
+    )
 
 pub returns : goal.returns
 returns g c =
-    let was = c.self.invariant in
+    let was = c.self.invariant.0 in
     let done = c.unlock_here-found.ensures.done in
     let side = c.word_here-i.result.1 in record {
       word = c.word_here-i.result.0;
