@@ -62,17 +62,18 @@ open_later t p to first found h = record { mail = h.mail; free = λ e. last_late
 
 -- loads, one after the other
 looked_none : (a : CellState) → HasLooked [] a a
-looked_none a = record { part = refl; room = refl; seen = sym (append-nil a.seen) }
+looked_none a = record { part = refl; room = refl; looked = refl; seen = sym (append-nil a.seen) }
 
 looked_more : (first found : Loads) (a b c : CellState) → HasLooked first a b → HasLooked found b c → HasLooked (first ++ found) a c
 looked_more first found a b c h k = record {
   part = k.part ∙ h.part;
   room = k.room ∙ h.room;
+  looked = k.looked ∙ h.looked;
   seen = k.seen ∙ (ap (λ (l : Loads). l ++ found) h.seen ∙ append_assoc a.seen first found);
 }
 
 looked_one : (word n : ℕ) (a b : CellState) → HasSeen word n a b → HasLooked ((word, n) ∷ []) a b
-looked_one word n a b h = record { part = h.part; room = h.room; seen = h.seen }
+looked_one word n a b h = record { part = h.part; room = h.room; looked = h.looked; seen = h.seen }
 
 -- the mailboxes to a node from each below another were loaded, and none was full
 pub record LooksFull (t : TableName) (old now : CellState) (end : ℕ) : Type 0 where

@@ -39,10 +39,10 @@ bit_goes : (t : TableName) (id : ℕ) (m : Me Slot (Own View)) (serial : ℕ) (d
     IsPicked told (touched (act_part (acts.Router serial deed) answers.Plain)) → m.0.view.parts ≡ part_in m.0.view ∷ [] → is_touch_act (acts.Router serial deed) ≡ true →
     CanAct (part_in m.0.view).state serial r deed → let_go_end r deed ≡ Some (i, side_of b) → let_go_spare r deed ≡ None →
     Allows (LastingRules t.count t.size t.slots t.reuses) t.id.slots id m (let_go_word (sizes_of t) (i % t.slots)) (λ n. bit_or n (side_bit b))
-    (λ n m'. told (mine_of m) n (mine_of m') × (m'.0.dirty ≡ m.0.dirty) × (m'.0.free ≡ m.0.free))
+    (λ n m'. told (mine_of m) n (mine_of m') × (m'.0.dirty ≡ m.0.dirty) × (m'.0.free ≡ m.0.free) × (m'.0.looked ≡ m.0.looked))
 bit_goes t id m serial deed r i b told laid picked whole touch can gives none s l deep there small =
-    let h = letting_go ends touches_acts_turns t.slots t.reuses m.0.dirty m.0.free t.count t.size t.id.slots id i b (mine_of m) (part_in m.0.view) serial r deed whole can touch gives none (are_sizes t laid) s l deep there small in
-    (h.0, h.1, h.2, h.3.0, (picked.said (mine_of m) _ _ h.4.0, h.4.1, h.4.2))
+    let h = letting_go ends touches_acts_turns t.slots t.reuses m.0.dirty m.0.free m.0.looked t.count t.size t.id.slots id i b (mine_of m) (part_in m.0.view) serial r deed whole can touch gives none (are_sizes t laid) s l deep there small in
+    (h.0, h.1, h.2, h.3.0, (picked.said (mine_of m) _ _ h.4.0, h.4.1, h.4.2, h.4.3))
 
 end_by : (t : TableName) (id : ℕ) (m : Me Slot (Own View)) (serial : ℕ) (deed : RouterAct) (r : Router) (i : ℕ) (side : Side) (told : Tells) → IsLaidOut t →
     IsPicked told (touched (act_part (acts.Router serial deed) answers.Plain)) → m.0.view.parts ≡ part_in m.0.view ∷ [] → is_touch_act (acts.Router serial deed) ≡ true →
@@ -70,13 +70,13 @@ bit_leaves : (t : TableName) (id : ℕ) (m : Me Slot (Own View)) (serial : ℕ) 
     IsPicked told (touched (act_part (acts.Router serial deed) answers.Plain)) → m.0.view.parts ≡ part_in m.0.view ∷ [] → is_touch_act (acts.Router serial deed) ≡ true →
     CanAct (part_in m.0.view).state serial r deed → let_go_end r deed ≡ Some (i, side_of b) → let_go_spare r deed ≡ Some j →
     Allows (LastingRules t.count t.size t.slots t.reuses) t.id.slots id m (let_go_word (sizes_of t) (i % t.slots)) (λ n. bit_or n (side_bit b))
-    (λ n m'. told (mine_of m) n (mine_of m') × (m'.0.dirty ≡ (j % t.slots) ∷ m.0.dirty) × (m'.0.free ≡ m.0.free))
+    (λ n m'. told (mine_of m) n (mine_of m') × (m'.0.dirty ≡ (j % t.slots) ∷ m.0.dirty) × (m'.0.free ≡ m.0.free) × (m'.0.looked ≡ m.0.looked))
 bit_leaves t id m serial deed r i j b told laid again picked whole touch can gives spare =
     subst (λ (z : Bool). Allows (LastingRules t.count t.size t.slots z) t.id.slots id m (let_go_word (sizes_of t) (i % t.slots)) (λ n. bit_or n (side_bit b))
-    (λ n m'. told (mine_of m) n (mine_of m') × (m'.0.dirty ≡ (j % t.slots) ∷ m.0.dirty) × (m'.0.free ≡ m.0.free))) (sym again)
+    (λ n m'. told (mine_of m) n (mine_of m') × (m'.0.dirty ≡ (j % t.slots) ∷ m.0.dirty) × (m'.0.free ≡ m.0.free) × (m'.0.looked ≡ m.0.looked))) (sym again)
     (λ s l deep there small.
-    let h = leaving ends touches_acts_turns t.slots m.0.dirty m.0.free (laid.reused again) t.count t.size t.id.slots id i j b (mine_of m) (part_in m.0.view) serial r deed whole can touch gives spare s l deep there small in
-    (h.0, h.1, h.2, h.3.0, (picked.said (mine_of m) _ _ h.4.0, h.4.1, h.4.2)))
+    let h = leaving ends touches_acts_turns t.slots m.0.dirty m.0.free m.0.looked (laid.reused again) t.count t.size t.id.slots id i j b (mine_of m) (part_in m.0.view) serial r deed whole can touch gives spare s l deep there small in
+    (h.0, h.1, h.2, h.3.0, (picked.said (mine_of m) _ _ h.4.0, h.4.1, h.4.2, h.4.3)))
 
 spare_by : (t : TableName) (id : ℕ) (m : Me Slot (Own View)) (serial : ℕ) (deed : RouterAct) (r : Router) (i j : ℕ) (side : Side) (told : Tells) → IsLaidOut t → t.reuses ≡ true →
     IsPicked told (touched (act_part (acts.Router serial deed) answers.Plain)) → m.0.view.parts ≡ part_in m.0.view ∷ [] → is_touch_act (acts.Router serial deed) ≡ true →

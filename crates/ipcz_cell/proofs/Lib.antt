@@ -19,6 +19,7 @@ pub mod Unions
 pub mod Counting
 pub mod FirstActs
 pub mod LockTries
+mod Looking
 pub mod TurnWords
 pub mod TurnActs
 pub mod TurnParts

@@ -68,24 +68,25 @@ module _ (t : TableName) (n : Node) (hand : Option Message) (tos : List ℕ) (id
       }
 
 -- what a cell's clauses see of a seat
-abbrev pub shown : Mine → NodeRoom → CellState
-shown m room = record { part = part_in m.0; seen = m.0.seen; room = room }
+abbrev pub shown : Mine → NodeRoom → List ℕ → CellState
+shown m room looked = record { part = part_in m.0; seen = m.0.seen; room = room; looked = looked }
 
 -- what a probe tells
-pub probe_tells : (i i' k to found : ℕ) (me me' : Mine) (room room' : NodeRoom) (old : CellState) → shown me room ≡ old → has_number (part_in me.0).probed to ≡ false → found ≡ 0 → i' ≡ i →
-    me' ≡ (change_part (probe_part to) (saw i' found me.0), (k, None) ∷ me.1) → IsProbed i to old (shown me' room')
-probe_tells i i' k to found me me' room room' old view absent zero_found at done =
-    let new = shown me' room' in
-    let is : IsProbed i to (shown me room) new = subst (λ (b : Bool). MatchBool b ((new.part ≡ part_in me.0) × (new.seen ≡ me.0.seen)) ((new.part ≡ probe_part to (part_in me.0)) × (new.seen ≡ me.0.seen ++ (i, 0) ∷ []))) (sym absent)
+pub probe_tells : {l : List ℕ} (i i' k to found : ℕ) (me me' : Mine) (room room' : NodeRoom) (old : CellState) → shown me room l ≡ old → has_number (part_in me.0).probed to ≡ false → found ≡ 0 → i' ≡ i →
+    me' ≡ (change_part (probe_part to) (saw i' found me.0), (k, None) ∷ me.1) → IsProbed i to old (shown me' room' l)
+probe_tells {l} i i' k to found me me' room room' old view absent zero_found at done =
+    let new = shown me' room' l in
+    let is : IsProbed i to (shown me room l) new = subst (λ (b : Bool). MatchBool b ((new.part ≡ part_in me.0) × (new.seen ≡ me.0.seen)) ((new.part ≡ probe_part to (part_in me.0)) × (new.seen ≡ me.0.seen ++ (i, 0) ∷ []))) (sym absent)
     (ap (λ (m : Mine). part_in m.0) done, ap (λ (m : Mine). m.0.seen) done ∙ (λ j. me.0.seen ++ (at j, zero_found j) ∷ [])) in
     subst (λ (o : CellState). IsProbed i to o new) view is
 
 -- what a load tells
-pub load_tells : (i i' found : ℕ) (me me' : Mine) (room room' : NodeRoom) (old : CellState) → shown me room ≡ old → room' ≡ room → i' ≡ i → me' ≡ (saw i' found me.0, me.1) → HasSeen i found old (shown me' room')
-load_tells i i' found me me' room room' old view kept at done =
-    subst (λ (o : CellState). HasSeen i found o (shown me' room')) view (record {
+pub load_tells : {l l' : List ℕ} (i i' found : ℕ) (me me' : Mine) (room room' : NodeRoom) (old : CellState) → shown me room l ≡ old → room' ≡ room → l' ≡ l → i' ≡ i → me' ≡ (saw i' found me.0, me.1) → HasSeen i found old (shown me' room' l')
+load_tells {l} {l'} i i' found me me' room room' old view kept still at done =
+    subst (λ (o : CellState). HasSeen i found o (shown me' room' l')) view (record {
       part = ap (λ (m : Mine). part_in m.0) done;
       room = kept;
+      looked = still;
       seen = ap (λ (m : Mine). m.0.seen) done ∙ ap (λ (z : ℕ). me.0.seen ++ (z, found) ∷ []) at;
     })
 
@@ -131,9 +132,9 @@ source_may t id old m sender told picked whole hand x message named small =
     (h.0, h.1, h.2, h.3, (links_are_words t.count t.size s r old small, h.4.0, h.4.1)))
 
 -- what a look tells
-pub look_tells : (i i' k sender found : ℕ) (x : Message) (me m1 m3 : Mine) (room room' : NodeRoom) (old : CellState) → shown me room ≡ old → found ≡ 1 → i' ≡ i →
+pub look_tells : {l : List ℕ} (i i' k sender found : ℕ) (x : Message) (me m1 m3 : Mine) (room room' : NodeRoom) (old : CellState) → shown me room l ≡ old → found ≡ 1 → i' ≡ i →
     m1 ≡ (change_part (look_part sender x) (saw i' found me.0), (k, Some x) ∷ me.1) → m3.0 ≡ m1.0 → (y : Message) × (part_in m3.0 ≡ look_part sender y old.part) × (m3.0.seen ≡ old.seen ++ (i, 1) ∷ [])
-look_tells i i' k sender found x me m1 m3 room room' old view one at done same = (
+look_tells {l} i i' k sender found x me m1 m3 room room' old view one at done same = (
   x,
   (ap part_in same ∙ (ap (λ (m : Mine). part_in m.0) done ∙ ap (λ (o : CellState). look_part sender x o.part) view)),
   (ap (λ (v : View). v.seen) same ∙ (ap (λ (m : Mine). m.0.seen) done ∙ ((λ j. me.0.seen ++ (at j, one j) ∷ []) ∙ ap (λ (o : CellState). o.seen ++ (i, 1) ∷ []) view))),

@@ -45,14 +45,14 @@ none_for : (t : TableName) (n : ℕ) (o : Own View) → HasSlotFor t n o → t.r
 none_for t n o has order = has.1 ∙ ap (λ (b : Bool). cond b (n % t.slots ∷ []) []) order
 
 -- the slots behind a claim: none if the count was found, and else those that there were
-left_by : (b : Bool) (m m' : Me Slot (Own View)) (p : ℕ) (A B : Type 0) → m.0.dirty ≡ [] → m.0.free ≡ p ∷ [] → m'.0.dirty ≡ m.0.dirty →
+left_by : (b : Bool) (m m' : Me Slot (Own View)) (p : ℕ) (A B : Type 0) → m.0.dirty ≡ [] → m.0.free ≡ p ∷ [] → m'.0.dirty ≡ m.0.dirty → m'.0.looked ≡ m.0.looked →
     MatchBool b (A × (m'.0.free ≡ without_number m.0.free p)) (B × (m'.0.free ≡ m.0.free)) → MatchBool b (HasNoSlots m'.0) (SlotsStay m m')
-left_by true m m' p A B dirty free same h = (same ∙ dirty, h.1 ∙ alone p m.0.free free)
-left_by false m m' p A B dirty free same h = (same, h.1)
+left_by true m m' p A B dirty free same looked h = (same ∙ dirty, h.1 ∙ alone p m.0.free free)
+left_by false m m' p A B dirty free same looked h = (same, h.1, looked)
 
-stays_by : (b : Bool) (m m' : Me Slot (Own View)) → m.0.dirty ≡ [] → m.0.free ≡ [] → m'.0.dirty ≡ m.0.dirty → m'.0.free ≡ m.0.free → MatchBool b (HasNoSlots m'.0) (SlotsStay m m')
-stays_by true m m' dirty free same left = (same ∙ dirty, left ∙ free)
-stays_by false m m' dirty free same left = (same, left)
+stays_by : (b : Bool) (m m' : Me Slot (Own View)) → m.0.dirty ≡ [] → m.0.free ≡ [] → m'.0.dirty ≡ m.0.dirty → m'.0.free ≡ m.0.free → m'.0.looked ≡ m.0.looked → MatchBool b (HasNoSlots m'.0) (SlotsStay m m')
+stays_by true m m' dirty free same left looked = (same ∙ dirty, left ∙ free)
+stays_by false m m' dirty free same left looked = (same, left, looked)
 
 -- if the count was found, what is noted of it is the count
 noted : (b : Bool) (k c : ℕ) (left : ℕ → Mine) (other m' : Mine) → eqb k c ≡ b → MatchBool b (m' ≡ left k) (m' ≡ other) → MatchBool b (m' ≡ left c) (m' ≡ other)
@@ -87,20 +87,20 @@ claim_may t id c n serial m told picked laid tiny whole can number slot =
     let left : ℕ → Mine = λ j. (with_part (act_part (acts.Router serial router_acts.Claim) (answers.Claimed j) (part_in m.0.view)) (saw t.size j m.0.view), m.1) in
     let may : Claims t t.reuses id m left c n = by_use t id c n m left number
     (λ again skip at s l deep there small.
-    let h = turns_last.4 t.slots m.0.dirty m.0.free (some_slots t laid n number.below) t.count t.size t.id.slots id c skip (mine_of m) (part_in m.0.view) serial can.0 whole can.1
+    let h = turns_last.4 t.slots m.0.dirty m.0.free m.0.looked (some_slots t laid n number.below) t.count t.size t.id.slots id c skip (mine_of m) (part_in m.0.view) serial can.0 whole can.1
     (let b = number.below in omega (arith, at, b)) tiny (subst (λ (k : ℕ). has_number m.0.free (k % t.slots) ≡ true) (sym at) (alone_has (n % t.slots) m.0.free (slot_for t n m.0 slot again))) s l deep there small in (
       h.0,
       h.1,
       h.2,
       h.3.0,
       (
-        firsts (eqb (slice_index s.words (t.slots + 0)) c) _ _ _ _ h.4.1,
-        left_by (eqb (slice_index s.words (t.slots + 0)) c) m (h.0, carried_after m.1 h.1) ((c + skip) % t.slots) _ _ slot.0 (slot_for t n m.0 slot again ∙ ap (λ (k : ℕ). k % t.slots ∷ []) (sym at)) h.4.0 h.4.1,
+        firsts (eqb (slice_index s.words (t.slots + 0)) c) _ _ _ _ h.4.2,
+        left_by (eqb (slice_index s.words (t.slots + 0)) c) m (h.0, carried_after m.1 h.1) ((c + skip) % t.slots) _ _ slot.0 (slot_for t n m.0 slot again ∙ ap (λ (k : ℕ). k % t.slots ∷ []) (sym at)) h.4.0 h.4.1 h.4.2,
       ),
     ))
     (λ order s l deep there small.
     let below : c < t.size = (let b = number.below in let o = number.order order in omega (arith, b, o)) in
-    let h = turns_last.5 t.slots m.0.dirty m.0.free t.count t.size t.id.slots id c (mine_of m) (part_in m.0.view) serial can.0 whole can.1 below
+    let h = turns_last.5 t.slots m.0.dirty m.0.free m.0.looked t.count t.size t.id.slots id c (mine_of m) (part_in m.0.view) serial can.0 whole can.1 below
     (record { some_slot = laid.some_slot; whole = λ e. laid.whole order; count = omega arith }) s l deep there small in (
       h.0,
       h.1,
@@ -109,7 +109,7 @@ claim_may t id c n serial m told picked laid tiny whole can number slot =
       (
         noted (eqb (slice_index s.words (t.slots + 0)) c) (slice_index s.words (t.slots + 0)) c
             (λ j. (with_part (act_part (acts.Router serial router_acts.Claim) (answers.Claimed c) (part_in m.0.view)) (saw t.size j m.0.view), m.1)) _ _ refl h.4.0,
-        stays_by (eqb (slice_index s.words (t.slots + 0)) c) m (h.0, carried_after m.1 h.1) slot.0 (none_for t n m.0 slot order) h.4.1 h.4.2,
+        stays_by (eqb (slice_index s.words (t.slots + 0)) c) m (h.0, carried_after m.1 h.1) slot.0 (none_for t n m.0 slot order) h.4.1 h.4.2 h.4.3,
       ),
     )) in
     λ s l deep there small. let h = may s l deep there small in (h.0, h.1, h.2, h.3, (picked.said (mine_of m) _ _ h.4.0, h.4.1))
@@ -121,20 +121,20 @@ open_claim_may t id c n m laid tiny whole idle number slot =
     let left : ℕ → Mine = λ j. (with_part (claimed_part j (part_in m.0.view)) (saw t.size j m.0.view), m.1) in
     by_use t id c n m left number
     (λ again skip at s l deep there small.
-    let h = claims_for_open_last t.slots m.0.dirty m.0.free (some_slots t laid n number.below) t.count t.size t.id.slots id c skip (mine_of m) (part_in m.0.view) whole idle
+    let h = claims_for_open_last t.slots m.0.dirty m.0.free m.0.looked (some_slots t laid n number.below) t.count t.size t.id.slots id c skip (mine_of m) (part_in m.0.view) whole idle
     (let b = number.below in omega (arith, at, b)) tiny (subst (λ (k : ℕ). has_number m.0.free (k % t.slots) ≡ true) (sym at) (alone_has (n % t.slots) m.0.free (slot_for t n m.0 slot again))) s l deep there small in (
       h.0,
       h.1,
       h.2,
       h.3.0,
       (
-        firsts (eqb (slice_index s.words (t.slots + 0)) c) _ _ _ _ h.4.1,
-        left_by (eqb (slice_index s.words (t.slots + 0)) c) m (h.0, carried_after m.1 h.1) ((c + skip) % t.slots) _ _ slot.0 (slot_for t n m.0 slot again ∙ ap (λ (k : ℕ). k % t.slots ∷ []) (sym at)) h.4.0 h.4.1,
+        firsts (eqb (slice_index s.words (t.slots + 0)) c) _ _ _ _ h.4.2,
+        left_by (eqb (slice_index s.words (t.slots + 0)) c) m (h.0, carried_after m.1 h.1) ((c + skip) % t.slots) _ _ slot.0 (slot_for t n m.0 slot again ∙ ap (λ (k : ℕ). k % t.slots ∷ []) (sym at)) h.4.0 h.4.1 h.4.2,
       ),
     ))
     (λ order s l deep there small.
     let below : c < t.size = (let b = number.below in let o = number.order order in omega (arith, b, o)) in
-    let h = claims_for_open_in_order t.slots m.0.dirty m.0.free t.count t.size t.id.slots id c (mine_of m) (part_in m.0.view) whole idle below
+    let h = claims_for_open_in_order t.slots m.0.dirty m.0.free m.0.looked t.count t.size t.id.slots id c (mine_of m) (part_in m.0.view) whole idle below
     (record { some_slot = laid.some_slot; whole = λ e. laid.whole order; count = omega arith }) s l deep there small in (
       h.0,
       h.1,
@@ -143,7 +143,7 @@ open_claim_may t id c n m laid tiny whole idle number slot =
       (
         noted (eqb (slice_index s.words (t.slots + 0)) c) (slice_index s.words (t.slots + 0)) c
             (λ j. (with_part (claimed_part c (part_in m.0.view)) (saw t.size j m.0.view), m.1)) _ _ refl h.4.0,
-        stays_by (eqb (slice_index s.words (t.slots + 0)) c) m (h.0, carried_after m.1 h.1) slot.0 (none_for t n m.0 slot order) h.4.1 h.4.2,
+        stays_by (eqb (slice_index s.words (t.slots + 0)) c) m (h.0, carried_after m.1 h.1) slot.0 (none_for t n m.0 slot order) h.4.1 h.4.2 h.4.3,
       ),
     ))
 

@@ -24,7 +24,7 @@ use Rattle.ipcz_cell.specs.CellStates.{CellState, part_in, change_part, roomy}
 use Rattle.ipcz_cell.specs.Cells.{AreSound, IsCell}
 use Rattle.ipcz_cell.specs.Outcomes.{loaded}
 use Rattle.ipcz_cell.specs.Mails.{HasSeen, mail_word}
-use Rattle.ipcz_cell.specs.Claims.{AreReached, Answered, Got as Won, Dry, Slotless as Unslotted, Lost as Missed}
+use Rattle.ipcz_cell.specs.Claims.{AreReached, FindsNone, Answered, Got as Won, Dry, Slotless as Unslotted, Lost as Missed}
 use Rattle.ipcz_cell.specs.Opens.{count_loaded, word_loaded, opened, ClaimsAt, ClaimsForOpen, Claimed, Slotless, Outrun, OpensWord, claimed_for_open}
 use Rattle.ipcz_cell.specs.Opens.{box_loads, FindsFree}
 use Rattle.ipcz_cell.proofs.Seating.{KeepsHands, reseated, touched_cell}
@@ -79,15 +79,15 @@ pub for_open : (t : TableName) (c : ℕ) (s0 s1 s2 : CellState) (answer : Result
 for_open t c s0 s1 s2 (Ok w) few reached load at =
     Claimed c w refl at.0 reached (at.1 ∙ ap (claimed_part w) load.part) (at.2 ∙ ap (λ l. l ++ (t.size, w) ∷ []) load.seen)
 for_open t c s0 s1 s2 (Err e) few reached load at = ⊎_elim
-    (λ lost. Outrun c lost.1.0 (ap Err lost.0) lost.1.1 (lost.1.2.part ∙ load.part) (lost.1.2.seen ∙ ap (λ l. l ++ (t.size, lost.1.0) ∷ []) load.seen))
-    (λ none. Slotless c (ap Err none.0) none.1.reuses few (none.1.part ∙ load.part) (none.1.seen ∙ load.seen))
+    (λ lost. Outrun c lost.1.0 (ap Err lost.0) lost.1.1 (lost.1.2 ∙ load.part) (lost.1.3 ∙ ap (λ l. l ++ (t.size, lost.1.0) ∷ []) load.seen))
+    (λ none. Slotless c (ap Err none.0) none.1.reuses few (none.1.part ∙ load.part) (none.1.seen ∙ load.seen) (subst (λ (l : List ℕ). FindsNone t c l s2.looked) load.looked none.1.none))
     at
 
 -- a claimed number is below the number of words
 pub claim_small : (t : TableName) (serial : ℕ) (old new : CellState) (answer : Result ℕ Refusal) → t.size < 4294967296 → Answered t serial old new answer → IfOk answer (λ n. n < 4294967296)
 claim_small t serial old new answer few (Won c n e number reached part seen) = subst (λ (r : Result ℕ Refusal). IfOk r (λ n. n < 4294967296)) (sym e) (let less = number.below in omega (arith, few, less))
 claim_small t serial old new answer few (Dry e part seen) = subst (λ (r : Result ℕ Refusal). IfOk r (λ n. n < 4294967296)) (sym e) tt
-claim_small t serial old new answer few (Unslotted c e again less part seen) = subst (λ (r : Result ℕ Refusal). IfOk r (λ n. n < 4294967296)) (sym e) tt
+claim_small t serial old new answer few (Unslotted c e again less part seen none) = subst (λ (r : Result ℕ Refusal). IfOk r (λ n. n < 4294967296)) (sym e) tt
 claim_small t serial old new answer few (Missed n found e other part seen) = subst (λ (r : Result ℕ Refusal). IfOk r (λ n. n < 4294967296)) (sym e) tt
 
 -- a load of one mailbox, and then of the others
@@ -104,9 +104,9 @@ one_more t from n s0 s1 s2 rest load more = record {
 }
 
 -- the room of a cell, at its own state
-pub ready_here : (n : Node) (room : NodeRoom) (me : Mine) (old : CellState) → record { part = part_in me.0; seen = me.0.seen; room = room } ≡ old → (part_in me.0).state ≡ n → CanOpen (roomy old) →
+pub ready_here : {l : List ℕ} (n : Node) (room : NodeRoom) (me : Mine) (old : CellState) → record { part = part_in me.0; seen = me.0.seen; room = room; looked = l } ≡ old → (part_in me.0).state ≡ n → CanOpen (roomy old) →
     CanOpen (record { node = n; room = room })
-ready_here n room me old view state can =
+ready_here {l} n room me old view state can =
     subst (λ (z : Node). CanOpen (record { node = z; room = room })) state (subst (λ (o : CellState). CanOpen (roomy o)) (sym view) can)
 
 -- no open is under way

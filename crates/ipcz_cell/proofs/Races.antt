@@ -75,13 +75,13 @@ module _ (t : TableName) (id : ℕ) (p q : Ruled t.count t.size) (steps : List (
   claimed : (serial : ℕ) → Answered t serial old new (Err Raced) → IsOvertakenCall t id p steps q run old new
   claimed serial (Got c n e number reached part seen) = cc
   claimed serial (Dry e part seen) = cc
-  claimed serial (Slotless c e again less part seen) = cc
+  claimed serial (Slotless c e again less part seen none) = cc
   claimed serial (Lost n found e apart part seen) = overtaken [] t.size n found (two t.size n found seen) apart low
 
   claimed_for_open : ClaimsForOpen t old new (Err Raced) → IsOvertakenCall t id p steps q run old new
   claimed_for_open (opens.Claimed c n e number reached part seen) = cc
   claimed_for_open (opens.Exhausted e seen) = cc
-  claimed_for_open (opens.Slotless c e again less part seen) = cc
+  claimed_for_open (opens.Slotless c e again less part seen none) = cc
   claimed_for_open (opens.Outrun n found e apart part seen) = overtaken [] t.size n found (two t.size n found seen) apart low
 
 pub raced_turn_is_overtaken : RacedTurnIsOvertaken
@@ -105,7 +105,7 @@ pub raced_open_is_overtaken : RacedOpenIsOvertaken
 raced_open_is_overtaken t id p q steps run old new call (opens.UnderWay made e l h) = cc
 raced_open_is_overtaken t id p q steps run old new call (opens.Fresh c n made e idle number reached h) = cc
 raced_open_is_overtaken t id p q steps run old new call (opens.NoneLeft e idle h) = cc
-raced_open_is_overtaken t id p q steps run old new call (opens.NoSlot c e again idle fine l part seen) = cc
+raced_open_is_overtaken t id p q steps run old new call (opens.NoSlot c e again idle fine l part seen none) = cc
 raced_open_is_overtaken t id p q steps run old new call (opens.Unready e part seen) = absurd (unready old.part.state e)
 raced_open_is_overtaken t id p q steps run old new call (opens.Lost n found e idle fine l apart part seen) =
     overtaken t id p q steps run old new call [] t.size n found (two t id p q steps run old new call t.size n found seen) apart

@@ -31,7 +31,7 @@ use Rattle.ipcz_cell.proofs.Telling.{tells, at_inside, sound_at}
 
 -- what a step tells of a seat, and that its slots stay
 abbrev pub Told : TableName → (ℕ → Mine → Type 0) → Me Slot (Own View) → ℕ → Me Slot (Own View) → Type 0
-Told t told m n m' = told n (mine_of m') × AreSound t.count t.size m'.0.view × (m'.0.dirty ≡ m.0.dirty) × (m'.0.free ≡ m.0.free)
+Told t told m n m' = told n (mine_of m') × AreSound t.count t.size m'.0.view × (m'.0.dirty ≡ m.0.dirty) × (m'.0.free ≡ m.0.free) × (m'.0.looked ≡ m.0.looked)
 
 pub are_sizes : (t : TableName) → IsLaidOut t → AreSizes (sizes_of t)
 are_sizes t laid = record { some_slot = laid.some_slot; whole = laid.whole; count = omega arith }
@@ -61,8 +61,8 @@ link_may n w k r slots word t id m i f told en ew ek er es at laid has may =
     (subst (λ (z : ℕ). Allows (LastingRules t.count t.size t.slots t.reuses) t.id.slots id m z f (Told t told m)) (sym at)
     (λ s l deep there small.
     let h = allowed (virtual t.count t.size) (sizes_of t) (keeping t.reuses t.count t.size) t.id.slots id m (i % t.slots) f (same_own m.0 (λ j m'. told j m' × AreSound t.count t.size m'.0))
-    (slot_kept t.slots t.reuses m.0.dirty m.0.free t.count t.size t.id.slots id (mine_of m) i f (λ j. []) (λ j m'. told j m' × AreSound t.count t.size m'.0) has (tells t.reuses t.count t.size t.id.slots id i (mine_of m) f told may) (are_sizes t laid)) s l deep there small in
-    (h.0, h.1, h.2, h.3, (h.4.0.0, h.4.0.1, h.4.1, h.4.2))))
+    (slot_kept t.slots t.reuses m.0.dirty m.0.free m.0.looked t.count t.size t.id.slots id (mine_of m) i f (λ j. []) (λ j m'. told j m' × AreSound t.count t.size m'.0) has (tells t.reuses t.count t.size t.id.slots id i (mine_of m) f told may) (are_sizes t laid)) s l deep there small in
+    (h.0, h.1, h.2, h.3, (h.4.0.0, h.4.0.1, h.4.1, h.4.2, h.4.3))))
 
 -- a step on a word behind the link words, which leaves the claim count
 pub other_may : (n w k : ℕ) (r : Bool) (slots word : ℕ) (t : TableName) (id : ℕ) (m : Me Slot (Own View)) (j : ℕ) (f : ℕ → ℕ) (told : ℕ → Mine → Type 0) →
@@ -73,14 +73,9 @@ other_may n w k r slots word t id m j f told en ew ek er es at laid inside leave
     (subst (λ (z : ℕ). Allows (LastingRules t.count t.size t.slots t.reuses) t.id.slots id m z f (Told t told m)) (sym at)
     (λ s l deep there small.
     let h = allowed (virtual t.count t.size) (sizes_of t) (keeping t.reuses t.count t.size) t.id.slots id m (t.slots + j) f (same_own m.0 (λ i m'. told i m' × AreSound t.count t.size m'.0))
-    (behind_kept t.slots t.reuses m.0.dirty m.0.free t.count t.size t.id.slots id (mine_of m) (t.size + j) f (λ i. []) (λ i m'. told i m' × AreSound t.count t.size m'.0) (λ e. leaves (omega (arith, e)))
+    (behind_kept t.slots t.reuses m.0.dirty m.0.free m.0.looked t.count t.size t.id.slots id (mine_of m) (t.size + j) f (λ i. []) (λ i m'. told i m' × AreSound t.count t.size m'.0) (λ e. leaves (omega (arith, e)))
     (tells t.reuses t.count t.size t.id.slots id (t.size + j) (mine_of m) f told may) (are_sizes t laid) j (omega arith) inside) s l deep there small in
-    (h.0, h.1, h.2, h.3, (h.4.0.0, h.4.0.1, h.4.1, h.4.2))))
-
-taken_by : (b : Bool) (t : TableName) (p : ℕ) (m m' : Me Slot (Own View)) → MatchBool b (m' ≡ (own_of m.0.view (p ∷ m.0.dirty) m.0.free, m.1)) (m' ≡ m) →
-    MatchBool b ((q : ℕ) × (let_go_word (sizes_of t) p ≡ let_go_word (sizes_of t) q) × (m' ≡ (own_of m.0.view (q ∷ m.0.dirty) m.0.free, m.1))) (m' ≡ m)
-taken_by true t p m m' h = (p, refl, h)
-taken_by false t p m m' h = h
+    (h.0, h.1, h.2, h.3, (h.4.0.0, h.4.0.1, h.4.1, h.4.2, h.4.3))))
 
 -- the word of a router's outward primary link lives, if it may do an act on it
 pub router_slotted : (t : TableName) (id i serial : ℕ) (side : Side) (act : RouterAct) (v : View) → v.parts ≡ part_in v ∷ [] → CanWord (part_in v).state serial side act i → IsSlotted t id v i
@@ -108,8 +103,8 @@ take_may n w k r slots word t id m p en ew ek er es at again low =
     (subst (λ (z : ℕ). Allows (LastingRules t.count t.size t.slots t.reuses) t.id.slots id m z (λ j. either (eqb j 3) 0 j) (Taken t z m)) (sym at)
     (subst (λ (b : Bool). Allows (LastingRules t.count t.size t.slots b) t.id.slots id m (let_go_word (sizes_of t) p) (λ j. either (eqb j 3) 0 j) (Taken t (let_go_word (sizes_of t) p) m)) (sym again)
     (λ s l deep there small.
-    let h = (reusing t.slots m.0.dirty m.0.free (omega (arith, low)) t.count t.size t.id.slots id p (mine_of m)).0 low s l deep there small in
-    (h.0, h.1, h.2, h.3.0, taken_by (eqb (slice_index s.words (let_go_word (sizes_of t) p)) 3) t p m (h.0, carried_after m.1 h.1) h.4))))
+    let h = (reusing t.slots m.0.dirty m.0.free m.0.looked (omega (arith, low)) t.count t.size t.id.slots id p (mine_of m)).0 low s l deep there small in
+    (h.0, h.1, h.2, h.3.0, (p, refl, h.4)))))
 
 -- the word of a slot that was taken may be emptied
 pub empty_may : (n w k : ℕ) (r : Bool) (slots : ℕ) (t : TableName) (id : ℕ) (m : Me Slot (Own View)) (p : ℕ) →
@@ -119,7 +114,7 @@ empty_may n w k r slots t id m p en ew ek er es again low has =
     at_own n w k r slots t id m p (λ j. 0) (λ j m'. Emptied p m m') en ew ek er es
     (subst (λ (b : Bool). Allows (LastingRules t.count t.size t.slots b) t.id.slots id m p (λ j. 0) (λ j m'. Emptied p m m')) (sym again)
     (λ s l deep there small.
-    let h = (reusing t.slots m.0.dirty m.0.free (omega (arith, low)) t.count t.size t.id.slots id p (mine_of m)).1 has s l deep there small in
+    let h = (reusing t.slots m.0.dirty m.0.free m.0.looked (omega (arith, low)) t.count t.size t.id.slots id p (mine_of m)).1 has s l deep there small in
     (h.0, h.1, h.2, h.3.0, h.4)))
 
 -- a slot that is the seat's may be given back
@@ -131,7 +126,7 @@ return_may n w k r slots word t id m p en ew ek er es at again low had =
     (subst (λ (z : ℕ). Allows (LastingRules t.count t.size t.slots t.reuses) t.id.slots id m z (λ j. 3) (λ j m'. Returned t z m m')) (sym at)
     (subst (λ (b : Bool). Allows (LastingRules t.count t.size t.slots b) t.id.slots id m (let_go_word (sizes_of t) p) (λ j. 3) (λ j m'. Returned t (let_go_word (sizes_of t) p) m m')) (sym again)
     (λ s l deep there small.
-    let h = (reusing t.slots m.0.dirty m.0.free (omega (arith, low)) t.count t.size t.id.slots id p (mine_of m)).2 had s l deep there small in
+    let h = (reusing t.slots m.0.dirty m.0.free m.0.looked (omega (arith, low)) t.count t.size t.id.slots id p (mine_of m)).2 had s l deep there small in
     (h.0, h.1, h.2, h.3.0, (p, refl, h.4)))))
 
 -- a step on the word z tells that the seat's nodes are sound
@@ -149,17 +144,17 @@ seat_may n w k r slots word z t id m f told Kept en ew ek er es at may =
     (h.0, h.1, h.2, h.3, (h.4.0, sound_at t.count t.size h.3.0 h.3.1 id h.0.view (view_at (virtual t.count t.size) (sizes_of t) s' h.3.0 h.3.1 h.3.2 id h.0 here), h.4.1))))
 
 -- a step on the word z that leaves the seat these slots
-pub slots_are : (n w k : ℕ) (r : Bool) (slots word z : ℕ) (t : TableName) (id : ℕ) (m : Me Slot (Own View)) (f : ℕ → ℕ) (told : ℕ → Mine → Type 0) (dirty free : List ℕ) →
+pub slots_are : (n w k : ℕ) (r : Bool) (slots word z : ℕ) (t : TableName) (id : ℕ) (m : Me Slot (Own View)) (f : ℕ → ℕ) (told : ℕ → Mine → Type 0) (dirty free looked : List ℕ) →
     n ≡ t.count → w ≡ t.size → k ≡ t.slots → r ≡ t.reuses → slots ≡ t.id.slots → word ≡ z →
-    Allows (LastingRules t.count t.size t.slots t.reuses) t.id.slots id m z f (λ j m'. told j (mine_of m') × (m'.0.dirty ≡ dirty) × (m'.0.free ≡ free)) →
-    Allows (LastingRules n w k r) slots id m word f (λ j m'. told j (mine_of m') × AreSound t.count t.size m'.0.view × (m'.0.dirty ≡ dirty) × (m'.0.free ≡ free))
-slots_are n w k r slots word z t id m f told dirty free en ew ek er es at may s l deep there small =
-    let h = seat_may n w k r slots word z t id m f (λ j m'. told j (mine_of m')) (λ j m'. (◌≡◌ {A = List ℕ} m'.0.dirty dirty) × (◌≡◌ {A = List ℕ} m'.0.free free)) en ew ek er es at
-    (λ s l deep there small. let q = may s l deep there small in (q.0, q.1, q.2, q.3, (q.4.0, (q.4.1, q.4.2)))) s l deep there small in
-    (h.0, h.1, h.2, h.3, (h.4.0, h.4.1, h.4.2.0, h.4.2.1))
+    Allows (LastingRules t.count t.size t.slots t.reuses) t.id.slots id m z f (λ j m'. told j (mine_of m') × (m'.0.dirty ≡ dirty) × (m'.0.free ≡ free) × (m'.0.looked ≡ looked)) →
+    Allows (LastingRules n w k r) slots id m word f (λ j m'. told j (mine_of m') × AreSound t.count t.size m'.0.view × (m'.0.dirty ≡ dirty) × (m'.0.free ≡ free) × (m'.0.looked ≡ looked))
+slots_are n w k r slots word z t id m f told dirty free looked en ew ek er es at may s l deep there small =
+    let h = seat_may n w k r slots word z t id m f (λ j m'. told j (mine_of m')) (λ j m'. (◌≡◌ {A = List ℕ} m'.0.dirty dirty) × (◌≡◌ {A = List ℕ} m'.0.free free) × (◌≡◌ {A = List ℕ} m'.0.looked looked)) en ew ek er es at
+    (λ s l deep there small. let q = may s l deep there small in (q.0, q.1, q.2, q.3, (q.4.0, (q.4.1, q.4.2, q.4.3)))) s l deep there small in
+    (h.0, h.1, h.2, h.3, (h.4.0, h.4.1, h.4.2.0, h.4.2.1, h.4.2.2))
 
 -- a seat that has no slot has none where its slots stay
-pub none_then : {d f d' f' : List ℕ} → (d' ≡ d) × (f' ≡ f) → (d ≡ []) × (f ≡ []) → (d' ≡ []) × (f' ≡ [])
+pub none_then : {d f l d' f' l' : List ℕ} → (d' ≡ d) × (f' ≡ f) × (l' ≡ l) → (d ≡ []) × (f ≡ []) → (d' ≡ []) × (f' ≡ [])
 none_then stay none = (stay.0 ∙ none.0, stay.1 ∙ none.1)
 
 -- nor where its view stays

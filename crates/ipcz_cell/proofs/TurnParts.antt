@@ -94,7 +94,7 @@ claim_acts t serial word count old new may is (Claimed c n e number reached part
       event_is = claim_event old.part.state serial (answers.Claimed n) (events.Claim serial word) may (λ r. ap (events.Claim serial) same);
     })
 claim_acts t serial word count old new may is (WasDry e part seen) = cc
-claim_acts t serial word count old new may is (HadNoSlot c e again less part seen) = cc
+claim_acts t serial word count old new may is (HadNoSlot c e again less part seen none) = cc
 claim_acts t serial word count old new may is (WasLost n found e other part seen) = cc
 
 pub claim_dries : (t : TableName) (serial : ℕ) (old new : CellState) (why : Refusal) → why ≡ refusals.NoWord → IsPossibleAct old.part.state (acts.Router serial router_acts.Claim) → Answered t serial old new (Err why) →
@@ -108,7 +108,7 @@ claim_dries t serial old new why dry may (WasDry e part seen) =
       part = part;
       event_is = claim_event old.part.state serial answers.NoWord (events.ClaimNoWord serial) may (λ r. refl);
     })
-claim_dries t serial old new why dry may (HadNoSlot c e again less part seen) =
+claim_dries t serial old new why dry may (HadNoSlot c e again less part seen none) =
     acts_whole t (acts.Router serial router_acts.Claim) old new (events.ClaimNoWord serial) ((t.size, c) ∷ []) seen (record {
       answer = answers.NoWord;
       answered = NoSlot c less again refl refl;
@@ -120,7 +120,7 @@ claim_dries t serial old new why dry may (WasLost n found e other part seen) = a
 pub claim_lost : (t : TableName) (serial : ℕ) (old new : CellState) (why : Refusal) → why ≢ refusals.NoWord → Answered t serial old new (Err why) → Acts t (acts.Router serial router_acts.Claim) old (Err why) new
 claim_lost t serial old new why not (Claimed c n e number reached part seen) = cc
 claim_lost t serial old new why not (WasDry e part seen) = absurd (not (ap (refusal_in why) e))
-claim_lost t serial old new why not (HadNoSlot c e again less part seen) = absurd (not (ap (refusal_in why) e))
+claim_lost t serial old new why not (HadNoSlot c e again less part seen none) = absurd (not (ap (refusal_in why) e))
 claim_lost t serial old new why not (WasLost n found e other part seen) = record {
   found = (t.size, n) ∷ (t.size, found) ∷ [];
   seen = seen ∙ seen_two old.seen (t.size, n) (t.size, found);
@@ -131,7 +131,7 @@ claim_lost t serial old new why not (WasLost n found e other part seen) = record
 pub claim_below : (t : TableName) (serial count : ℕ) (old new : CellState) → Answered t serial old new (Ok count) → count < t.size
 claim_below t serial count old new (Claimed c n e number reached part seen) = let same : count ≡ n = ap (number_in 0) e in let low = number.below in omega (arith, same, low)
 claim_below t serial count old new (WasDry e part seen) = cc
-claim_below t serial count old new (HadNoSlot c e again less part seen) = cc
+claim_below t serial count old new (HadNoSlot c e again less part seen none) = cc
 claim_below t serial count old new (WasLost n found e other part seen) = cc
 
 -- an act that was lost to another thread ends with a load and an exchange of one word

@@ -231,29 +231,29 @@ seen_tried i n (Wait new) seen e = refl
 seen_tried i n Refused seen e = cc
 
 -- what a try for the lock tells if its load found that it is refused
-pub refused_tells : (i n serial : ℕ) (side : Side) (source own : Option ℕ) (plan : LockPlan) (me me' : Mine) (room room' : NodeRoom) (old : CellState) → source ≡ own → shown me room ≡ old → plan ≡ plan_bits n side source (plan_of (word_of_bits n) side) → is_refused_plan plan ≡ true →
-    me' ≡ (act_view i serial side source router_acts.Lock n me.0, me.1) → Tried i n serial side own old (Ok plan) (shown me' room')
-refused_tells i n serial side source own plan me me' room room' old named view e f done =
-    subst (λ (o : Option ℕ). Tried i n serial side o old (Ok plan) (shown me' room')) named (
+pub refused_tells : {l : List ℕ} (i n serial : ℕ) (side : Side) (source own : Option ℕ) (plan : LockPlan) (me me' : Mine) (room room' : NodeRoom) (old : CellState) → source ≡ own → shown me room l ≡ old → plan ≡ plan_bits n side source (plan_of (word_of_bits n) side) → is_refused_plan plan ≡ true →
+    me' ≡ (act_view i serial side source router_acts.Lock n me.0, me.1) → Tried i n serial side own old (Ok plan) (shown me' room' l)
+refused_tells {l} i n serial side source own plan me me' room room' old named view e f done =
+    subst (λ (o : Option ℕ). Tried i n serial side o old (Ok plan) (shown me' room' l)) named (
       e,
       ap (λ (m : Mine). part_in m.0) done ∙ ap (λ (o : CellState). act_part (acts.Router serial router_acts.Lock) (word_answer (word_of_bits n) side source router_acts.Lock) o.part) view,
       ap (λ (m : Mine). m.0.seen) done ∙ (ap (λ (o : CellState). o.seen ++ (i, n) ∷ []) view ∙ sym (seen_refused i n plan old.seen f)),
     )
 
 -- if its exchange found the same word
-pub tried_tells : (i n now serial : ℕ) (side : Side) (source own : Option ℕ) (plan : LockPlan) (me me' : Mine) (room room' : NodeRoom) (old : CellState) → source ≡ own → shown me room ≡ old → plan ≡ plan_bits n side source (plan_of (word_of_bits n) side) → is_refused_plan plan ≡ false → now ≡ n →
-    me' ≡ (act_view i serial side source router_acts.Lock now (saw i n me.0), me.1) → Tried i n serial side own old (Ok plan) (shown me' room')
-tried_tells i n now serial side source own plan me me' room room' old named view e f same done =
-    subst (λ (o : Option ℕ). Tried i n serial side o old (Ok plan) (shown me' room')) named (
+pub tried_tells : {l : List ℕ} (i n now serial : ℕ) (side : Side) (source own : Option ℕ) (plan : LockPlan) (me me' : Mine) (room room' : NodeRoom) (old : CellState) → source ≡ own → shown me room l ≡ old → plan ≡ plan_bits n side source (plan_of (word_of_bits n) side) → is_refused_plan plan ≡ false → now ≡ n →
+    me' ≡ (act_view i serial side source router_acts.Lock now (saw i n me.0), me.1) → Tried i n serial side own old (Ok plan) (shown me' room' l)
+tried_tells {l} i n now serial side source own plan me me' room room' old named view e f same done =
+    subst (λ (o : Option ℕ). Tried i n serial side o old (Ok plan) (shown me' room' l)) named (
       e,
       ap (λ (m : Mine). part_in m.0) done ∙ ((λ j. act_part (acts.Router serial router_acts.Lock) (word_answer (word_of_bits (same j)) side source router_acts.Lock) (part_in me.0)) ∙ ap (λ (o : CellState). act_part (acts.Router serial router_acts.Lock) (word_answer (word_of_bits n) side source router_acts.Lock) o.part) view),
       ap (λ (m : Mine). m.0.seen) done ∙ ((λ j. (me.0.seen ++ (i, n) ∷ []) ++ (i, same j) ∷ []) ∙ (ap (λ (o : CellState). (o.seen ++ (i, n) ∷ []) ++ (i, n) ∷ []) view ∙ sym (seen_tried i n plan old.seen f))),
     )
 
 -- and if it found another
-pub raced_tells : (i n now serial : ℕ) (side : Side) (source own : Option ℕ) (me me' : Mine) (room room' : NodeRoom) (old : CellState) → source ≡ own → shown me room ≡ old → now ≢ n → me' ≡ (saw i now (saw i n me.0), me.1) → Tried i n serial side own old (Err Raced) (shown me' room')
-raced_tells i n now serial side source own me me' room room' old named view other done =
-    subst (λ (o : Option ℕ). Tried i n serial side o old (Err Raced) (shown me' room')) named (refl, (now, other, ap (λ (m : Mine). part_in m.0) done ∙ ap (λ (o : CellState). o.part) view, ap (λ (m : Mine). m.0.seen) done ∙ ap (λ (o : CellState). (o.seen ++ (i, n) ∷ []) ++ (i, now) ∷ []) view))
+pub raced_tells : {l : List ℕ} (i n now serial : ℕ) (side : Side) (source own : Option ℕ) (me me' : Mine) (room room' : NodeRoom) (old : CellState) → source ≡ own → shown me room l ≡ old → now ≢ n → me' ≡ (saw i now (saw i n me.0), me.1) → Tried i n serial side own old (Err Raced) (shown me' room' l)
+raced_tells {l} i n now serial side source own me me' room room' old named view other done =
+    subst (λ (o : Option ℕ). Tried i n serial side o old (Err Raced) (shown me' room' l)) named (refl, (now, other, ap (λ (m : Mine). part_in m.0) done ∙ ap (λ (o : CellState). o.part) view, ap (λ (m : Mine). m.0.seen) done ∙ ap (λ (o : CellState). (o.seen ++ (i, n) ∷ []) ++ (i, now) ∷ []) view))
 
 -- the word and the side of a router that may do an act
 pub can_word : (x : Node) (serial i : ℕ) (side : Side) (act : RouterAct) → IsPossibleAct x (acts.Router serial act) → act_lacks_serials x (acts.Router serial act) ≡ false → word_side x serial ≡ Some (i, side) → CanWord x serial side act i

@@ -1,5 +1,5 @@
 -- The claim count of a cell: what the calls on it require, answer and leave.
-use Rattle.std.specs.Prelude.{◌≡◌, ◌≢◌, ◌<◌, ◌≤◌, ℕ, true, false, [], ◌∷◌, ◌++◌, List, Result, Ok, Err, MatchBool, eqb}
+use Rattle.std.specs.Prelude.{◌≡◌, ◌≢◌, ◌<◌, ◌≤◌, ◌⊎◌, ℕ, None, true, false, [], ◌∷◌, ◌++◌, List, Result, Ok, Err, MatchBool, eqb}
 use mathlib.Core.Option.{some}
 use lib.ListN.{get_elem?}
 use Rattle.ipcz_base.specs.declared.refusal.Refusal.{Refusal}
@@ -9,6 +9,8 @@ use Rattle.ipcz_router.specs.declared.act.Answer.TheVariants as answers
 use Rattle.ipcz_router.specs.declared.act.RouterAct.TheVariants as router_acts
 use Rattle.ipcz_node.specs.declared.act.Act.TheVariants as acts
 use Rattle.ipcz_node.specs.Node.{Node}
+use Rattle.ipcz_slots.specs.Slots.{has_number}
+use Rattle.ipcz_slots.specs.Numbers.{IsNextNumber}
 use Rattle.ipcz_rule.specs.Rule.{saw}
 use Rattle.ipcz_rule.specs.Steps.{act_part, CanAct}
 use Rattle.ipcz_cell.specs.TableNames.{TableName}
@@ -29,6 +31,15 @@ pub record IsNumberAt (t : TableName) (count n : ℕ) : Type 0 where
   pub below : n < t.size
   pub order : t.reuses ≡ false → n ≡ count
 
+-- each slot was looked at, besides those that had been looked at before, and none was to be had
+abbrev pub LooksAtEach : TableName → List ℕ → List ℕ → Type 0
+LooksAtEach t old new = (more : List ℕ) × (new ≡ more ++ old) × ((p : ℕ) → p < t.slots → has_number more p ≡ true)
+
+-- why there is no number for a claim at a count, where slots are used again, by the slots that were looked at in vain before and since: each was,
+-- or of one that was to be had no number is left
+abbrev pub FindsNone : TableName → ℕ → List ℕ → List ℕ → Type 0
+FindsNone t count old new = LooksAtEach t old new ⊎ ((p : ℕ) × (p < t.slots) × IsNextNumber count p t.slots t.size None)
+
 -- a load of the claim count, which finds at most as many as there are, and at least each count that was seen: if it finds all of them,
 -- it is the claim's NoWord
 abbrev pub counted : ℕ → ℕ → Tells
@@ -43,7 +54,7 @@ claimed size serial c n m k m' = MatchBool (eqb k c)
     (m' ≡ (saw size k m.0, m.1))
 
 -- what a proxy's claim answers and leaves: a number that no count that was seen has passed; NoWord only if the load found that each number
--- was claimed, or, where slots are used again, no slot was found to be had, and then it is dry; Raced only if the load and the exchange found
+-- was claimed, or, where slots are used again, none was found (`FindsNone`), and then it is dry; Raced only if the load and the exchange found
 -- different counts
 pub data Answered (t : TableName) (serial : ℕ) (old new : CellState) (answer : Result ℕ Refusal) : Type 0 where
   Got : (c n : ℕ) → answer ≡ Ok n → IsNumberAt t c n → AreReached t.size old.seen c →
@@ -53,6 +64,6 @@ pub data Answered (t : TableName) (serial : ℕ) (old new : CellState) (answer :
       new.seen ≡ old.seen ++ (t.size, t.size) ∷ [] → Answered t serial old new answer
   Slotless : (c : ℕ) → answer ≡ Err NoWord → t.reuses ≡ true → c < t.size →
       new.part ≡ act_part (acts.Router serial router_acts.Claim) answers.NoWord old.part →
-      new.seen ≡ old.seen ++ (t.size, c) ∷ [] → Answered t serial old new answer
+      new.seen ≡ old.seen ++ (t.size, c) ∷ [] → FindsNone t c old.looked new.looked → Answered t serial old new answer
   Lost : (n found : ℕ) → answer ≡ Err Raced → found ≢ n → new.part ≡ old.part →
       new.seen ≡ (old.seen ++ (t.size, n) ∷ []) ++ (t.size, found) ∷ [] → Answered t serial old new answer

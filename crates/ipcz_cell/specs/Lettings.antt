@@ -23,8 +23,8 @@ LetsGo t id m i side told =
 
 -- it may, and the seat's slots stay
 abbrev pub MayLetGo : TableName → ℕ → Me Slot (Own View) → ℕ → Side → (ℕ → Mine → Type 0) → Type 0
-MayLetGo t id m i side told = LetsGo t id m i side (λ n m'. told n (mine_of m') × (m'.0.dirty ≡ m.0.dirty) × (m'.0.free ≡ m.0.free))
+MayLetGo t id m i side told = LetsGo t id m i side (λ n m'. told n (mine_of m') × (m'.0.dirty ≡ m.0.dirty) × (m'.0.free ≡ m.0.free) × (m'.0.looked ≡ m.0.looked))
 
 -- it may, and a slot is the seat's then, to be emptied
 abbrev pub MayLeave : TableName → ℕ → Me Slot (Own View) → ℕ → Side → ℕ → (ℕ → Mine → Type 0) → Type 0
-MayLeave t id m i side slot told = LetsGo t id m i side (λ n m'. told n (mine_of m') × (m'.0.dirty ≡ slot ∷ m.0.dirty) × (m'.0.free ≡ m.0.free))
+MayLeave t id m i side slot told = LetsGo t id m i side (λ n m'. told n (mine_of m') × (m'.0.dirty ≡ slot ∷ m.0.dirty) × (m'.0.free ≡ m.0.free) × (m'.0.looked ≡ m.0.looked))

@@ -26,6 +26,7 @@ mail_word t from to = t.size + 1 + t.count + slot_of t from to
 pub record HasSeen (i n : ℕ) (old new : CellState) : Type 0 where
   pub part : new.part ≡ old.part
   pub room : new.room ≡ old.room
+  pub looked : new.looked ≡ old.looked
   pub seen : new.seen ≡ old.seen ++ (i, n) ∷ []
 
 -- the mailbox was taken: it was taken already, or it was found empty

@@ -20,7 +20,7 @@ use Rattle.ipcz_cell.specs.TableNames.{TableName}
 use Rattle.ipcz_cell.specs.CellStates.{CellState, change_part}
 use Rattle.ipcz_cell.specs.Outcomes.{Tells, loaded}
 use Rattle.ipcz_cell.specs.Mails.{mail_word, HasSeen}
-use Rattle.ipcz_cell.specs.Claims.{AreReached, IsNumberAt, Answered}
+use Rattle.ipcz_cell.specs.Claims.{AreReached, IsNumberAt, FindsNone, Answered}
 
 -- a load of the claim count finds at most as many as there are, and at least each that was seen
 abbrev pub count_loaded : ℕ → Tells
@@ -48,17 +48,18 @@ ReadsWord size i old answer new = (count : ℕ) × (count ≤ size) × AreReache
 abbrev pub ShowsWord : TableName → ℕ → CellState → Option ℕ → CellState → Type 0
 ShowsWord t i old answer new = MatchBool t.reuses ((answer ≡ None) × (new ≡ old)) (ReadsWord t.size i old answer new)
 
--- a claim that finds no slot to be had: where slots are used again
-pub record FindsNoSlot (t : TableName) (old new : CellState) : Type 0 where
+-- a claim at a count that finds no number: where slots are used again
+pub record FindsNoSlot (t : TableName) (c : ℕ) (old new : CellState) : Type 0 where
   pub reuses : t.reuses ≡ true
   pub part : new.part ≡ old.part
   pub seen : new.seen ≡ old.seen
+  pub none : FindsNone t c old.looked new.looked
 
 -- what an exchange of the claim count, which was found at c, answers and leaves
 abbrev pub ClaimsAt : TableName → ℕ → CellState → Result ℕ Refusal → CellState → Type 0
 ClaimsAt t c old answer new = MatchResult answer
     (λ n. IsNumberAt t c n × (new.part ≡ claimed_part n old.part) × (new.seen ≡ old.seen ++ (t.size, n) ∷ []))
-    (λ why. ((why ≡ Raced) × ((found : ℕ) × (found ≢ c) × HasSeen t.size found old new)) ⊎ ((why ≡ NoWord) × FindsNoSlot t old new))
+    (λ why. ((why ≡ Raced) × ((found : ℕ) × (found ≢ c) × (new.part ≡ old.part) × (new.seen ≡ old.seen ++ (t.size, found) ∷ []))) ⊎ ((why ≡ NoWord) × FindsNoSlot t c old new))
 
 -- the cell after the number n was claimed for an open: a load has found the claim count at c, and so has the exchange
 abbrev pub claimed_for_open : ℕ → ℕ → ℕ → CellState → CellState
@@ -66,17 +67,18 @@ claimed_for_open size c n old = record {
   part = claimed_part n old.part;
   seen = (old.seen ++ (size, c) ∷ []) ++ (size, n) ∷ [];
   room = old.room;
+  looked = old.looked;
 }
 
 -- what the claim of a number for an open answers and leaves: a number that no count that was seen has passed; NoWord only if the load found
--- that each number was claimed, or, where slots are used again, no slot was found to be had; Raced only if the load and the exchange found
+-- that each number was claimed, or, where slots are used again, none was found (`FindsNone`); Raced only if the load and the exchange found
 -- different counts
 pub data ClaimsForOpen (t : TableName) (old new : CellState) (answer : Result ℕ Refusal) : Type 0 where
   Claimed : (c n : ℕ) → answer ≡ Ok n → IsNumberAt t c n → AreReached t.size old.seen c → new.part ≡ claimed_part n old.part →
       new.seen ≡ (old.seen ++ (t.size, c) ∷ []) ++ (t.size, n) ∷ [] → ClaimsForOpen t old new answer
   Exhausted : answer ≡ Err NoWord → HasSeen t.size t.size old new → ClaimsForOpen t old new answer
   Slotless : (c : ℕ) → answer ≡ Err NoWord → t.reuses ≡ true → c < t.size → new.part ≡ old.part → new.seen ≡ old.seen ++ (t.size, c) ∷ [] →
-      ClaimsForOpen t old new answer
+      FindsNone t c old.looked new.looked → ClaimsForOpen t old new answer
   Outrun : (n found : ℕ) → answer ≡ Err Raced → found ≢ n → new.part ≡ old.part →
       new.seen ≡ (old.seen ++ (t.size, n) ∷ []) ++ (t.size, found) ∷ [] → ClaimsForOpen t old new answer
 
@@ -99,7 +101,7 @@ pub record OpensWord (old : CellState) (ends : End × End) (new : CellState) : T
   pub seen : new.seen ≡ old.seen ++ (word, 0) ∷ []
 
 -- what the open of a pair answers and leaves: an open under way is used; else a word is claimed for it, which no count that was seen has
--- passed. NoWord only if the load found that each number was claimed, or, where slots are used again, no slot was found to be had, with all else
+-- passed. NoWord only if the load found that each number was claimed, or, where slots are used again, none was found (`FindsNone`), with all else
 -- ready; Raced only if the load and the exchange found different counts. A refused open leaves the node's part
 pub data OpensPair (t : TableName) (old new : CellState) (answer : Result (End × End) Refusal) : Type 0 where
   UnderWay : (ends : End × End) → answer ≡ Ok ends → ends.0.pair < t.size → OpensWord old ends new → OpensPair t old new answer
@@ -108,7 +110,7 @@ pub data OpensPair (t : TableName) (old new : CellState) (answer : Result (End �
       OpensPair t old new answer
   NoneLeft : answer ≡ Err NoWord → old.part.state.opening ≡ None → HasSeen t.size t.size old new → OpensPair t old new answer
   NoSlot : (c : ℕ) → answer ≡ Err NoWord → t.reuses ≡ true → old.part.state.opening ≡ None → serials_refusal old.part.state ≡ None →
-      c < t.size → new.part ≡ old.part → new.seen ≡ old.seen ++ (t.size, c) ∷ [] → OpensPair t old new answer
+      c < t.size → new.part ≡ old.part → new.seen ≡ old.seen ++ (t.size, c) ∷ [] → FindsNone t c old.looked new.looked → OpensPair t old new answer
   Unready : answer ≡ Err (unwrap_or (serials_refusal old.part.state) OutOfMemory) → new.part ≡ old.part →
       MatchBool (is_some old.part.state.opening) (new.seen ≡ old.seen) ((n : ℕ) × (n < t.size) × (new.seen ≡ old.seen ++ (t.size, n) ∷ [])) →
       OpensPair t old new answer

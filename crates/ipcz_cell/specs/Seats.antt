@@ -29,9 +29,9 @@ Keeps all count size slots id m i f told = IsKept all count size slots id m i f 
 abbrev pub HasNoSlots : Own View → Type 0
 HasNoSlots o = (o.dirty ≡ []) × (o.free ≡ [])
 
--- a seat's own slots stay
+-- a seat's own slots stay, and it has looked at no other
 abbrev pub SlotsStay : Me Slot (Own View) → Me Slot (Own View) → Type 0
-SlotsStay m m' = (m'.0.dirty ≡ m.0.dirty) × (m'.0.free ≡ m.0.free)
+SlotsStay m m' = (m'.0.dirty ≡ m.0.dirty) × (m'.0.free ≡ m.0.free) × (m'.0.looked ≡ m.0.looked)
 
 -- a seat's own slots are that of this number alone, which is free, if slots are used again
 abbrev pub HasSlotFor : TableName → ℕ → Own View → Type 0
@@ -41,18 +41,18 @@ HasSlotFor t n o = (o.dirty ≡ []) × (o.free ≡ cond t.reuses (n % t.slots �
 abbrev pub IsSlotted : TableName → ℕ → View → ℕ → Type 0
 IsSlotted t id v i = HasSlot (virtual t.count t.size) (sizes_of t) id v i
 
--- an exchange 3 to 0 of a let-go word: the slot is the seat's to empty, if 3 was found
+-- an exchange 3 to 0 of a let-go word: the slot is the seat's to empty, if 3 was found, and else the seat has looked at it
 abbrev pub Taken : TableName → ℕ → Me Slot (Own View) → ℕ → Me Slot (Own View) → Type 0
-Taken t word m n m' = MatchBool (eqb n 3)
-    ((p : ℕ) × (word ≡ let_go_word (sizes_of t) p) × (m' ≡ (own_of m.0.view (p ∷ m.0.dirty) m.0.free, m.1))) (m' ≡ m)
+Taken t word m n m' = (p : ℕ) × (word ≡ let_go_word (sizes_of t) p) × MatchBool (eqb n 3)
+    (m' ≡ (own_of m.0.view (p ∷ m.0.dirty) m.0.free m.0.looked, m.1)) (m' ≡ (own_of m.0.view m.0.dirty m.0.free (p ∷ m.0.looked), m.1))
 
 -- a store 0 in the word of a slot that was taken: it is free
 abbrev pub Emptied : ℕ → Me Slot (Own View) → Me Slot (Own View) → Type 0
-Emptied word m m' = m' ≡ (own_of m.0.view (without_number m.0.dirty word) (word ∷ m.0.free), m.1)
+Emptied word m m' = m' ≡ (own_of m.0.view (without_number m.0.dirty word) (word ∷ m.0.free) m.0.looked, m.1)
 
 -- a store 3 in the let-go word of a slot that is the seat's: it is the seat's no more
 abbrev pub Returned : TableName → ℕ → Me Slot (Own View) → Me Slot (Own View) → Type 0
-Returned t word m m' = (p : ℕ) × (word ≡ let_go_word (sizes_of t) p) × (m' ≡ (own_of m.0.view (without_number m.0.dirty p) (without_number m.0.free p), m.1))
+Returned t word m m' = (p : ℕ) × (word ≡ let_go_word (sizes_of t) p) × (m' ≡ (own_of m.0.view (without_number m.0.dirty p) (without_number m.0.free p) m.0.looked, m.1))
 
 -- an exchange of the claim count for the number behind one may be, if that is told of it; if the count was found the seat has no slot then, and
 -- else its slots stay

@@ -84,6 +84,7 @@ IsFirst t p found other = IsFirstElse t p found other
 pub record HasLooked (found : List (ℕ × ℕ)) (old new : CellState) : Type 0 where
   pub part : new.part ≡ old.part
   pub room : new.room ≡ old.room
+  pub looked : new.looked ≡ old.looked
   pub seen : new.seen ≡ old.seen ++ found
 
 -- the first act for the mailboxes as they are found by loads now

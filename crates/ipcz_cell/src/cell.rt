@@ -49,7 +49,7 @@ impl<F: FabricName> Model for NodeCell<F> {
     ghost use Rattle.ipcz_cell.specs.Cells.{IsCell};
     ghost use Rattle.ipcz_cell.specs.Seats.{mine_of, HasNoSlots};
 
-    ghost view = { λ c. record { part = part_in c.seat.me.0.view; seen = c.seat.me.0.view.seen; room = c.state.room } };
+    ghost view = { λ c. record { part = part_in c.seat.me.0.view; seen = c.seat.me.0.view.seen; room = c.state.room; looked = c.seat.me.0.looked } };
 
     ghost invariant = { λ c. IsCell F.table c.state.node c.message c.probed c.seat.table_id (mine_of c.seat.me) × HasNoSlots c.seat.me.0 };
 }

@@ -100,7 +100,7 @@ impl<F: FabricName, X: Outcome, S: SlotName> Play<Option<Message>, Own<View>> fo
     ghost use Rattle.ipcz_cell.specs.Seats.{mine_of};
 
     ghost then = { λ st m n m'. X.tells (mine_of m) n (mine_of m') × AreSound F.table.count F.table.size m'.0.view ×
-        (m'.0.dirty ≡ S.slot ∷ m.0.dirty) × (m'.0.free ≡ m.0.free) };
+        (m'.0.dirty ≡ S.slot ∷ m.0.dirty) × (m'.0.free ≡ m.0.free) × (m'.0.looked ≡ m.0.looked) };
 }
 
 // The bit of a side in a let-go word.
@@ -151,6 +151,7 @@ fn leave_step<F: FabricName, X: Outcome, S: SlotName>(
     ensures done { (n : ℕ) × X.tells (mine_of seat.old.me) n (mine_of seat.new.me) }
     ensures slot { seat.new.me.0.dirty ≡ slot ∷ seat.old.me.0.dirty }
     ensures free { seat.new.me.0.free ≡ seat.old.me.0.free }
+    ensures looked { seat.new.me.0.looked ≡ seat.old.me.0.looked }
     ensures sound { AreSound F.table.count F.table.size seat.new.me.0.view }
 {
     let _slot = slot;

@@ -136,6 +136,7 @@ impl<F: FabricName> NodeCell<F> {
     pub fn open_prepare(&mut self) -> Result<(), Refusal>
         ensures part { self.new.part ≡ self.old.part }
         ensures seen { self.new.seen ≡ self.old.seen }
+        ensures looked { self.new.looked ≡ self.old.looked }
         ensures ready { OnOk result (CanOpen (roomy self.new)) }
         ensures allowed { OnOk result (serials_refusal self.old.part.state ≡ None) }
         ensures why { IfErr result (λ e. e ≡ unwrap_or (serials_refusal self.old.part.state) Refusal.OutOfMemory) }

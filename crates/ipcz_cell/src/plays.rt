@@ -39,7 +39,7 @@ impl<F: FabricName, X: Outcome> Play<Option<Message>, Own<View>> for By<F, X> {
     ghost use Rattle.ipcz_cell.specs.Seats.{mine_of};
 
     ghost then = { λ st m n m'. X.tells (mine_of m) n (mine_of m') × AreSound F.table.count F.table.size m'.0.view ×
-        (m'.0.dirty ≡ m.0.dirty) × (m'.0.free ≡ m.0.free) };
+        (m'.0.dirty ≡ m.0.dirty) × (m'.0.free ≡ m.0.free) × (m'.0.looked ≡ m.0.looked) };
 }
 
 /// The slot of a number's link word.
@@ -267,9 +267,9 @@ impl Split<Own<View>> for Deal {
     ghost use Rattle.ipcz_rule.specs.Start.{after_deal, dealt};
     ghost use Rattle.ipcz_rule.specs.Lasting.{own_of};
 
-    ghost left = { λ o. own_of (after_deal o.view) o.dirty o.free };
+    ghost left = { λ o. own_of (after_deal o.view) o.dirty o.free o.looked };
 
-    ghost right = { λ o. own_of (dealt o.view) [] [] };
+    ghost right = { λ o. own_of (dealt o.view) [] [] [] };
 }
 
 /// A seat takes in the parts and the slots of another.
@@ -280,7 +280,7 @@ impl Join<Own<View>> for Together {
     ghost use Rattle.ipcz_rule.specs.Kinds.{together, spent};
     ghost use Rattle.ipcz_rule.specs.Lasting.{own_of};
 
-    ghost both = { λ o p. own_of (together o.view p.view) (o.dirty ++ p.dirty) (o.free ++ p.free) };
+    ghost both = { λ o p. own_of (together o.view p.view) (o.dirty ++ p.dirty) (o.free ++ p.free) o.looked };
 
-    ghost spent = { own_of spent [] [] };
+    ghost spent = { own_of spent [] [] [] };
 }

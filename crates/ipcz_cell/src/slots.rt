@@ -2,7 +2,7 @@
 ghost use Rattle.std.specs.Prelude.{◌≡◌, ◌<◌, ◌%◌, ◌⊎◌, true, false, cond, [], ◌∷◌, IfSome, IfNone, is_some};
 ghost use Rattle.ipcz_slots.specs.Slots.{has_number, without_number, let_go_word};
 ghost use Rattle.ipcz_rule.specs.Rule.{Mine};
-ghost use Rattle.ipcz_cell.specs.Claims.{IsNumberAt};
+ghost use Rattle.ipcz_cell.specs.Claims.{IsNumberAt, LooksAtEach, FindsNone};
 ghost use Rattle.ipcz_cell.specs.Seats.{mine_of, sizes_of, HasNoSlots, HasSlotFor};
 
 use crate::fabric::{Fabric, FabricName};
@@ -66,7 +66,7 @@ pub(crate) fn number_slot<F: FabricName>(fabric: &Fabric<F>, number: u32) -> u32
     slot_of(u64::from(number), u64::from(fabric.slots)) as u32
 }
 
-// Takes a slot that both sides have let go, and tells whether it was one.
+// Takes a slot that both sides have let go, and tells whether it was one; if not the seat has looked at it.
 fn take_step<F: FabricName>(seat: &mut TableSeat, fabric: &Fabric<F>, slot: u32) -> bool
     requires own { seat.old.table_id ≡ F.table.id }
     requires reuses { F.table.reuses ≡ true }
@@ -75,6 +75,7 @@ fn take_step<F: FabricName>(seat: &mut TableSeat, fabric: &Fabric<F>, slot: u32)
     ensures me { ◌≡◌ {A = Mine} (mine_of seat.new.me) (mine_of seat.old.me) }
     ensures dirty { seat.new.me.0.dirty ≡ cond result (slot ∷ seat.old.me.0.dirty) seat.old.me.0.dirty }
     ensures free { seat.new.me.0.free ≡ seat.old.me.0.free }
+    ensures looked { seat.new.me.0.looked ≡ cond result seat.old.me.0.looked (slot ∷ seat.old.me.0.looked) }
 {
     let word = let_go_word(fabric, slot);
     let found = fabric
@@ -94,6 +95,7 @@ fn empty_step<F: FabricName>(seat: &mut TableSeat, fabric: &Fabric<F>, slot: u32
     ensures me { ◌≡◌ {A = Mine} (mine_of seat.new.me) (mine_of seat.old.me) }
     ensures dirty { seat.new.me.0.dirty ≡ without_number seat.old.me.0.dirty slot }
     ensures free { seat.new.me.0.free ≡ slot ∷ seat.old.me.0.free }
+    ensures looked { seat.new.me.0.looked ≡ seat.old.me.0.looked }
 {
     let _slots = fabric.slots;
     fabric
@@ -112,6 +114,7 @@ pub(crate) fn return_step<F: FabricName>(seat: &mut TableSeat, fabric: &Fabric<F
     ensures me { ◌≡◌ {A = Mine} (mine_of seat.new.me) (mine_of seat.old.me) }
     ensures dirty { seat.new.me.0.dirty ≡ without_number seat.old.me.0.dirty slot }
     ensures free { seat.new.me.0.free ≡ without_number seat.old.me.0.free slot }
+    ensures looked { seat.new.me.0.looked ≡ seat.old.me.0.looked }
 {
     let word = let_go_word(fabric, slot);
     fabric
@@ -120,7 +123,7 @@ pub(crate) fn return_step<F: FabricName>(seat: &mut TableSeat, fabric: &Fabric<F
         .store::<Returns<F>>(seat, word, BOTH_SIDES);
 }
 
-// A slot that both sides have let go, looked for from one on; it is emptied, and the seat's.
+// A slot that both sides have let go, looked for from one on, all round; it is emptied, and the seat's. If there is none each was looked at.
 fn find_slot<F: FabricName>(seat: &mut TableSeat, fabric: &Fabric<F>, first: u32) -> Option<u32>
     requires own { seat.old.table_id ≡ F.table.id }
     requires reuses { F.table.reuses ≡ true }
@@ -129,10 +132,12 @@ fn find_slot<F: FabricName>(seat: &mut TableSeat, fabric: &Fabric<F>, first: u32
     ensures table { (seat.new.table_id ≡ seat.old.table_id) × (seat.new.id ≡ seat.old.id) }
     ensures me { ◌≡◌ {A = Mine} (mine_of seat.new.me) (mine_of seat.old.me) }
     ensures none { IfNone result (HasNoSlots seat.new.me.0) }
+    ensures looked { IfNone result (LooksAtEach F.table seat.old.me.0.looked seat.new.me.0.looked) }
     ensures free { IfSome result (λ slot. (slot < F.table.slots) × (seat.new.me.0.dirty ≡ []) × (seat.new.me.0.free ≡ slot ∷ [])) }
 {
     let mut slot = first;
-    for _tried in 0..fabric.slots {
+    for tried in 0..fabric.slots {
+        let _tried = tried;
         if take_step(seat, fabric, slot) {
             empty_step(seat, fabric, slot);
             return Some(slot);
@@ -155,6 +160,7 @@ pub(crate) fn number_at<F: FabricName>(
     ensures me { ◌≡◌ {A = Mine} (mine_of seat.new.me) (mine_of seat.old.me) }
     ensures number { IfSome result (λ n. IsNumberAt F.table count n × HasSlotFor F.table n seat.new.me.0) }
     ensures none { IfNone result (HasNoSlots seat.new.me.0) }
+    ensures why { IfNone result (FindsNone F.table count seat.old.me.0.looked seat.new.me.0.looked) }
     ensures order { F.table.reuses ≡ false → is_some result ≡ true }
 {
     if !fabric.reuses {

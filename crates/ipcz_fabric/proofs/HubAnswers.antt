@@ -36,7 +36,7 @@ open_why : (t : TableName) (old new : CellState) (why : Refusal) → OpensPair t
 open_why t old new why (UnderWay ends e inside how) = cc
 open_why t old new why (Fresh c n ends e idle number reached how) = cc
 open_why t old new why (NoneLeft e idle seen) = inl (ap (refusal_in why) e)
-open_why t old new why (NoSlot c e again idle fine few part seen) = inl (ap (refusal_in why) e)
+open_why t old new why (NoSlot c e again idle fine few part seen none) = inl (ap (refusal_in why) e)
 open_why t old new why (Unready e part seen) = serials_why (has_serials old.part.state.next_router 2) why (ap (refusal_in why) e)
 open_why t old new why (Lost n found e idle fine few apart part seen) = inr (inr (inr (ap (refusal_in why) e)))
 
@@ -56,7 +56,7 @@ ends_pair t node old new a b (Fresh c n ends e idle number reached how) =
     let few = number.below in
     pair_on t.size node _ new a b ends (ap (ends_in (a, b)) e) how (omega (arith, word, is, few))
 ends_pair t node old new a b (NoneLeft e idle seen) = cc
-ends_pair t node old new a b (NoSlot c e again idle fine few part seen) = cc
+ends_pair t node old new a b (NoSlot c e again idle fine few part seen none) = cc
 ends_pair t node old new a b (Unready e part seen) = cc
 ends_pair t node old new a b (Lost n found e idle fine few apart part seen) = cc
 

@@ -179,23 +179,23 @@ old_lives ends count limit k reuses id from old v p x is hand message named = li
     by other message named t r at = absurd (cc)
 
 -- a step on the word of a number that lives
-on_slot : EndLaws → (k : ℕ) (reuses : Bool) (dirty free : List ℕ) → (count limit slots id : ℕ) (m : Mine) (i : ℕ) (f : ℕ → ℕ) (turns : ℕ → List (ℕ × Act)) (told : ℕ → Mine → Type 0) →
+on_slot : EndLaws → (k : ℕ) (reuses : Bool) (dirty free looked : List ℕ) → (count limit slots id : ℕ) (m : Mine) (i : ℕ) (f : ℕ → ℕ) (turns : ℕ → List (ℕ × Act)) (told : ℕ → Mine → Type 0) →
     ((w : World) (n j : ℕ) (s : Side) → OneLetsGo w (turns n) j s → ⊥) →
-    Lives (virtual count limit) (sizes count limit k reuses) id m.0 i → IsTurns count limit slots id m i f turns told → OnSlot k reuses dirty free count limit slots id m i f turns told
-on_slot ends k reuses dirty free count limit slots id m i f turns told none lives steps areas =
-    link_steps (virtual count limit) (sizes count limit k reuses) (laws_of ends count limit k reuses) areas (turns_of count limit i turns) slots id (own_of m.0 dirty free) m.1 i f told
+    Lives (virtual count limit) (sizes count limit k reuses) id m.0 i → IsTurns count limit slots id m i f turns told → OnSlot k reuses dirty free looked count limit slots id m i f turns told
+on_slot ends k reuses dirty free looked count limit slots id m i f turns told none lives steps areas =
+    link_steps (virtual count limit) (sizes count limit k reuses) (laws_of ends count limit k reuses) areas (turns_of count limit i turns) slots id (own_of m.0 dirty free looked) m.1 i f told
     (kept_by ends count limit k reuses i turns) (loses_none ends count limit k reuses id i m.0 turns (λ again t r t' r' at g. none r.world (slice_index t.words i))) (inl lives) steps
 
 -- a step behind the link words, which leaves the claim count
-pub behind : EndLaws → (k : ℕ) (reuses : Bool) (dirty free : List ℕ) → (count limit slots id : ℕ) (m : Mine) (i : ℕ) (f : ℕ → ℕ) (turns : ℕ → List (ℕ × Act)) (told : ℕ → Mine → Type 0) →
+pub behind : EndLaws → (k : ℕ) (reuses : Bool) (dirty free looked : List ℕ) → (count limit slots id : ℕ) (m : Mine) (i : ℕ) (f : ℕ → ℕ) (turns : ℕ → List (ℕ × Act)) (told : ℕ → Mine → Type 0) →
     (reuses ≡ true → (t : St) (r : Rules count limit t) (t' : St) (r' : Rules count limit t') → get_elem? t.views id ≡ some m.0 → (n : ℕ) →
     AreTurns r.world r.books r.routes (turns n) r'.world r'.books r'.routes → (j : ℕ) (s : Side) → OneLetsGo r.world (turns n) j s → ⊥) →
-    (i ≡ limit → (n : ℕ) → f n ≡ n) → IsTurns count limit slots id m i f turns told → Behind k reuses dirty free count limit slots id m i f turns told
-behind ends k reuses dirty free count limit slots id m i f turns told none leaves steps areas j e inside =
+    (i ≡ limit → (n : ℕ) → f n ≡ n) → IsTurns count limit slots id m i f turns told → Behind k reuses dirty free looked count limit slots id m i f turns told
+behind ends k reuses dirty free looked count limit slots id m i f turns told none leaves steps areas j e inside =
     let x = virtual count limit in
     let z = sizes count limit k reuses in
-    subst (λ (q : ℕ). LastingSteps x z (turns_of count limit q turns) slots id (own_of m.0 dirty free, m.1) (k + j) f (same_own (own_of m.0 dirty free) told)) (sym e)
-    (other_steps x z (laws_of ends count limit k reuses) areas (turns_of count limit (limit + j) turns) slots id (own_of m.0 dirty free) m.1 j f told
+    subst (λ (q : ℕ). LastingSteps x z (turns_of count limit q turns) slots id (own_of m.0 dirty free looked, m.1) (k + j) f (same_own (own_of m.0 dirty free looked) told)) (sym e)
+    (other_steps x z (laws_of ends count limit k reuses) areas (turns_of count limit (limit + j) turns) slots id (own_of m.0 dirty free looked) m.1 j f told
     (kept_by ends count limit k reuses (limit + j) turns)
     (loses_none ends count limit k reuses id (limit + j) m.0 turns (λ again t r t' r' at g. none again t r t' r' at (slice_index t.words (limit + j)) g)) inside (λ n h. leaves (omega (arith, e, h)) n) (subst (λ (q : ℕ). IsTurns count limit slots id m q f turns told) e steps))
 
@@ -203,25 +203,25 @@ far : (f : ℕ → ℕ) (i limit count b : ℕ) → i ≡ limit + 1 + count + b 
 far f i limit count b word e n = absurd (omega (arith, e, word))
 
 pub slot_kinds : SlotKindsLast
-slot_kinds ends k reuses dirty free = (
-  (λ old count limit slots id i m p serial rt is can primary. on_slot ends k reuses dirty free count limit slots id m i (λ n. bit_or n (stable_bit rt.end.side)) (λ n. (p.node, acts.Router serial router_acts.Mark) ∷ []) (λ n m'. m' ≡ (acted_view i n serial rt.end.side (source_of rt) router_acts.Mark p m.0, m.1)) (λ w n. one_keeps w p.node (acts.Router serial router_acts.Mark) (mark_keeps serial)) (router_lives ends count limit k reuses id i m.0 p serial rt router_acts.Mark is can primary) (old count limit slots id i m p serial rt is can primary)),
-  (λ old count limit slots id i m p serial rt is can primary. on_slot ends k reuses dirty free count limit slots id m i (λ n. bit_and n (18446744073709551615 - waiting_bit (opposite rt.end.side))) (λ n. (p.node, acts.Router serial router_acts.Wake) ∷ []) (λ n m'. m' ≡ (acted_view i n serial rt.end.side (source_of rt) router_acts.Wake p m.0, m.1)) (λ w n. one_keeps w p.node (acts.Router serial router_acts.Wake) (wake_keeps serial)) (router_lives ends count limit k reuses id i m.0 p serial rt router_acts.Wake is can primary) (old count limit slots id i m p serial rt is can primary)),
-  (λ old count limit slots id i m p serial rt is can primary. on_slot ends k reuses dirty free count limit slots id m i (λ n. bit_and n (18446744073709486335 - locked_bit rt.end.side)) (λ n. (p.node, acts.Router serial router_acts.Unlock) ∷ []) (λ n m'. m' ≡ (acted_view i n serial rt.end.side (source_of rt) router_acts.Unlock p m.0, m.1)) (λ w n. one_keeps w p.node (acts.Router serial router_acts.Unlock) (unlock_keeps serial)) (router_lives ends count limit k reuses id i m.0 p serial rt router_acts.Unlock is can primary) (old count limit slots id i m p serial rt is can primary)),
-  (λ old count limit slots id i o m p serial rt is can primary. on_slot ends k reuses dirty free count limit slots id m i (λ n. either (eqb n o) (bits_of (word_after (word_of_bits o) rt.end.side (source_of rt) router_acts.Lock)) n) (λ n. turn_where (eqb n o) p.node (acts.Router serial router_acts.Lock)) (Acted i serial rt router_acts.Lock (λ n. eqb n o) m p) (λ w n. where_keeps (eqb n o) w p.node (acts.Router serial router_acts.Lock) (lock_keeps serial)) (router_lives ends count limit k reuses id i m.0 p serial rt router_acts.Lock is can primary) (old count limit slots id i o m p serial rt is can primary)),
-  (λ old count limit slots id i m p serial rt is can primary. on_slot ends k reuses dirty free count limit slots id m i (λ n. n) (λ n. turn_where (is_refusal (plan_of (word_of_bits n) rt.end.side)) p.node (acts.Router serial router_acts.Lock)) (Acted i serial rt router_acts.Lock (λ n. is_refusal (plan_of (word_of_bits n) rt.end.side)) m p) (λ w n. where_keeps (is_refusal (plan_of (word_of_bits n) rt.end.side)) w p.node (acts.Router serial router_acts.Lock) (lock_keeps serial)) (router_lives ends count limit k reuses id i m.0 p serial rt router_acts.Lock is can primary) (old count limit slots id i m p serial rt is can primary)),
-  (λ old count limit slots id from o m p x is hand message named. on_slot ends k reuses dirty free count limit slots id m o (λ n. n) (λ n. []) (λ n m'. ((word_of_bits n).source ≡ Some from) × (m' ≡ (saw o n m.0, m.1))) (λ w n j s g. g) (old_lives ends count limit k reuses id from o m.0 p x is hand message named) (old count limit slots id from o m p x is hand message named)),
+slot_kinds ends k reuses dirty free looked = (
+  (λ old count limit slots id i m p serial rt is can primary. on_slot ends k reuses dirty free looked count limit slots id m i (λ n. bit_or n (stable_bit rt.end.side)) (λ n. (p.node, acts.Router serial router_acts.Mark) ∷ []) (λ n m'. m' ≡ (acted_view i n serial rt.end.side (source_of rt) router_acts.Mark p m.0, m.1)) (λ w n. one_keeps w p.node (acts.Router serial router_acts.Mark) (mark_keeps serial)) (router_lives ends count limit k reuses id i m.0 p serial rt router_acts.Mark is can primary) (old count limit slots id i m p serial rt is can primary)),
+  (λ old count limit slots id i m p serial rt is can primary. on_slot ends k reuses dirty free looked count limit slots id m i (λ n. bit_and n (18446744073709551615 - waiting_bit (opposite rt.end.side))) (λ n. (p.node, acts.Router serial router_acts.Wake) ∷ []) (λ n m'. m' ≡ (acted_view i n serial rt.end.side (source_of rt) router_acts.Wake p m.0, m.1)) (λ w n. one_keeps w p.node (acts.Router serial router_acts.Wake) (wake_keeps serial)) (router_lives ends count limit k reuses id i m.0 p serial rt router_acts.Wake is can primary) (old count limit slots id i m p serial rt is can primary)),
+  (λ old count limit slots id i m p serial rt is can primary. on_slot ends k reuses dirty free looked count limit slots id m i (λ n. bit_and n (18446744073709486335 - locked_bit rt.end.side)) (λ n. (p.node, acts.Router serial router_acts.Unlock) ∷ []) (λ n m'. m' ≡ (acted_view i n serial rt.end.side (source_of rt) router_acts.Unlock p m.0, m.1)) (λ w n. one_keeps w p.node (acts.Router serial router_acts.Unlock) (unlock_keeps serial)) (router_lives ends count limit k reuses id i m.0 p serial rt router_acts.Unlock is can primary) (old count limit slots id i m p serial rt is can primary)),
+  (λ old count limit slots id i o m p serial rt is can primary. on_slot ends k reuses dirty free looked count limit slots id m i (λ n. either (eqb n o) (bits_of (word_after (word_of_bits o) rt.end.side (source_of rt) router_acts.Lock)) n) (λ n. turn_where (eqb n o) p.node (acts.Router serial router_acts.Lock)) (Acted i serial rt router_acts.Lock (λ n. eqb n o) m p) (λ w n. where_keeps (eqb n o) w p.node (acts.Router serial router_acts.Lock) (lock_keeps serial)) (router_lives ends count limit k reuses id i m.0 p serial rt router_acts.Lock is can primary) (old count limit slots id i o m p serial rt is can primary)),
+  (λ old count limit slots id i m p serial rt is can primary. on_slot ends k reuses dirty free looked count limit slots id m i (λ n. n) (λ n. turn_where (is_refusal (plan_of (word_of_bits n) rt.end.side)) p.node (acts.Router serial router_acts.Lock)) (Acted i serial rt router_acts.Lock (λ n. is_refusal (plan_of (word_of_bits n) rt.end.side)) m p) (λ w n. where_keeps (is_refusal (plan_of (word_of_bits n) rt.end.side)) w p.node (acts.Router serial router_acts.Lock) (lock_keeps serial)) (router_lives ends count limit k reuses id i m.0 p serial rt router_acts.Lock is can primary) (old count limit slots id i m p serial rt is can primary)),
+  (λ old count limit slots id from o m p x is hand message named. on_slot ends k reuses dirty free looked count limit slots id m o (λ n. n) (λ n. []) (λ n m'. ((word_of_bits n).source ≡ Some from) × (m' ≡ (saw o n m.0, m.1))) (λ w n j s g. g) (old_lives ends count limit k reuses id from o m.0 p x is hand message named) (old count limit slots id from o m p x is hand message named)),
 )
 
 pub other_kinds : OtherKindsLast
-other_kinds ends k reuses dirty free = (
-  (λ old count limit slots id i m p act is touch possible serials none. behind ends k reuses dirty free count limit slots id m i (λ n. n) (λ n. (p.node, act) ∷ []) (λ n m'. m' ≡ (with_part (act_part act answers.Plain p) m.0, m.1)) (λ again t r t' r' at n g. gives_none r.world r.books r.routes p.node act p.state r.lawful (node_here count limit id m.0 p is t r at) g.0.may (none again)) (λ e n. refl) (old count limit slots id i m p act is touch possible serials)),
-  (λ old count limit slots id m p serial rt is can. behind ends k reuses dirty free count limit slots id m limit (λ n. n) (λ n. turn_where (eqb n limit) p.node (acts.Router serial router_acts.Claim)) (λ n m'. MatchBool (eqb n limit) (m' ≡ (with_part (act_part (acts.Router serial router_acts.Claim) answers.NoWord p) (saw limit n m.0), m.1)) (m' ≡ (saw limit n m.0, m.1))) (λ again t r t' r' at n g. where_keeps (eqb n limit) r.world p.node (acts.Router serial router_acts.Claim) (claim_keeps serial)) (λ e n. refl) (old count limit slots id m p serial rt is can)),
-  (λ old count limit slots id i b to m p is at word low. behind ends k reuses dirty free count limit slots id m i (λ n. either (eqb n 0) 3 n) (λ n. []) (λ n m'. MatchBool (eqb n 0) (m' ≡ (with_part (probe_part to p) (saw i n m.0), (b, None) ∷ m.1)) (m' ≡ (saw i n m.0, m.1))) (λ again t r t' r' at n g j s h. h) (far (λ n. either (eqb n 0) 3 n) i limit count b word) (old count limit slots id i b to m p is at word low)),
-  (λ old count limit slots id i b to m p rest is at word low has held. behind ends k reuses dirty free count limit slots id m i (λ n. 0) (λ n. []) (λ n m'. m' ≡ (with_part (unprobe_part to p) m.0, rest)) (λ again t r t' r' at n g j s h. h) (far (λ n. 0) i limit count b word) (old count limit slots id i b to m p rest is at word low has held)),
-  (λ old count limit slots id i b to m p x rest is at word low has mail post held. behind ends k reuses dirty free count limit slots id m i (λ n. 1) (λ n. (p.node, acts.Post to) ∷ []) (λ n m'. m' ≡ (with_part (post_part to p) m.0, rest)) (λ again t r t' r' at n g. one_keeps r.world p.node (acts.Post to) tt) (far (λ n. 1) i limit count b word) (old count limit slots id i b to m p x rest is at word low has mail post held)),
-  (λ old count limit slots id i b from m p is at word low idle. behind ends k reuses dirty free count limit slots id m i (λ n. either (eqb n 1) 2 n) (λ n. turn_where (eqb n 1) p.node (acts.Look from)) (λ n m'. MatchBool (eqb n 1) ((x : Message) × (m' ≡ (with_part (look_part from x p) (saw i n m.0), (b, Some x) ∷ m.1))) (m' ≡ (saw i n m.0, m.1))) (λ again t r t' r' at n g. where_keeps (eqb n 1) r.world p.node (acts.Look from) tt) (far (λ n. either (eqb n 1) 2 n) i limit count b word) (old count limit slots id i b from m p is at word low idle)),
-  (λ old count limit slots id i b from m p x rest is at word hand message serials held. behind ends k reuses dirty free count limit slots id m i (λ n. 0) (λ n. (p.node, acts.Hand from) ∷ []) (λ n m'. m' ≡ (with_part (hand_part from (trusted from x) x p) m.0, rest)) (λ again t r t' r' at n g. one_keeps r.world p.node (acts.Hand from) tt) (far (λ n. 0) i limit count b word) (old count limit slots id i b from m p x rest is at word hand message serials held)),
-  (λ old count limit slots id i b from m p s rest is at word hand held. behind ends k reuses dirty free count limit slots id m i (λ n. n) (λ n. []) (λ n m'. m' ≡ (saw i n m.0, rest)) (λ again t r t' r' at n g j s h. h) (far (λ n. n) i limit count b word) (old count limit slots id i b from m p s rest is at word hand held)),
+other_kinds ends k reuses dirty free looked = (
+  (λ old count limit slots id i m p act is touch possible serials none. behind ends k reuses dirty free looked count limit slots id m i (λ n. n) (λ n. (p.node, act) ∷ []) (λ n m'. m' ≡ (with_part (act_part act answers.Plain p) m.0, m.1)) (λ again t r t' r' at n g. gives_none r.world r.books r.routes p.node act p.state r.lawful (node_here count limit id m.0 p is t r at) g.0.may (none again)) (λ e n. refl) (old count limit slots id i m p act is touch possible serials)),
+  (λ old count limit slots id m p serial rt is can. behind ends k reuses dirty free looked count limit slots id m limit (λ n. n) (λ n. turn_where (eqb n limit) p.node (acts.Router serial router_acts.Claim)) (λ n m'. MatchBool (eqb n limit) (m' ≡ (with_part (act_part (acts.Router serial router_acts.Claim) answers.NoWord p) (saw limit n m.0), m.1)) (m' ≡ (saw limit n m.0, m.1))) (λ again t r t' r' at n g. where_keeps (eqb n limit) r.world p.node (acts.Router serial router_acts.Claim) (claim_keeps serial)) (λ e n. refl) (old count limit slots id m p serial rt is can)),
+  (λ old count limit slots id i b to m p is at word low. behind ends k reuses dirty free looked count limit slots id m i (λ n. either (eqb n 0) 3 n) (λ n. []) (λ n m'. MatchBool (eqb n 0) (m' ≡ (with_part (probe_part to p) (saw i n m.0), (b, None) ∷ m.1)) (m' ≡ (saw i n m.0, m.1))) (λ again t r t' r' at n g j s h. h) (far (λ n. either (eqb n 0) 3 n) i limit count b word) (old count limit slots id i b to m p is at word low)),
+  (λ old count limit slots id i b to m p rest is at word low has held. behind ends k reuses dirty free looked count limit slots id m i (λ n. 0) (λ n. []) (λ n m'. m' ≡ (with_part (unprobe_part to p) m.0, rest)) (λ again t r t' r' at n g j s h. h) (far (λ n. 0) i limit count b word) (old count limit slots id i b to m p rest is at word low has held)),
+  (λ old count limit slots id i b to m p x rest is at word low has mail post held. behind ends k reuses dirty free looked count limit slots id m i (λ n. 1) (λ n. (p.node, acts.Post to) ∷ []) (λ n m'. m' ≡ (with_part (post_part to p) m.0, rest)) (λ again t r t' r' at n g. one_keeps r.world p.node (acts.Post to) tt) (far (λ n. 1) i limit count b word) (old count limit slots id i b to m p x rest is at word low has mail post held)),
+  (λ old count limit slots id i b from m p is at word low idle. behind ends k reuses dirty free looked count limit slots id m i (λ n. either (eqb n 1) 2 n) (λ n. turn_where (eqb n 1) p.node (acts.Look from)) (λ n m'. MatchBool (eqb n 1) ((x : Message) × (m' ≡ (with_part (look_part from x p) (saw i n m.0), (b, Some x) ∷ m.1))) (m' ≡ (saw i n m.0, m.1))) (λ again t r t' r' at n g. where_keeps (eqb n 1) r.world p.node (acts.Look from) tt) (far (λ n. either (eqb n 1) 2 n) i limit count b word) (old count limit slots id i b from m p is at word low idle)),
+  (λ old count limit slots id i b from m p x rest is at word hand message serials held. behind ends k reuses dirty free looked count limit slots id m i (λ n. 0) (λ n. (p.node, acts.Hand from) ∷ []) (λ n m'. m' ≡ (with_part (hand_part from (trusted from x) x p) m.0, rest)) (λ again t r t' r' at n g. one_keeps r.world p.node (acts.Hand from) tt) (far (λ n. 0) i limit count b word) (old count limit slots id i b from m p x rest is at word hand message serials held)),
+  (λ old count limit slots id i b from m p s rest is at word hand held. behind ends k reuses dirty free looked count limit slots id m i (λ n. n) (λ n. []) (λ n m'. m' ≡ (saw i n m.0, rest)) (λ again t r t' r' at n g j s h. h) (far (λ n. n) i limit count b word) (old count limit slots id i b from m p s rest is at word hand held)),
 )
 
 -- an end that a router gives up by an act is let go
@@ -321,10 +321,10 @@ module _ (ends : EndLaws) (count limit k : ℕ) (reuses : Bool) (id i : ℕ) (b 
   goes9 t r t' r' at g j s lets held = ends.let_go r.world r.books r.routes p.node serial rt act j s r.lawful g.0.node (here9 t r at) g.0.may lets (subst (λ (u : World). IsEndHeld u j s) g.1.0 held)
 
 pub letting_go : LettingGoLasts
-letting_go ends touches k reuses dirty free count limit slots id i b m p serial rt act is can plain gives none areas =
+letting_go ends touches k reuses dirty free looked count limit slots id i b m p serial rt act is can plain gives none areas =
     let x = virtual count limit in
     let z = sizes count limit k reuses in
-    letting x z (laws_of ends count limit k reuses) areas (turns_of count limit i (λ n. (p.node, acts.Router serial act) ∷ [])) slots id (own_of m.0 dirty free) m.1 i b
+    letting x z (laws_of ends count limit k reuses) areas (turns_of count limit i (λ n. (p.node, acts.Router serial act) ∷ [])) slots id (own_of m.0 dirty free looked) m.1 i b
     (λ m'. m' ≡ (with_part (act_part (acts.Router serial act) answers.Plain p) m.0, m.1))
     (kept_by ends count limit k reuses i (λ n. (p.node, acts.Router serial act) ∷ []))
     (λ again t r t' r' at g d j l out. loses_but ends count limit k reuses id i b m.0 p serial rt act is can gives (λ q. ⊥) (λ q e. let f = sym none ∙ e in cc) again t r t' r' at g d j l (λ h. ⊎_elim out (λ q. q) h))
@@ -333,21 +333,21 @@ letting_go ends touches k reuses dirty free count limit slots id i b m p serial 
     (touches count limit slots id i m p serial rt act is can plain)
 
 pub reusing : ReusingLasts
-reusing k dirty free one count limit slots id p m = (
-  (λ low. reclaims (virtual count limit) (sizes count limit k true) (are_sizes count limit k one) (turns_of count limit 0 (λ n. [])) slots id p (own_of m.0 dirty free) m.1 (λ t r. (refl, refl, refl)) refl low),
-  (λ has. empties (virtual count limit) (sizes count limit k true) (are_sizes count limit k one) (turns_of count limit 0 (λ n. [])) slots id p (own_of m.0 dirty free) m.1 (λ t r. (refl, refl, refl)) has),
-  (λ has. returns_slots (virtual count limit) (sizes count limit k true) (turns_of count limit 0 (λ n. [])) slots id p (own_of m.0 dirty free) m.1 (λ t r. (refl, refl, refl)) has),
+reusing k dirty free looked one count limit slots id p m = (
+  (λ low. reclaims (virtual count limit) (sizes count limit k true) (are_sizes count limit k one) (turns_of count limit 0 (λ n. [])) slots id p (own_of m.0 dirty free looked) m.1 (λ t r. (refl, refl, refl)) refl low),
+  (λ has. empties (virtual count limit) (sizes count limit k true) (are_sizes count limit k one) (turns_of count limit 0 (λ n. [])) slots id p (own_of m.0 dirty free looked) m.1 (λ t r. (refl, refl, refl)) has),
+  (λ has. returns_slots (virtual count limit) (sizes count limit k true) (turns_of count limit 0 (λ n. [])) slots id p (own_of m.0 dirty free looked) m.1 (λ t r. (refl, refl, refl)) has),
 )
 
 same_number : (q j : ℕ) → Some q ≡ Some j → q ≡ j
 same_number q j e = cc
 
 pub leaving : LeavingLasts
-leaving ends touches k dirty free one count limit slots id i j b m p serial rt act is can plain gives spare =
+leaving ends touches k dirty free looked one count limit slots id i j b m p serial rt act is can plain gives spare =
     let x = virtual count limit in
     let z = sizes count limit k true in
     let goes : (s : Side) → lets_go j s rt act ≡ true = λ s. spare_goes rt act j s spare in
-    whole x z (laws_of ends count limit k true) (are_sizes count limit k one) (turns_of count limit i (λ n. (p.node, acts.Router serial act) ∷ [])) slots id (own_of m.0 dirty free) m.1 i j b
+    whole x z (laws_of ends count limit k true) (are_sizes count limit k one) (turns_of count limit i (λ n. (p.node, acts.Router serial act) ∷ [])) slots id (own_of m.0 dirty free looked) m.1 i j b
     (λ m'. m' ≡ (with_part (act_part (acts.Router serial act) answers.Plain p) m.0, m.1))
     (kept_by ends count limit k true i (λ n. (p.node, acts.Router serial act) ∷ []))
     (loses_but ends count limit k true id i b m.0 p serial rt act is can gives (λ q. q ≡ j) (λ q e. same_number q j (sym e ∙ spare)))

@@ -34,22 +34,22 @@ ends = record {
   words = links_are_words;
 }
 
-loads_last : (k : ℕ) (reuses : Bool) (dirty free : List ℕ) → Loads (Behind k reuses dirty free)
-loads_last k reuses dirty free count limit slots id i m p is =
-    behind ends k reuses dirty free count limit slots id m i (λ n. n) (λ n. []) (λ n m'. m' ≡ (saw i n m.0, m.1)) (λ again t r t' r' at n g j s h. h) (λ e n. refl) (loads_turns count limit slots id i m p is)
+loads_last : (k : ℕ) (reuses : Bool) (dirty free looked : List ℕ) → Loads (Behind k reuses dirty free looked)
+loads_last k reuses dirty free looked count limit slots id i m p is =
+    behind ends k reuses dirty free looked count limit slots id m i (λ n. n) (λ n. []) (λ n m'. m' ≡ (saw i n m.0, m.1)) (λ again t r t' r' at n g j s h. h) (λ e n. refl) (loads_turns count limit slots id i m p is)
 
 pub turns_last : TurnsLast
 turns_last = (
-  (λ k reuses dirty free.
-      let a = slot_kinds ends k reuses dirty free in
-      let b = other_kinds ends k reuses dirty free in (
+  (λ k reuses dirty free looked.
+      let a = slot_kinds ends k reuses dirty free looked in
+      let b = other_kinds ends k reuses dirty free looked in (
         a.0 marks_turns,
         a.1 wakes_turns,
         a.2 unlocks_turns,
         a.3 tries_lock_turns,
         a.4 loads_for_lock_turns,
         a.5 loads_for_hand_turns,
-        loads_last k reuses dirty free,
+        loads_last k reuses dirty free looked,
         b.0 touch_acts,
         b.1 loads_for_claim_turns,
         b.2 probes_turns,

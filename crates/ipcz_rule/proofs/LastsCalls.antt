@@ -32,28 +32,28 @@ pub ends_held : (count limit k : ℕ) (reuses : Bool) (id : ℕ) (v : View) → 
 ends_held count limit k reuses id v again t r t' r' at g b i l gone held = gone (g.1 again i (side_of b) held)
 
 -- a step behind the link words which leaves the claim count
-pub behind_kept : (k : ℕ) (reuses : Bool) (dirty free : List ℕ) (count limit slots id : ℕ) (m : Mine) (i : ℕ) (f : ℕ → ℕ) (turns : ℕ → List (ℕ × Act)) (told : ℕ → Mine → Type 0) →
-    (i ≡ limit → (n : ℕ) → f n ≡ n) → IsKept reuses count limit slots id m i f turns told → CallBehind k reuses dirty free count limit slots id m i f turns told
-behind_kept k reuses dirty free count limit slots id m i f turns told leaves steps areas j e inside =
+pub behind_kept : (k : ℕ) (reuses : Bool) (dirty free looked : List ℕ) (count limit slots id : ℕ) (m : Mine) (i : ℕ) (f : ℕ → ℕ) (turns : ℕ → List (ℕ × Act)) (told : ℕ → Mine → Type 0) →
+    (i ≡ limit → (n : ℕ) → f n ≡ n) → IsKept reuses count limit slots id m i f turns told → CallBehind k reuses dirty free looked count limit slots id m i f turns told
+behind_kept k reuses dirty free looked count limit slots id m i f turns told leaves steps areas j e inside =
     let x = virtual count limit in
     let z = sizes count limit k reuses in
-    other_steps x z (laws_of ends count limit k reuses) areas (keeping reuses count limit) slots id (own_of m.0 dirty free) m.1 j f told
+    other_steps x z (laws_of ends count limit k reuses) areas (keeping reuses count limit) slots id (own_of m.0 dirty free looked) m.1 j f told
     (ends_kept count limit k reuses) (ends_held count limit k reuses id m.0) inside (λ n h. leaves (omega (arith, e, h)) n) (subst (λ (q : ℕ). IsKept reuses count limit slots id m q f turns told) e steps)
 
 -- a step on the word of a number that has a slot
-pub slot_kept : (k : ℕ) (reuses : Bool) (dirty free : List ℕ) (count limit slots id : ℕ) (m : Mine) (i : ℕ) (f : ℕ → ℕ) (turns : ℕ → List (ℕ × Act)) (told : ℕ → Mine → Type 0) →
-    HasSlot (virtual count limit) (sizes count limit k reuses) id m.0 i → IsKept reuses count limit slots id m i f turns told → CallOnSlot k reuses dirty free count limit slots id m i f turns told
-slot_kept k reuses dirty free count limit slots id m i f turns told has steps areas =
-    link_steps (virtual count limit) (sizes count limit k reuses) (laws_of ends count limit k reuses) areas (keeping reuses count limit) slots id (own_of m.0 dirty free) m.1 i f told
+pub slot_kept : (k : ℕ) (reuses : Bool) (dirty free looked : List ℕ) (count limit slots id : ℕ) (m : Mine) (i : ℕ) (f : ℕ → ℕ) (turns : ℕ → List (ℕ × Act)) (told : ℕ → Mine → Type 0) →
+    HasSlot (virtual count limit) (sizes count limit k reuses) id m.0 i → IsKept reuses count limit slots id m i f turns told → CallOnSlot k reuses dirty free looked count limit slots id m i f turns told
+slot_kept k reuses dirty free looked count limit slots id m i f turns told has steps areas =
+    link_steps (virtual count limit) (sizes count limit k reuses) (laws_of ends count limit k reuses) areas (keeping reuses count limit) slots id (own_of m.0 dirty free looked) m.1 i f told
     (ends_kept count limit k reuses) (ends_held count limit k reuses id m.0) has steps
 
 pub calls_last : CallsLast
-calls_last k reuses dirty free = (
-  (λ profile count limit slots id i m p at bytes ends is fine. behind_kept k reuses dirty free count limit slots id m i (λ n. n) (λ n. []) (λ n m'. m' ≡ (with_part (put_part at bytes ends p) m.0, m.1)) (λ e n. refl)
+calls_last k reuses dirty free looked = (
+  (λ profile count limit slots id i m p at bytes ends is fine. behind_kept k reuses dirty free looked count limit slots id m i (λ n. n) (λ n. []) (λ n m'. m' ≡ (with_part (put_part at bytes ends p) m.0, m.1)) (λ e n. refl)
       (puts reuses profile count limit slots id i m p at bytes ends is fine)),
-  (λ count limit slots id i m p at number q is fine got. behind_kept k reuses dirty free count limit slots id m i (λ n. n) (λ n. []) (λ n m'. m' ≡ (with_part (get_part at number q p) m.0, m.1)) (λ e n. refl)
+  (λ count limit slots id i m p at number q is fine got. behind_kept k reuses dirty free looked count limit slots id m i (λ n. n) (λ n. []) (λ n m'. m' ≡ (with_part (get_part at number q p) m.0, m.1)) (λ e n. refl)
       (gets reuses count limit slots id i m p at number q is fine got)),
-  (λ count limit slots id i m p at is fine. behind_kept k reuses dirty free count limit slots id m i (λ n. n) (λ n. []) (λ n m'. m' ≡ (with_part (close_part at p) m.0, m.1)) (λ e n. refl)
+  (λ count limit slots id i m p at is fine. behind_kept k reuses dirty free looked count limit slots id m i (λ n. n) (λ n. []) (λ n m'. m' ≡ (with_part (close_part at p) m.0, m.1)) (λ e n. refl)
       (closes reuses count limit slots id i m p at is fine)),
 )
 
@@ -64,7 +64,7 @@ opening_lives count limit k reuses id i v p is opening = lives_by ends count lim
     (A, ByOpen p.node (ap (λ (y : Node). y.opening) sp.state ∙ opening)))
 
 pub opens_last : OpensLast
-opens_last k reuses dirty free count limit slots id i m p is opening fine =
-    slot_kept k reuses dirty free count limit slots id m i (λ n. either (eqb n 0) (bits_of open_word) n) (λ n. [])
+opens_last k reuses dirty free looked count limit slots id i m p is opening fine =
+    slot_kept k reuses dirty free looked count limit slots id m i (λ n. either (eqb n 0) (bits_of open_word) n) (λ n. [])
     (λ n m'. (n ≡ 0) × (m' ≡ (with_part (open_part i p) (saw i n m.0), m.1))) (inl (opening_lives count limit k reuses id i m.0 p is opening))
     (opens reuses count limit slots id i m p is opening fine)

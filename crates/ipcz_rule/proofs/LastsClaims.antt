@@ -240,7 +240,7 @@ module _ (ends : EndLaws) (passing : PassingKeepsLawful) (count limit k c skip :
       (subst (λ (u : World). IsEndHeld u (passed_over r.world skip).claimed (side_of b)) (sym g.2.1.0) held))
 
 claims_beyond : EndLaws → PassingKeepsLawful → LawfulStraysNothing → Loads IsTurns → Claims IsTurns → ClaimsOnSlots
-claims_beyond ends passing strays loads old k dirty free one count limit slots id c skip m p serial rt is can small tiny has =
+claims_beyond ends passing strays loads old k dirty free looked one count limit slots id c skip m p serial rt is can small tiny has =
     let x = virtual count limit in
     let z = sizes count limit k true in
     let n : ℕ = c + skip in
@@ -250,20 +250,20 @@ claims_beyond ends passing strays loads old k dirty free one count limit slots i
     let miss : ℕ → Mine → Type 0 = λ j m'. m' ≡ (saw limit j m.0, m.1) in
     let P : ℕ → Type 0 = λ q. Steps x (λ t r t' r'. MatchBool (eqb (slice_index t.words limit) c) (g t r t' r') (h t r t' r')) slots id m q (λ j. either (eqb j c) (n + 1) j) (λ j m'. MatchBool (eqb j c) (hit m') (miss j m')) in
     let steps : P limit = λ t r deep at fits. claimed_beyond ends passing strays loads old count limit slots id c skip m p serial rt is can small t r deep at fits tiny in
-    claims x z (laws_of ends count limit k true) (are_sizes count limit k one) g h slots id c n (own_of m.0 dirty free) m.1 hit miss
+    claims x z (laws_of ends count limit k true) (are_sizes count limit k one) g h slots id c n (own_of m.0 dirty free looked) m.1 hit miss
     (passes_kept ends passing count limit k c skip p serial) (passes_loses ends passing count limit k c skip p serial id m.0) (passes_skipped ends passing count limit k c skip p serial)
     (passes_takes ends passing count limit k c skip p serial id m.0 small) (kept_by ends count limit k true limit (λ j. []))
     (loses_none ends count limit k true id limit m.0 (λ j. []) (λ again t r t' r' at g j s h. h)) (omega arith) small has (subst P (omega arith) steps)
 
 -- where slots aren't used again a claim is the rule's own
 claims_in_their_order : EndLaws → Claims IsTurns → ClaimsInTheirOrder
-claims_in_their_order ends old k dirty free count limit slots id c m p serial rt is can few areas =
+claims_in_their_order ends old k dirty free looked count limit slots id c m p serial rt is can few areas =
     let x = virtual count limit in
     let z = sizes count limit k false in
     let act = acts.Router serial router_acts.Claim in
     let turns : ℕ → List (ℕ × Act) = λ n. turn_where (eqb n c) p.node act in
     let told : ℕ → Mine → Type 0 = λ n m'. MatchBool (eqb n c) (m' ≡ (with_part (act_part act (answers.Claimed c) p) (saw limit n m.0), m.1)) (m' ≡ (saw limit n m.0, m.1)) in
-    claims_in_order x z (laws_of ends count limit k false) areas (turns_of count limit limit turns) slots id c (own_of m.0 dirty free) m.1 told
+    claims_in_order x z (laws_of ends count limit k false) areas (turns_of count limit limit turns) slots id c (own_of m.0 dirty free looked) m.1 told
     (kept_by ends count limit k false limit turns) refl few
     (subst (λ (q : ℕ). Steps x (turns_of count limit limit turns) slots id m q (λ n. either (eqb n c) (c + 1) n) told) (omega arith) (old count limit slots id c m p serial rt is can few))
 

@@ -125,7 +125,7 @@ module _ (ends : EndLaws) (count limit k c skip : ℕ) where
   passes_takes id v t r t' r' at g b gone = gone (g.3 (side_of b))
 
 pub claims_for_open_last : ClaimsForOpenLast
-claims_for_open_last k dirty free one count limit slots id c skip m p is idle small tiny has =
+claims_for_open_last k dirty free looked one count limit slots id c skip m p is idle small tiny has =
     let x = virtual count limit in
     let z = sizes count limit k true in
     let n : ℕ = c + skip in
@@ -135,16 +135,16 @@ claims_for_open_last k dirty free one count limit slots id c skip m p is idle sm
     let miss : ℕ → Mine → Type 0 = λ j m'. m' ≡ (saw limit j m.0, m.1) in
     let P : ℕ → Type 0 = λ q. Steps x (λ t r t' r'. MatchBool (eqb (slice_index t.words limit) c) (g t r t' r') (h t r t' r')) slots id m q (λ j. either (eqb j c) (n + 1) j) (λ j m'. MatchBool (eqb j c) (hit m') (miss j m')) in
     let steps : P limit = λ t r deep at fits. claimed_beyond ends passing_keeps_lawful lawful_worlds_stray_nothing loads_turns (claims_for_open true) count limit slots id c skip m p is idle small t r deep at fits tiny in
-    claims x z (laws_of ends count limit k true) (are_sizes count limit k one) g h slots id c n (own_of m.0 dirty free) m.1 hit miss
+    claims x z (laws_of ends count limit k true) (are_sizes count limit k one) g h slots id c n (own_of m.0 dirty free looked) m.1 hit miss
     (passes_kept ends count limit k c skip) (passes_loses ends count limit k c skip id m.0) (passes_skipped ends count limit k c skip) (passes_takes ends count limit k c skip id m.0)
     (ends_kept count limit k true) (ends_held count limit k true id m.0) (omega arith) small has (subst P (omega arith) steps)
 
 -- where slots aren't used again it is the rule's own
 pub claims_for_open_in_order : ClaimsForOpenInOrder
-claims_for_open_in_order k dirty free count limit slots id c m p is idle few areas =
+claims_for_open_in_order k dirty free looked count limit slots id c m p is idle few areas =
     let x = virtual count limit in
     let z = sizes count limit k false in
     let told : ℕ → Mine → Type 0 = λ n m'. MatchBool (eqb n c) (m' ≡ (with_part (claimed_part c p) (saw limit n m.0), m.1)) (m' ≡ (saw limit n m.0, m.1)) in
-    claims_in_order x z (laws_of ends count limit k false) areas (keeping false count limit) slots id c (own_of m.0 dirty free) m.1 told
+    claims_in_order x z (laws_of ends count limit k false) areas (keeping false count limit) slots id c (own_of m.0 dirty free looked) m.1 told
     (ends_kept count limit k false) refl few
     (subst (λ (q : ℕ). Steps x (keeping false count limit) slots id m q (λ n. either (eqb n c) (c + 1) n) told) (omega arith) (claims_for_open false count limit slots id c m p is idle few))

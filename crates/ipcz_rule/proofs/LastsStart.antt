@@ -98,7 +98,7 @@ lasting_starts count limit spare limits room =
     ap (slice_index words) (omega arith) ∙ (at_others n spare ((1 + count + count * count) + p) (middle ++ last)
     ∙ (get_or-append_right middle last (1 + count + count * count) ((1 + count + count * count) + p) 0 long (omega arith) ∙ ap (λ i. get_or last i 0) (omega arith))) in
     starts (virtual count limit) (sizes count limit k true) (laws_of ends count limit k true)
-    (opening words (no_messages (count * count)) (own_of (opening_view count) [] [])) (opening (opening_words count limit) (no_messages (count * count)) (opening_view count)) r (record {
+    (opening words (no_messages (count * count)) (own_of (opening_view count) [] [] [])) (opening (opening_words count limit) (no_messages (count * count)) (opening_view count)) r (record {
       wide = whole_length n spare middle ∙ omega (arith, long);
       tall = let e = r.shows.wide in let z = r.words in let c = r.nodes in e ∙ (ap (λ (q : ℕ). q + 1 + r.world.count + r.world.count * r.world.count) z ∙ (ap (λ (q : ℕ). limit + 1 + q + q * q) c ∙ omega arith));
       homes = refl;
@@ -110,7 +110,7 @@ lasting_starts count limit spare limits room =
       claimed = λ p l. let_go p ∙ (get_or_append_left (replicate n 0) (replicate spare 3) 0 p (rw (long_of n 0) (omega (arith, count_there, l))) ∙ get_or-replicate n p 0 0 (omega (arith, count_there, l)));
       unclaimed = λ p far l. let_go p ∙ (get_or-append_right (replicate n 0) (replicate spare 3) n p 0 (long_of n 0) (omega (arith, count_there, far)) ∙ get_or-replicate spare (p - n) 3 0 (omega (arith, count_there, far, l)));
       held = λ again b p l gone. gone (ends.claimed.free r.world r.books r.routes p (side_of b) r.lawful (opened count limit r p (omega (arith, count_there, l)) (omega (arith, count_there, l, room))));
-      none = λ id o at. none_of (own_of (opening_view count) [] []) id o refl refl at;
+      none = λ id o at. none_of (own_of (opening_view count) [] [] []) id o refl refl at;
     })
 
 -- where each number has a slot of its own: the words are those of the table that is folded, with noughts behind them
@@ -130,7 +130,7 @@ whole_starts count size limits =
     get_or-append_right words (replicate size 0) (size + (1 + count + count * count)) (size + (1 + count + count * count) + p) 0 tall (omega arith)
     ∙ (ap (λ j. get_or (replicate size 0) j 0) (omega arith) ∙ get_or-replicate size p 0 0 l) in
     starts (virtual count size) (sizes count size size false) (laws_of ends count size size false)
-    (opening (whole_words count size) (no_messages (count * count)) (own_of (opening_view count) [] [])) (opening words (no_messages (count * count)) (opening_view count)) r (record {
+    (opening (whole_words count size) (no_messages (count * count)) (own_of (opening_view count) [] [] [])) (opening words (no_messages (count * count)) (opening_view count)) r (record {
       wide = length-append {A = ℕ} words (replicate size 0) ∙ (let e = long_of size 0 in omega (arith, tall, e));
       tall = tall;
       homes = refl;
@@ -142,7 +142,7 @@ whole_starts count size limits =
       claimed = λ p l. let_go p (omega (arith, count_there, l, room));
       unclaimed = λ p far l. let_go p l;
       held = λ again. absurd (cc);
-      none = λ id o at. none_of (own_of (opening_view count) [] []) id o refl refl at;
+      none = λ id o at. none_of (own_of (opening_view count) [] [] []) id o refl refl at;
     })
 
 pub start_lasts : StartLasts

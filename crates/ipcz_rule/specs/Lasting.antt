@@ -60,76 +60,76 @@ abbrev pub turns_of : (count limit i : ℕ) → (ℕ → List (ℕ × Act)) → 
 turns_of count limit i turns t r t' r' = AreTurns r.world r.books r.routes (turns (slice_index t.words i)) r'.world r'.books r'.routes
 
 -- a seat's view with its slots
-abbrev pub own_of : View → List ℕ → List ℕ → Own View
-own_of v dirty free = record { view = v; dirty = dirty; free = free }
+abbrev pub own_of : View → List ℕ → List ℕ → List ℕ → Own View
+own_of v dirty free looked = record { view = v; dirty = dirty; free = free; looked = looked }
 
 -- a step on the word of a number: here it is one on the number's slot
-abbrev pub OnSlot : (k : ℕ) (reuses : Bool) (dirty free : List ℕ) → Form
-OnSlot k reuses dirty free count limit slots id m i f turns told = AreSizes (sizes count limit k reuses) →
-    LastingSteps (virtual count limit) (sizes count limit k reuses) (turns_of count limit i turns) slots id (own_of m.0 dirty free, m.1) (i % k) f
-    (same_own (own_of m.0 dirty free) told)
+abbrev pub OnSlot : (k : ℕ) (reuses : Bool) (dirty free looked : List ℕ) → Form
+OnSlot k reuses dirty free looked count limit slots id m i f turns told = AreSizes (sizes count limit k reuses) →
+    LastingSteps (virtual count limit) (sizes count limit k reuses) (turns_of count limit i turns) slots id (own_of m.0 dirty free looked, m.1) (i % k) f
+    (same_own (own_of m.0 dirty free looked) told)
 
 -- a step on a word behind the link words: here it is one as far behind the slots
-abbrev pub Behind : (k : ℕ) (reuses : Bool) (dirty free : List ℕ) → Form
-Behind k reuses dirty free count limit slots id m i f turns told = AreSizes (sizes count limit k reuses) → (j : ℕ) → i ≡ limit + j →
+abbrev pub Behind : (k : ℕ) (reuses : Bool) (dirty free looked : List ℕ) → Form
+Behind k reuses dirty free looked count limit slots id m i f turns told = AreSizes (sizes count limit k reuses) → (j : ℕ) → i ≡ limit + j →
     j < 1 + count + count * count →
-    LastingSteps (virtual count limit) (sizes count limit k reuses) (turns_of count limit i turns) slots id (own_of m.0 dirty free, m.1) (k + j) f
-    (same_own (own_of m.0 dirty free) told)
+    LastingSteps (virtual count limit) (sizes count limit k reuses) (turns_of count limit i turns) slots id (own_of m.0 dirty free looked, m.1) (k + j) f
+    (same_own (own_of m.0 dirty free looked) told)
 
 -- the kinds of step on a link word that a turn takes: the very statements of the rule, with the slot of the number in place of its word
 abbrev pub SlotKindsLast : Type 0
-SlotKindsLast = EndLaws → (k : ℕ) (reuses : Bool) (dirty free : List ℕ) →
-    (Marks IsTurns → Marks (OnSlot k reuses dirty free)) × (Wakes IsTurns → Wakes (OnSlot k reuses dirty free)) ×
-    (Unlocks IsTurns → Unlocks (OnSlot k reuses dirty free)) × (TriesLock IsTurns → TriesLock (OnSlot k reuses dirty free)) ×
-    (LoadsForLock IsTurns → LoadsForLock (OnSlot k reuses dirty free)) × (LoadsForHand IsTurns → LoadsForHand (OnSlot k reuses dirty free))
+SlotKindsLast = EndLaws → (k : ℕ) (reuses : Bool) (dirty free looked : List ℕ) →
+    (Marks IsTurns → Marks (OnSlot k reuses dirty free looked)) × (Wakes IsTurns → Wakes (OnSlot k reuses dirty free looked)) ×
+    (Unlocks IsTurns → Unlocks (OnSlot k reuses dirty free looked)) × (TriesLock IsTurns → TriesLock (OnSlot k reuses dirty free looked)) ×
+    (LoadsForLock IsTurns → LoadsForLock (OnSlot k reuses dirty free looked)) × (LoadsForHand IsTurns → LoadsForHand (OnSlot k reuses dirty free looked))
 
 -- touch, of any of these acts: where slots are used again it gives up no end of a link word
-abbrev pub TouchActsLast : (k : ℕ) (reuses : Bool) (dirty free : List ℕ) → Type 0
-TouchActsLast k reuses dirty free = (count size slots id i : ℕ) (m : Mine) (p : Part) (act : Act) → m.0.parts ≡ p ∷ [] → is_touch_act act ≡ true →
+abbrev pub TouchActsLast : (k : ℕ) (reuses : Bool) (dirty free looked : List ℕ) → Type 0
+TouchActsLast k reuses dirty free looked = (count size slots id i : ℕ) (m : Mine) (p : Part) (act : Act) → m.0.parts ≡ p ∷ [] → is_touch_act act ≡ true →
     IsPossibleAct p.state act → act_lacks_serials p.state act ≡ false → (reuses ≡ true → GivesEnd p.state act None) →
-    Behind k reuses dirty free count size slots id m i (λ n. n) (λ n. (p.node, act) ∷ [])
+    Behind k reuses dirty free looked count size slots id m i (λ n. n) (λ n. (p.node, act) ∷ [])
     (λ n m'. m' ≡ (with_part (act_part act answers.Plain p) m.0, m.1))
 
 -- the kinds of step behind the link words that a turn takes, but for claims
 abbrev pub OtherKindsLast : Type 0
-OtherKindsLast = EndLaws → (k : ℕ) (reuses : Bool) (dirty free : List ℕ) →
-    (TouchActs IsTurns → TouchActsLast k reuses dirty free) × (LoadsForClaim IsTurns → LoadsForClaim (Behind k reuses dirty free)) ×
-    (Probes IsTurns → Probes (Behind k reuses dirty free)) × (Unprobes IsTurns → Unprobes (Behind k reuses dirty free)) ×
-    (Posts IsTurns → Posts (Behind k reuses dirty free)) × (Looks IsTurns → Looks (Behind k reuses dirty free)) ×
-    (Hands IsTurns → Hands (Behind k reuses dirty free)) × (GivesBack IsTurns → GivesBack (Behind k reuses dirty free))
+OtherKindsLast = EndLaws → (k : ℕ) (reuses : Bool) (dirty free looked : List ℕ) →
+    (TouchActs IsTurns → TouchActsLast k reuses dirty free looked) × (LoadsForClaim IsTurns → LoadsForClaim (Behind k reuses dirty free looked)) ×
+    (Probes IsTurns → Probes (Behind k reuses dirty free looked)) × (Unprobes IsTurns → Unprobes (Behind k reuses dirty free looked)) ×
+    (Posts IsTurns → Posts (Behind k reuses dirty free looked)) × (Looks IsTurns → Looks (Behind k reuses dirty free looked)) ×
+    (Hands IsTurns → Hands (Behind k reuses dirty free looked)) × (GivesBack IsTurns → GivesBack (Behind k reuses dirty free looked))
 
 -- an act by which a router gives up its end of a number, and no spare: its step is on the let-go word of the number's slot, and sets the side's
 -- bit
 abbrev pub LetsGoOnSlots : Type 0
-LetsGoOnSlots = (k : ℕ) (reuses : Bool) (dirty free : List ℕ) →
+LetsGoOnSlots = (k : ℕ) (reuses : Bool) (dirty free looked : List ℕ) →
     (count limit slots id i : ℕ) (b : Bool) (m : Mine) (p : Part) (serial : ℕ) (r : Router) (act : RouterAct) → m.0.parts ≡ p ∷ [] →
     CanAct p.state serial r act → is_wordless act ≡ true → let_go_end r act ≡ Some (i, side_of b) → let_go_spare r act ≡ None →
     AreSizes (sizes count limit k reuses) →
     LastingSteps (virtual count limit) (sizes count limit k reuses) (turns_of count limit i (λ n. (p.node, acts.Router serial act) ∷ [])) slots id
-    (own_of m.0 dirty free, m.1) (let_go_word (sizes count limit k reuses) (i % k)) (λ n. bit_or n (side_bit b))
-    (same_own (own_of m.0 dirty free) (λ n m'. m' ≡ (with_part (act_part (acts.Router serial act) answers.Plain p) m.0, m.1)))
+    (own_of m.0 dirty free looked, m.1) (let_go_word (sizes count limit k reuses) (i % k)) (λ n. bit_or n (side_bit b))
+    (same_own (own_of m.0 dirty free looked) (λ n m'. m' ≡ (with_part (act_part (acts.Router serial act) answers.Plain p) m.0, m.1)))
 
--- a slot that both sides have let go is taken, and emptied; and one that a seat has is given back: no turns
+-- a slot that both sides have let go is taken, and emptied, or else the seat has looked at it in vain; and one that a seat has is given back: no turns
 abbrev pub ReusingLasts : Type 0
-ReusingLasts = (k : ℕ) (dirty free : List ℕ) → 1 ≤ k → (count limit slots id p : ℕ) (m : Mine) →
-    (p < k → LastingSteps (virtual count limit) (sizes count limit k true) (turns_of count limit 0 (λ n. [])) slots id (own_of m.0 dirty free, m.1)
+ReusingLasts = (k : ℕ) (dirty free looked : List ℕ) → 1 ≤ k → (count limit slots id p : ℕ) (m : Mine) →
+    (p < k → LastingSteps (virtual count limit) (sizes count limit k true) (turns_of count limit 0 (λ n. [])) slots id (own_of m.0 dirty free looked, m.1)
     (let_go_word (sizes count limit k true) p) (λ n. either (eqb n 3) 0 n)
-    (λ n m'. MatchBool (eqb n 3) (m' ≡ (own_of m.0 (p ∷ dirty) free, m.1)) (m' ≡ (own_of m.0 dirty free, m.1)))) ×
+    (λ n m'. MatchBool (eqb n 3) (m' ≡ (own_of m.0 (p ∷ dirty) free looked, m.1)) (m' ≡ (own_of m.0 dirty free (p ∷ looked), m.1)))) ×
     (has_number dirty p ≡ true → LastingSteps (virtual count limit) (sizes count limit k true) (turns_of count limit 0 (λ n. [])) slots id
-    (own_of m.0 dirty free, m.1) p (λ n. 0) (λ n m'. m' ≡ (own_of m.0 (without_number dirty p) (p ∷ free), m.1))) ×
+    (own_of m.0 dirty free looked, m.1) p (λ n. 0) (λ n m'. m' ≡ (own_of m.0 (without_number dirty p) (p ∷ free) looked, m.1))) ×
     ((has_number dirty p ≡ true) ⊎ (has_number free p ≡ true) → LastingSteps (virtual count limit) (sizes count limit k true)
-    (turns_of count limit 0 (λ n. [])) slots id (own_of m.0 dirty free, m.1) (let_go_word (sizes count limit k true) p) (λ n. 3)
-    (λ n m'. m' ≡ (own_of m.0 (without_number dirty p) (without_number free p), m.1)))
+    (turns_of count limit 0 (λ n. [])) slots id (own_of m.0 dirty free looked, m.1) (let_go_word (sizes count limit k true) p) (λ n. 3)
+    (λ n m'. m' ≡ (own_of m.0 (without_number dirty p) (without_number free p) looked, m.1)))
 
 -- the same of an act by which the router gives up a spare too: the slot of that is the seat's, to be emptied
 abbrev pub LeavesOnSlots : Type 0
-LeavesOnSlots = (k : ℕ) (dirty free : List ℕ) → 1 ≤ k →
+LeavesOnSlots = (k : ℕ) (dirty free looked : List ℕ) → 1 ≤ k →
     (count limit slots id i j : ℕ) (b : Bool) (m : Mine) (p : Part) (serial : ℕ) (r : Router) (act : RouterAct) → m.0.parts ≡ p ∷ [] →
     CanAct p.state serial r act → is_wordless act ≡ true → let_go_end r act ≡ Some (i, side_of b) → let_go_spare r act ≡ Some j →
     LastingSteps (virtual count limit) (sizes count limit k true) (turns_of count limit i (λ n. (p.node, acts.Router serial act) ∷ [])) slots
-    id (own_of m.0 dirty free, m.1) (let_go_word (sizes count limit k true) (i % k)) (λ n. bit_or n (side_bit b))
+    id (own_of m.0 dirty free looked, m.1) (let_go_word (sizes count limit k true) (i % k)) (λ n. bit_or n (side_bit b))
     (λ n m'. (◌≡◌ {A = Mine} (m'.0.view, m'.1) (with_part (act_part (acts.Router serial act) answers.Plain p) m.0, m.1)) ×
-    (m'.0.dirty ≡ (j % k) ∷ dirty) × (m'.0.free ≡ free))
+    (m'.0.dirty ≡ (j % k) ∷ dirty) × (m'.0.free ≡ free) × (m'.0.looked ≡ looked))
 
 -- by these laws, and the rule's own kind
 abbrev pub LettingGoLasts : Type 0

@@ -16,26 +16,26 @@ abbrev pub keeping : Bool → (count limit : ℕ) → Known (virtual count limit
 keeping reuses count limit t r t' r' = KeepsEnds reuses r.world r'.world
 
 -- a call on a lasting table, by a step on a word behind the link words
-abbrev pub CallBehind : (k : ℕ) (reuses : Bool) (dirty free : List ℕ) → Form
-CallBehind k reuses dirty free count limit slots id m i f turns told = AreSizes (sizes count limit k reuses) → (j : ℕ) → i ≡ limit + j →
+abbrev pub CallBehind : (k : ℕ) (reuses : Bool) (dirty free looked : List ℕ) → Form
+CallBehind k reuses dirty free looked count limit slots id m i f turns told = AreSizes (sizes count limit k reuses) → (j : ℕ) → i ≡ limit + j →
     j < 1 + count + count * count →
-    LastingSteps (virtual count limit) (sizes count limit k reuses) (keeping reuses count limit) slots id (own_of m.0 dirty free, m.1) (k + j) f
-    (same_own (own_of m.0 dirty free) told)
+    LastingSteps (virtual count limit) (sizes count limit k reuses) (keeping reuses count limit) slots id (own_of m.0 dirty free looked, m.1) (k + j) f
+    (same_own (own_of m.0 dirty free looked) told)
 
 -- puts, gets and closes
 abbrev pub CallsLast : Type 0
-CallsLast = (k : ℕ) (reuses : Bool) (dirty free : List ℕ) →
-    Puts (CallBehind k reuses dirty free) × Gets (CallBehind k reuses dirty free) × Closes (CallBehind k reuses dirty free)
+CallsLast = (k : ℕ) (reuses : Bool) (dirty free looked : List ℕ) →
+    Puts (CallBehind k reuses dirty free looked) × Gets (CallBehind k reuses dirty free looked) × Closes (CallBehind k reuses dirty free looked)
 
 -- a call on a lasting table, by a step on the word of a number
-abbrev pub CallOnSlot : (k : ℕ) (reuses : Bool) (dirty free : List ℕ) → Form
-CallOnSlot k reuses dirty free count limit slots id m i f turns told = AreSizes (sizes count limit k reuses) →
-    LastingSteps (virtual count limit) (sizes count limit k reuses) (keeping reuses count limit) slots id (own_of m.0 dirty free, m.1) (i % k) f
-    (same_own (own_of m.0 dirty free) told)
+abbrev pub CallOnSlot : (k : ℕ) (reuses : Bool) (dirty free looked : List ℕ) → Form
+CallOnSlot k reuses dirty free looked count limit slots id m i f turns told = AreSizes (sizes count limit k reuses) →
+    LastingSteps (virtual count limit) (sizes count limit k reuses) (keeping reuses count limit) slots id (own_of m.0 dirty free looked, m.1) (i % k) f
+    (same_own (own_of m.0 dirty free looked) told)
 
 -- opens
 abbrev pub OpensLast : Type 0
-OpensLast = (k : ℕ) (reuses : Bool) (dirty free : List ℕ) → Opens (CallOnSlot k reuses dirty free)
+OpensLast = (k : ℕ) (reuses : Bool) (dirty free looked : List ℕ) → Opens (CallOnSlot k reuses dirty free looked)
 
 -- what is known of such a claim that finds the count: it is one of the world that has passed over so many numbers, and both ends of the number that
 -- it claims are held
@@ -45,21 +45,21 @@ passing_keeping count limit c skip t r t' r' =
 
 -- a claim for an open of a number whose slot is free at the seat
 abbrev pub ClaimsForOpenLast : Type 0
-ClaimsForOpenLast = (k : ℕ) (dirty free : List ℕ) → 1 ≤ k →
+ClaimsForOpenLast = (k : ℕ) (dirty free looked : List ℕ) → 1 ≤ k →
     (count limit slots id c skip : ℕ) (m : Mine) (p : Part) → m.0.parts ≡ p ∷ [] → p.state.opening ≡ None → c + skip < limit →
     limit < 18446744073709551616 → has_number free ((c + skip) % k) ≡ true →
     LastingSteps (virtual count limit) (sizes count limit k true)
     (λ t r t' r'. MatchBool (eqb (slice_index t.words limit) c) (passing_keeping count limit c skip t r t' r') (keeping true count limit t r t' r'))
-    slots id (own_of m.0 dirty free, m.1) (k + 0) (λ n. either (eqb n c) (c + skip + 1) n)
-    (λ n m'. (m'.0.dirty ≡ dirty) × MatchBool (eqb n c)
+    slots id (own_of m.0 dirty free looked, m.1) (k + 0) (λ n. either (eqb n c) (c + skip + 1) n)
+    (λ n m'. (m'.0.dirty ≡ dirty) × (m'.0.looked ≡ looked) × MatchBool (eqb n c)
     ((◌≡◌ {A = Mine} (m'.0.view, m'.1) (with_part (claimed_part (c + skip) p) (saw limit (c + skip) m.0), m.1)) ×
     (m'.0.free ≡ without_number free ((c + skip) % k)))
     ((◌≡◌ {A = Mine} (m'.0.view, m'.1) (saw limit n m.0, m.1)) × (m'.0.free ≡ free)))
 
 -- the same where slots aren't used again
 abbrev pub ClaimsForOpenInOrder : Type 0
-ClaimsForOpenInOrder = (k : ℕ) (dirty free : List ℕ) → (count limit slots id c : ℕ) (m : Mine) (p : Part) → m.0.parts ≡ p ∷ [] →
+ClaimsForOpenInOrder = (k : ℕ) (dirty free looked : List ℕ) → (count limit slots id c : ℕ) (m : Mine) (p : Part) → m.0.parts ≡ p ∷ [] →
     p.state.opening ≡ None → c < limit → AreSizes (sizes count limit k false) →
     LastingSteps (virtual count limit) (sizes count limit k false) (keeping false count limit)
-    slots id (own_of m.0 dirty free, m.1) (k + 0) (λ n. either (eqb n c) (c + 1) n)
-    (same_own (own_of m.0 dirty free) (λ n m'. MatchBool (eqb n c) (m' ≡ (with_part (claimed_part c p) (saw limit n m.0), m.1)) (m' ≡ (saw limit n m.0, m.1))))
+    slots id (own_of m.0 dirty free looked, m.1) (k + 0) (λ n. either (eqb n c) (c + 1) n)
+    (same_own (own_of m.0 dirty free looked) (λ n m'. MatchBool (eqb n c) (m' ≡ (with_part (claimed_part c p) (saw limit n m.0), m.1)) (m' ≡ (saw limit n m.0, m.1))))

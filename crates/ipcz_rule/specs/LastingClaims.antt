@@ -25,27 +25,27 @@ passing_turns count limit c skip turns t r t' r' =
 -- claim: the count is exchanged for the one behind a number whose slot is free at the seat, if it is what was found before; else the step was
 -- a load. What is noted as seen is the number claimed
 abbrev pub ClaimsOnSlots : Type 0
-ClaimsOnSlots = (k : ℕ) (dirty free : List ℕ) → 1 ≤ k →
+ClaimsOnSlots = (k : ℕ) (dirty free looked : List ℕ) → 1 ≤ k →
     (count limit slots id c skip : ℕ) (m : Mine) (p : Part) (serial : ℕ) (r : Router) → m.0.parts ≡ p ∷ [] →
     CanAct p.state serial r router_acts.Claim → c + skip < limit → limit < 18446744073709551616 → has_number free ((c + skip) % k) ≡ true →
     LastingSteps (virtual count limit) (sizes count limit k true)
     (λ t r t' r'. MatchBool (eqb (slice_index t.words limit) c)
     (passing_turns count limit c skip ((p.node, acts.Router serial router_acts.Claim) ∷ []) t r t' r')
     (turns_of count limit limit (λ n. []) t r t' r'))
-    slots id (own_of m.0 dirty free, m.1) (k + 0) (λ n. either (eqb n c) (c + skip + 1) n)
-    (λ n m'. (m'.0.dirty ≡ dirty) × MatchBool (eqb n c)
+    slots id (own_of m.0 dirty free looked, m.1) (k + 0) (λ n. either (eqb n c) (c + skip + 1) n)
+    (λ n m'. (m'.0.dirty ≡ dirty) × (m'.0.looked ≡ looked) × MatchBool (eqb n c)
     ((◌≡◌ {A = Mine} (m'.0.view, m'.1) (with_part (act_part (acts.Router serial router_acts.Claim) (answers.Claimed (c + skip)) p) (saw limit (c + skip) m.0), m.1)) ×
     (m'.0.free ≡ without_number free ((c + skip) % k)))
     ((◌≡◌ {A = Mine} (m'.0.view, m'.1) (saw limit n m.0, m.1)) × (m'.0.free ≡ free)))
 
 -- the same where slots aren't used again: the claim is the rule's own
 abbrev pub ClaimsInTheirOrder : Type 0
-ClaimsInTheirOrder = (k : ℕ) (dirty free : List ℕ) → (count limit slots id c : ℕ) (m : Mine) (p : Part) (serial : ℕ) (r : Router) → m.0.parts ≡ p ∷ [] →
+ClaimsInTheirOrder = (k : ℕ) (dirty free looked : List ℕ) → (count limit slots id c : ℕ) (m : Mine) (p : Part) (serial : ℕ) (r : Router) → m.0.parts ≡ p ∷ [] →
     CanAct p.state serial r router_acts.Claim → c < limit → AreSizes (sizes count limit k false) →
     LastingSteps (virtual count limit) (sizes count limit k false)
     (turns_of count limit limit (λ n. turn_where (eqb n c) p.node (acts.Router serial router_acts.Claim)))
-    slots id (own_of m.0 dirty free, m.1) (k + 0) (λ n. either (eqb n c) (c + 1) n)
-    (same_own (own_of m.0 dirty free) (λ n m'. MatchBool (eqb n c)
+    slots id (own_of m.0 dirty free looked, m.1) (k + 0) (λ n. either (eqb n c) (c + 1) n)
+    (same_own (own_of m.0 dirty free looked) (λ n m'. MatchBool (eqb n c)
     (m' ≡ (with_part (act_part (acts.Router serial router_acts.Claim) (answers.Claimed c) p) (saw limit n m.0), m.1))
     (m' ≡ (saw limit n m.0, m.1))))
 

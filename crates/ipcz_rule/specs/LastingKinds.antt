@@ -6,12 +6,12 @@ use Rattle.ipcz_rule.specs.LastingClaims.{ClaimsOnSlots, ClaimsInTheirOrder}
 
 -- the kinds of the rule, word for word, with the slot of a number in place of its link word
 abbrev pub KindsOnSlots : Type 0
-KindsOnSlots = (k : ℕ) (reuses : Bool) (dirty free : List ℕ) →
-    Marks (OnSlot k reuses dirty free) × Wakes (OnSlot k reuses dirty free) × Unlocks (OnSlot k reuses dirty free) × TriesLock (OnSlot k reuses dirty free) ×
-    LoadsForLock (OnSlot k reuses dirty free) × LoadsForHand (OnSlot k reuses dirty free) ×
-    Loads (Behind k reuses dirty free) × TouchActsLast k reuses dirty free × LoadsForClaim (Behind k reuses dirty free) × Probes (Behind k reuses dirty free) ×
-    Unprobes (Behind k reuses dirty free) × Posts (Behind k reuses dirty free) × Looks (Behind k reuses dirty free) × Hands (Behind k reuses dirty free) ×
-    GivesBack (Behind k reuses dirty free)
+KindsOnSlots = (k : ℕ) (reuses : Bool) (dirty free looked : List ℕ) →
+    Marks (OnSlot k reuses dirty free looked) × Wakes (OnSlot k reuses dirty free looked) × Unlocks (OnSlot k reuses dirty free looked) × TriesLock (OnSlot k reuses dirty free looked) ×
+    LoadsForLock (OnSlot k reuses dirty free looked) × LoadsForHand (OnSlot k reuses dirty free looked) ×
+    Loads (Behind k reuses dirty free looked) × TouchActsLast k reuses dirty free looked × LoadsForClaim (Behind k reuses dirty free looked) × Probes (Behind k reuses dirty free looked) ×
+    Unprobes (Behind k reuses dirty free looked) × Posts (Behind k reuses dirty free looked) × Looks (Behind k reuses dirty free looked) × Hands (Behind k reuses dirty free looked) ×
+    GivesBack (Behind k reuses dirty free looked)
 
 -- and with them the acts that let ends go, slots that come back, and claims
 abbrev pub TurnsLast : Type 0

@@ -10,12 +10,12 @@ use Rattle.ipcz_rule.specs.Lasting.{LastingRules, own_of}
 -- deal: the new seat gets the part of the next node at the start, and no slot
 abbrev pub DealsLast : Type 0
 DealsLast = (count limit k id : ℕ) (reuses : Bool) (o : Own View) (nodes n : ℕ) → n < nodes → o.view.parts ≡ opening_parts nodes n (nodes - n) →
-    Splits (LastingRules count limit k reuses) id o (own_of (after_deal o.view) o.dirty o.free) (own_of (dealt o.view) [] [])
+    Splits (LastingRules count limit k reuses) id o (own_of (after_deal o.view) o.dirty o.free o.looked) (own_of (dealt o.view) [] [] [])
 
 -- join: a seat takes in the parts and the slots of another
 abbrev pub JoinsLast : Type 0
 JoinsLast = (count limit k id other : ℕ) (reuses : Bool) (o p : Own View) →
-    Joins (LastingRules count limit k reuses) id o other p (own_of (together o.view p.view) (o.dirty ++ p.dirty) (o.free ++ p.free)) (own_of spent [] [])
+    Joins (LastingRules count limit k reuses) id o other p (own_of (together o.view p.view) (o.dirty ++ p.dirty) (o.free ++ p.free) o.looked) (own_of spent [] [] [])
 
 abbrev pub SeatsLast : Type 0
 SeatsLast = DealsLast × JoinsLast

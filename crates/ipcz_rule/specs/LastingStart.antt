@@ -21,11 +21,11 @@ whole_words count size = opening_words count size ++ replicate size 0
 abbrev pub LastingStarts : Type 0
 LastingStarts = (count limit spare : ℕ) → IsWithinLimits count limit → length (first_pairs count) + spare ≤ limit →
     LastingRules count limit (length (first_pairs count) + spare) true
-    (opening (lasting_words count spare) (no_messages (count * count)) (own_of (opening_view count) [] []))
+    (opening (lasting_words count spare) (no_messages (count * count)) (own_of (opening_view count) [] [] []))
 
 abbrev pub WholeStarts : Type 0
 WholeStarts = (count size : ℕ) → IsWithinLimits count size →
-    LastingRules count size size false (opening (whole_words count size) (no_messages (count * count)) (own_of (opening_view count) [] []))
+    LastingRules count size size false (opening (whole_words count size) (no_messages (count * count)) (own_of (opening_view count) [] [] []))
 
 abbrev pub StartLasts : Type 0
 StartLasts = LastingStarts × WholeStarts

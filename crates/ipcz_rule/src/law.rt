@@ -22,5 +22,5 @@ impl TableRule<Option<Message>, Own<View>, Size> for FabricLaw {
 
     ghost holds = { λ k. LastingRules k.nodes k.words k.slots k.reuses };
 
-    ghost first = { λ k. own_of (opening_view k.nodes) [] [] };
+    ghost first = { λ k. own_of (opening_view k.nodes) [] [] [] };
 }

@@ -70,8 +70,8 @@ deals {S} {V} x z laws id o left right deal s l at =
     let fold = l.2 in
     let d = deal t r (view_at x z s t r fold id o at) in
     let t' : State S V = record { words = t.words; homes = t.homes; views = slice_set t.views id left ++ right ∷ [] } in
-    let mine : Own V = record { view = left; dirty = o.dirty; free = o.free } in
-    let new : Own V = record { view = right; dirty = []; free = [] } in (
+    let mine : Own V = record { view = left; dirty = o.dirty; free = o.free; looked = o.looked } in
+    let new : Own V = record { view = right; dirty = []; free = []; looked = [] } in (
       t',
       d.0,
       record {

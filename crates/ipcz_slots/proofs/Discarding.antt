@@ -40,7 +40,7 @@ module _ {S V : Type 0} (x : Virtual S V) (z : Sizes) (s : State S (Own V)) (t :
   q9 = slot_of z j
 
   abbrev o9 : Own V
-  o9 = record { view = o.view; dirty = q9 ∷ o.dirty; free = o.free }
+  o9 = record { view = o.view; dirty = q9 ∷ o.dirty; free = o.free; looked = o.looked }
 
   abbrev s9 : State S (Own V)
   s9 = record { words = s.words; homes = s.homes; views = set s.views id o9 }
@@ -120,10 +120,10 @@ lets_go_whole {S} {V} x z laws sizes g slots id o c i j b told keep lose reuse l
     let left = leaves t r t' st.3.0 view st.3.1 in
     let lose1 = λ (again : z.reuses ≡ true). lose again t r t' st.3.0 view st.3.1 in
     let f1 = let_go_folds x z laws sizes s t r fold id o c at st.0 st.1 i b live.0 live.1 shown st.3.0 (keep t r t' st.3.0 st.3.1) left.0 (λ k. k ≡ j) lose1 in
-    let o1 : Own V = record { view = st.0; dirty = o.dirty; free = o.free } in
+    let o1 : Own V = record { view = st.0; dirty = o.dirty; free = o.free; looked = o.looked } in
     let n1 : ℕ = bit_or (slice_index s.words (let_go_word z (slot_of z i))) (side_bit b) in
     let s1 : State S (Own V) = stepped s (let_go_word z (slot_of z i)) n1 id c o1 st.1 in
-    let o2 : Own V = record { view = st.0; dirty = slot_of z j ∷ o.dirty; free = o.free } in
+    let o2 : Own V = record { view = st.0; dirty = slot_of z j ∷ o.dirty; free = o.free; looked = o.looked } in
     let still : slice_index s1.words (let_go_word z (slot_of z j)) ≡ 0 = get_or-set_other s.words (let_go_word z (slot_of z i)) (let_go_word z (slot_of z j)) n1 0 (λ e. slots_apart (omega (arith, e))) ∙ zero_there in
     let at1 : get_elem? s1.views id ≡ some o1 = set_here s.views id o1 (at_inside s.views id o at) in
     let views2 : map (λ (y : Own V). y.view) (set s1.views id o2) ≡ t'.views = ap (map (λ (y : Own V). y.view)) (set_twice s.views id o1 o2) ∙ (map-set (λ y. y.view) s.views id o2 ∙ ap (λ vs. set vs id st.0) fold.views) in
@@ -133,5 +133,5 @@ lets_go_whole {S} {V} x z laws sizes g slots id o c i j b told keep lose reuse l
       st.1,
       subst (λ hs. Valid hs c st.1) (sym fold.homes) st.2,
       subst P (set_twice s.views id o1 o2) ((t', st.3.0, f2), st.3.1),
-      (st.4, refl, refl),
+      (st.4, refl, refl, refl),
     )

@@ -113,7 +113,7 @@ module _ {S V : Type 0} (x : Virtual S V) (z : Sizes) (laws : Laws x z) (sizes :
   t2 = stepped t (z.limit + j) n id c v a
 
   abbrev o2 : Own V
-  o2 = record { view = v; dirty = o.dirty; free = o.free }
+  o2 = record { view = v; dirty = o.dirty; free = o.free; looked = o.looked }
 
   abbrev s2 : State S (Own V)
   s2 = stepped s (z.slots + j) n id c o2 a
@@ -175,11 +175,11 @@ other_steps {S} {V} x z laws sizes g slots id o c j f told keep lose inside leav
     let stays : slice_index (set t.words i (f n)) z.limit ≡ slice_index t.words z.limit = dite (ℕ_discrete j 0)
     (λ h. get_or-set_at t.words i z.limit (f n) (omega (arith, h)) (let w = fold.tall in omega (arith, w, inside)) ∙ (leaves n h ∙ (sym e ∙ ap (slice_index t.words) (omega (arith, h)))))
     (λ ne. get_or-set_other t.words i z.limit (f n) 0 (λ q. ne (omega (arith, q)))) in (
-      record { view = st.0; dirty = o.dirty; free = o.free },
+      record { view = st.0; dirty = o.dirty; free = o.free; looked = o.looked },
       st.1,
       subst (λ hs. Valid hs c st.1) (sym fold.homes) st.2,
       ((stepped t i (f n) id c st.0 st.1, st.3.0, other_folds x z laws sizes s t r fold id o c at st.0 st.1 j (f n) inside st.3.0 stays (keep t r (stepped t i (f n) id c st.0 st.1) st.3.0 st.3.1) (λ again. lose again t r (stepped t i (f n) id c st.0 st.1) st.3.0 view st.3.1)), st.3.1),
-      (st.4, refl, refl),
+      (st.4, refl, refl, refl),
     )
 
 pub shows_slot : {S V : Type 0} (x : Virtual S V) (z : Sizes) (but : ℕ → Type 0) (t : State S V) (r : x.holds t) (p word bits i : ℕ) (st : Status) → st ≡ Shows i → SlotSays x z but t r p word bits st →
@@ -212,7 +212,7 @@ module _ {S V : Type 0} (x : Virtual S V) (z : Sizes) (laws : Laws x z) (sizes :
   t3 = stepped t i n id c v a
 
   abbrev o3 : Own V
-  o3 = record { view = v; dirty = o.dirty; free = o.free }
+  o3 = record { view = v; dirty = o.dirty; free = o.free; looked = o.looked }
 
   abbrev p3 : ℕ
   p3 = slot_of z i
@@ -280,9 +280,9 @@ link_steps {S} {V} x z laws sizes g slots id o c i f told keep lose has steps s 
     let e : slice_index t.words i ≡ n = sym (shows_slot x z of_none t r p n (slice_index s.words (let_go_word z p)) i (fold.status p) there.1 (fold.slots p low)).2 in
     let Res : ℕ → Type 0 = λ k. (v : V) × (a : Act S) × Valid t.homes c a × ((r' : x.holds (stepped t i (f k) id c v a)) × g t r (stepped t i (f k) id c v a) r') × told k (v, carried_after c a) in
     let st : Res n = subst Res e (steps t r (ap length (sym fold.homes) ∙ deep) view (subst (λ k. k < 18446744073709551616) (sym e) small)) in (
-      record { view = st.0; dirty = o.dirty; free = o.free },
+      record { view = st.0; dirty = o.dirty; free = o.free; looked = o.looked },
       st.1,
       subst (λ hs. Valid hs c st.1) (sym fold.homes) st.2,
       ((stepped t i (f n) id c st.0 st.1, st.3.0, link_folds x z laws sizes s t r fold id o c at st.0 st.1 i (f n) there.0 there.1 st.3.0 (keep t r (stepped t i (f n) id c st.0 st.1) st.3.0 st.3.1) (λ again. lose again t r (stepped t i (f n) id c st.0 st.1) st.3.0 view st.3.1)), st.3.1),
-      (st.4, refl, refl),
+      (st.4, refl, refl, refl),
     )

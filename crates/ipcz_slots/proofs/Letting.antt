@@ -51,7 +51,7 @@ module _ {S V : Type 0} (x : Virtual S V) (z : Sizes) (laws : Laws x z) (sizes :
   t4 = record { words = t.words; homes = homes_after t.homes c a; views = set t.views id v }
 
   abbrev o4 : Own V
-  o4 = record { view = v; dirty = o.dirty; free = o.free }
+  o4 = record { view = v; dirty = o.dirty; free = o.free; looked = o.looked }
 
   abbrev p4 : ℕ
   p4 = slot_of z i
@@ -141,7 +141,7 @@ lets_go {S} {V} x z laws sizes g slots id o c i b told keep lose lives leaves st
     ((r' : x.holds (record { words = ws; homes = homes_after t.homes c a; views = set t.views id v })) × g t r (record { words = ws; homes = homes_after t.homes c a; views = set t.views id v }) r') × told (v, carried_after c a) in
     let st : Res t.words = subst Res (set-get_or t.words i 0) (steps t r (ap length (sym fold.homes) ∙ deep) view (laws.fits t r i live.1)) in
     let t' : State S V = record { words = t.words; homes = homes_after t.homes c st.1; views = set t.views id st.0 } in (
-      record { view = st.0; dirty = o.dirty; free = o.free },
+      record { view = st.0; dirty = o.dirty; free = o.free; looked = o.looked },
       st.1,
       subst (λ hs. Valid hs c st.1) (sym fold.homes) st.2,
       (
@@ -153,5 +153,5 @@ lets_go {S} {V} x z laws sizes g slots id o c i b told keep lose lives leaves st
         ),
         st.3.1,
       ),
-      (st.4, refl, refl),
+      (st.4, refl, refl, refl),
     )

@@ -23,7 +23,7 @@ module _ {S V : Type 0} (x : Virtual S V) (z : Sizes) (laws : Laws x z) (sizes :
   t1 = stepped t (z.limit + 0) (n + 1) id c v a
 
   abbrev o1 : Own V
-  o1 = record { view = v; dirty = o.dirty; free = o.free }
+  o1 = record { view = v; dirty = o.dirty; free = o.free; looked = o.looked }
 
   abbrev s1 : State S (Own V)
   s1 = stepped s (z.slots + 0) (n + 1) id c o1 a
@@ -88,7 +88,7 @@ ordered_by : {S V : Type 0} (x : Virtual S V) (z : Sizes) (laws : Laws x z) (siz
     (id : ℕ) (o : Own V) (c : List (ℕ × S)) (at : get_elem? s.views id ≡ some o) (v : V) (a : Act S) (count m : ℕ) (order : z.reuses ≡ false) (below : count < z.limit) (is : slice_index t.words z.limit ≡ m)
     (b : Bool) → eqb m count ≡ b → (r' : x.holds (stepped t (z.limit + 0) (either b (count + 1) m) id c v a)) →
     ((d : Bool) (i : ℕ) → i < slice_index t.words z.limit → x.gone t r d i → x.gone (stepped t (z.limit + 0) (either b (count + 1) m) id c v a) r' d i) →
-    Folds x z (stepped s (z.slots + 0) (either b (count + 1) m) id c (record { view = v; dirty = o.dirty; free = o.free }) a) (stepped t (z.limit + 0) (either b (count + 1) m) id c v a) r'
+    Folds x z (stepped s (z.slots + 0) (either b (count + 1) m) id c (record { view = v; dirty = o.dirty; free = o.free; looked = o.looked }) a) (stepped t (z.limit + 0) (either b (count + 1) m) id c v a) r'
 ordered_by x z laws sizes s t r f id o c at v a count m order below is true e r' keep = ordered_folds x z laws sizes s t r f id o c at v a count (is ∙ eqb-true m count e) order below r' keep
 ordered_by x z laws sizes s t r f id o c at v a count m order below is false e r' keep =
     other_folds x z laws sizes s t r f id o c at v a 0 m (let k = sizes.count in omega (arith, k)) r'
@@ -107,9 +107,9 @@ claims_in_order {S} {V} x z laws sizes g slots id count o c told keep order belo
     let st : Res n = subst Res e (steps t r (ap length (sym fold.homes) ∙ deep) (view_at x z s t r fold id o at) (subst (λ k. k < 18446744073709551616) (sym e) small)) in
     let is : slice_index t.words z.limit ≡ n = ap (slice_index t.words) (omega arith) ∙ e in
     let t' : State S V = stepped t i (f n) id c st.0 st.1 in (
-      record { view = st.0; dirty = o.dirty; free = o.free },
+      record { view = st.0; dirty = o.dirty; free = o.free; looked = o.looked },
       st.1,
       subst (λ hs. Valid hs c st.1) (sym fold.homes) st.2,
       ((t', st.3.0, ordered_by x z laws sizes s t r fold id o c at st.0 st.1 count n order below is (eqb n count) refl st.3.0 (keep t r t' st.3.0 st.3.1)), st.3.1),
-      (st.4, refl, refl),
+      (st.4, refl, refl, refl),
     )

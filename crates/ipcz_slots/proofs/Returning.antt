@@ -17,7 +17,7 @@ use Rattle.ipcz_slots.proofs.Reusing.{status_at, status_here, status_else, still
 module _ {S V : Type 0} (x : Virtual S V) (z : Sizes) (s : State S (Own V)) (t : State S V) (r : x.holds t) (f : Folds x z s t r)
     (id : ℕ) (o : Own V) (at : get_elem? s.views id ≡ some o) (p : ℕ) (low : p < z.slots) (is : (f.status p ≡ Dirty id) ⊎ (f.status p ≡ Free id)) where
   abbrev o1 : Own V
-  o1 = record { view = o.view; dirty = without_number o.dirty p; free = without_number o.free p }
+  o1 = record { view = o.view; dirty = without_number o.dirty p; free = without_number o.free p; looked = o.looked }
 
   abbrev s1 : State S (Own V)
   s1 = record { words = set s.words (let_go_word z p) 3; homes = s.homes; views = set s.views id o1 }
@@ -78,7 +78,7 @@ pub returns_slots : {S V : Type 0} (x : Virtual S V) (z : Sizes) → Returns x z
 returns_slots {S} {V} x z g slots id p o c same has s l deep at small =
     let w = l.2.own id o at in
     let own : (p < z.slots) × ((l.2.status p ≡ Dirty id) ⊎ (l.2.status p ≡ Free id)) = ⊎_elim (λ h. let k = w.dirty_is p h in (k.0, inl k.1)) (λ h. let k = w.free_is p h in (k.0, inr k.1)) has in (
-      record { view = o.view; dirty = without_number o.dirty p; free = without_number o.free p },
+      record { view = o.view; dirty = without_number o.dirty p; free = without_number o.free p; looked = o.looked },
       keeps,
       tt,
       ((l.0, l.1, returned x z s l.0 l.1 l.2 id o at p own.0 own.1), same l.0 l.1),

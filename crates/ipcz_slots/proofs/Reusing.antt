@@ -68,7 +68,7 @@ status_else status p y q ne = let h : nat_eq q p ≡ false = grind (arith, ne, n
 module _ {S V : Type 0} (x : Virtual S V) (z : Sizes) (sizes : AreSizes z) (s : State S (Own V)) (t : State S V) (r : x.holds t) (f : Folds x z s t r)
     (id : ℕ) (o : Own V) (at : get_elem? s.views id ≡ some o) (p : ℕ) (reuse : z.reuses ≡ true) (low : p < z.slots) (three : slice_index s.words (let_go_word z p) ≡ 3) where
   abbrev o5 : Own V
-  o5 = record { view = o.view; dirty = p ∷ o.dirty; free = o.free }
+  o5 = record { view = o.view; dirty = p ∷ o.dirty; free = o.free; looked = o.looked }
 
   abbrev s5 : State S (Own V)
   s5 = record { words = set s.words (let_go_word z p) 0; homes = s.homes; views = set s.views id o5 }
@@ -131,6 +131,24 @@ module _ {S V : Type 0} (x : Virtual S V) (z : Sizes) (sizes : AreSizes z) (s : 
     whole = λ e. absurd (cc);
   }
 
+-- a seat has looked at a slot that wasn't to be had
+looks : {S V : Type 0} (x : Virtual S V) (z : Sizes) (s : State S (Own V)) (t : State S V) (r : x.holds t) (f : Folds x z s t r) (id : ℕ) (o : Own V) (at : get_elem? s.views id ≡ some o)
+    (all : List ℕ) → Folds x z (record { words = s.words; homes = s.homes; views = set s.views id (record { view = o.view; dirty = o.dirty; free = o.free; looked = all }) }) t r
+looks {S} {V} x z s t r f id o at all =
+    let o' : Own V = record { view = o.view; dirty = o.dirty; free = o.free; looked = all } in record {
+      wide = f.wide;
+      tall = f.tall;
+      homes = f.homes;
+      views = map-set (λ q. q.view) s.views id o' ∙ (ap (λ vs. set vs id o.view) f.views ∙ set_again t.views id o.view (view_at x z s t r f id o at));
+      rest = f.rest;
+      status = f.status;
+      slots = f.slots;
+      others = f.others;
+      own = own_after z s.views f.status f.status id o' f.own (λ j q ne. ((λ e. e), (λ e. e))) (let w = f.own id o at in record { dirty_is = w.dirty_is; free_is = w.free_is });
+      owned = λ q l. owned_after s.views id o o' q (f.status q) at (λ h. h) (λ h. h) (f.owned q l);
+      whole = f.whole;
+    }
+
 -- a slot that both sides have let go is taken
 module _ {S V : Type 0} (x : Virtual S V) (z : Sizes) (sizes : AreSizes z) (g : Known x) (id p : ℕ) (o : Own V) (c : List (ℕ × S)) (same : (t : State S V) (r : x.holds t) → g t r t r)
     (reuse : z.reuses ≡ true) (low : p < z.slots) (s : State S (Own V)) (l : Lasting x z s) (at : get_elem? s.views id ≡ some o) where
@@ -138,11 +156,14 @@ module _ {S V : Type 0} (x : Virtual S V) (z : Sizes) (sizes : AreSizes z) (g : 
   found5 = slice_index s.words (let_go_word z p)
 
   abbrev hit5 : Own V
-  hit5 = record { view = o.view; dirty = p ∷ o.dirty; free = o.free }
+  hit5 = record { view = o.view; dirty = p ∷ o.dirty; free = o.free; looked = o.looked }
+
+  abbrev miss5 : Own V
+  miss5 = record { view = o.view; dirty = o.dirty; free = o.free; looked = p ∷ o.looked }
 
   abbrev Res5 : Bool → Type 0
   Res5 b = (w : Own V) × (a : Act S) × Valid s.homes c a × ((l' : Lasting x z (stepped s (let_go_word z p) (either b 0 found5) id c w a)) × g l.0 l.1 l'.0 l'.1) ×
-      MatchBool b (◌≡◌ {A = Me S (Own V)} (w, carried_after c a) (hit5, c)) (◌≡◌ {A = Me S (Own V)} (w, carried_after c a) (o, c))
+      MatchBool b (◌≡◌ {A = Me S (Own V)} (w, carried_after c a) (hit5, c)) (◌≡◌ {A = Me S (Own V)} (w, carried_after c a) (miss5, c))
 
   abbrev After5 : List ℕ → List (Own V) → Type 0
   After5 ws vs = (l' : Lasting x z (record { words = ws; homes = s.homes; views = vs })) × g l.0 l.1 l'.0 l'.1
@@ -150,8 +171,8 @@ module _ {S V : Type 0} (x : Virtual S V) (z : Sizes) (sizes : AreSizes z) (g : 
   by5 : (b : Bool) → eqb found5 3 ≡ b → Res5 b
   by5 true e = (hit5, keeps, tt, ((l.0, l.1, reclaimed x z sizes s l.0 l.1 l.2 id o at p reuse low (eqb-true found5 3 e)), same l.0 l.1), refl)
   by5 false e =
-      let stay : After5 s.words s.views = ((l.0, l.1, l.2), same l.0 l.1) in
-      (o, keeps, tt, subst (λ ws. After5 ws (set s.views id o)) (sym (set-get_or s.words (let_go_word z p) 0)) (subst (After5 s.words) (sym (set_again s.views id o at)) stay), refl)
+      let stay : After5 s.words (set s.views id miss5) = ((l.0, l.1, looks x z s l.0 l.1 l.2 id o at (p ∷ o.looked)), same l.0 l.1) in
+      (miss5, keeps, tt, subst (λ ws. After5 ws (set s.views id miss5)) (sym (set-get_or s.words (let_go_word z p) 0)) stay, refl)
 
   pub reclaim_by : Res5 (eqb found5 3)
   reclaim_by = by5 (eqb found5 3) refl
@@ -163,7 +184,7 @@ reclaims {S} {V} x z sizes g slots id p o c same reuse low s l deep at small = r
 module _ {S V : Type 0} (x : Virtual S V) (z : Sizes) (sizes : AreSizes z) (s : State S (Own V)) (t : State S V) (r : x.holds t) (f : Folds x z s t r)
     (id : ℕ) (o : Own V) (at : get_elem? s.views id ≡ some o) (p : ℕ) (has : has_number o.dirty p ≡ true) where
   abbrev o6 : Own V
-  o6 = record { view = o.view; dirty = without_number o.dirty p; free = p ∷ o.free }
+  o6 = record { view = o.view; dirty = without_number o.dirty p; free = p ∷ o.free; looked = o.looked }
 
   abbrev s6 : State S (Own V)
   s6 = record { words = set s.words p 0; homes = s.homes; views = set s.views id o6 }
@@ -233,7 +254,7 @@ module _ {S V : Type 0} (x : Virtual S V) (z : Sizes) (sizes : AreSizes z) (s : 
 -- the word of a slot that was taken is emptied
 pub empties : {S V : Type 0} (x : Virtual S V) (z : Sizes) → AreSizes z → Empties x z
 empties {S} {V} x z sizes g slots id p o c same has s l deep at small = (
-  record { view = o.view; dirty = without_number o.dirty p; free = p ∷ o.free },
+  record { view = o.view; dirty = without_number o.dirty p; free = p ∷ o.free; looked = o.looked },
   keeps,
   tt,
   ((l.0, l.1, emptied x z sizes s l.0 l.1 l.2 id o at p has), same l.0 l.1),
@@ -372,7 +393,7 @@ module _ {S V : Type 0} (x : Virtual S V) (z : Sizes) (laws : Laws x z) (sizes :
   abbrev L8 : Bool → ℕ → Type 0
   L8 b m = (w : Own V) × (a : Act S) × Valid s.homes c a ×
       ((l' : Lasting x z (stepped s (z.slots + 0) (either b (n + 1) m) id c w a)) × MatchBool b (g l.0 l.1 l'.0 l'.1) (h l.0 l.1 l'.0 l'.1)) ×
-      ((w.dirty ≡ o.dirty) × MatchBool b (hit (w.view, carried_after c a) × (w.free ≡ without_number o.free (slot_of z n))) (miss m (w.view, carried_after c a) × (w.free ≡ o.free)))
+      ((w.dirty ≡ o.dirty) × (w.looked ≡ o.looked) × MatchBool b (hit (w.view, carried_after c a) × (w.free ≡ without_number o.free (slot_of z n))) (miss m (w.view, carried_after c a) × (w.free ≡ o.free)))
 
   pub folded8 : (b : Bool) (m : ℕ) → eqb m count ≡ b → old8 ≡ m → V8 b m → L8 b m
   folded8 true m e is st =
@@ -390,16 +411,16 @@ module _ {S V : Type 0} (x : Virtual S V) (z : Sizes) (laws : Laws x z) (sizes :
           ),
           st.3.1,
         ),
-        (refl, (st.4, refl)),
+        (refl, refl, (st.4, refl)),
       )
   folded8 false m e is st =
       let t' : State S V = stepped l.0 i8 m id c st.0 st.1 in
       let same : slice_index (set l.0.words i8 m) z.limit ≡ old8 = get_or-set_at l.0.words i8 z.limit m (omega arith) (let w = l.2.tall in let k = sizes.count in omega (arith, w, k)) ∙ sym is in (
-        record { view = st.0; dirty = o.dirty; free = o.free },
+        record { view = st.0; dirty = o.dirty; free = o.free; looked = o.looked },
         st.1,
         subst (λ hs. Valid hs c st.1) (sym l.2.homes) st.2,
         ((t', st.3.0, other_folds x z laws sizes s l.0 l.1 l.2 id o c at st.0 st.1 0 m (let k = sizes.count in omega (arith, k)) st.3.0 same (stay l.0 l.1 t' st.3.0 st.3.1) (λ again. stay_lose again l.0 l.1 t' st.3.0 at8 st.3.1)), st.3.1),
-        (refl, (st.4, refl)),
+        (refl, refl, (st.4, refl)),
       )
 
 pub claims : {S V : Type 0} (x : Virtual S V) (z : Sizes) → Laws x z → AreSizes z → Claims x z

@@ -75,10 +75,10 @@ has_right (j ∷ js) ks i h = ap (λ c. nat_eq i j || c) (has_right js ks i h) �
 -- where one seat takes in the slots of another, they are its own
 module _ {V : Type 0} (views : List (Own V)) (id other : ℕ) (o p : Own V) (both spent : V) (apart : other ≢ id) (at : get_elem? views id ≡ some o) (his : get_elem? views other ≡ some p) where
   abbrev mine : Own V
-  mine = record { view = both; dirty = o.dirty ++ p.dirty; free = o.free ++ p.free }
+  mine = record { view = both; dirty = o.dirty ++ p.dirty; free = o.free ++ p.free; looked = o.looked }
 
   abbrev empty : Own V
-  empty = record { view = spent; dirty = []; free = [] }
+  empty = record { view = spent; dirty = []; free = []; looked = [] }
 
   abbrev views2 : List (Own V)
   views2 = set (set views id mine) other empty
@@ -116,8 +116,8 @@ joins_seats {S} {V} x z id other o p both spent join s l at apart there =
     let t = l.0 in
     let r = l.1 in
     let f = l.2 in
-    let mine : Own V = record { view = both; dirty = o.dirty ++ p.dirty; free = o.free ++ p.free } in
-    let empty : Own V = record { view = spent; dirty = []; free = [] } in
+    let mine : Own V = record { view = both; dirty = o.dirty ++ p.dirty; free = o.free ++ p.free; looked = o.looked } in
+    let empty : Own V = record { view = spent; dirty = []; free = []; looked = [] } in
     let apart' : other ≢ id = apart in
     let apart'' : id ≢ other = λ e. apart (sym e) in
     let his : get_elem? s.views other ≡ some p = sym (set_else s.views id other mine apart') ∙ there in

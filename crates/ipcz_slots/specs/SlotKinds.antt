@@ -39,7 +39,7 @@ LosesBut {S} {V} x z id v but g =
 
 -- what a seat has beside its view stays
 abbrev pub same_own : {S V : Type 0} → (o : Own V) → (ℕ → Me S V → Type 0) → ℕ → Me S (Own V) → Type 0
-same_own o told n m' = told n (m'.0.view, m'.1) × (m'.0.dirty ≡ o.dirty) × (m'.0.free ≡ o.free)
+same_own o told n m' = told n (m'.0.view, m'.1) × (m'.0.dirty ≡ o.dirty) × (m'.0.free ≡ o.free) × (m'.0.looked ≡ o.looked)
 
 -- a number of which an end isn't nowhere, as the seat knows
 abbrev pub Lives : {S V : Type 0} (x : Virtual S V) → Sizes → (id : ℕ) → V → ℕ → Type 0
@@ -88,19 +88,21 @@ LetsGo {S} {V} x z =
     Steps x g slots id (o.view, c) i (λ n. n) (λ n m'. told m') →
     LastingSteps x z g slots id (o, c) (let_go_word z (slot_of z i)) (λ n. bit_or n (side_bit b)) (same_own o (λ n m'. told m'))
 
--- a slot whose number both sides have let go is taken, to be emptied: whoever finds 3 has it; else the step was a load
+-- a slot whose number both sides have let go is taken, to be emptied: whoever finds 3 has it; else the seat has looked at a slot that wasn't to be
+-- had
 abbrev pub Reclaims : {S V : Type 0} → Virtual S V → Sizes → Type 1
 Reclaims {S} {V} x z =
     (g : Known x) (slots id p : ℕ) (o : Own V) (c : List (ℕ × S)) → ((t : State S V) (r : x.holds t) → g t r t r) → z.reuses ≡ true → p < z.slots →
     LastingSteps x z g slots id (o, c) (let_go_word z p) (λ n. either (eqb n 3) 0 n)
-    (λ n m'. MatchBool (eqb n 3) (m' ≡ (record { view = o.view; dirty = p ∷ o.dirty; free = o.free }, c)) (m' ≡ (o, c)))
+    (λ n m'. MatchBool (eqb n 3) (m' ≡ (record { view = o.view; dirty = p ∷ o.dirty; free = o.free; looked = o.looked }, c))
+    (m' ≡ (record { view = o.view; dirty = o.dirty; free = o.free; looked = p ∷ o.looked }, c)))
 
 -- the word of such a slot is emptied, and the slot is free
 abbrev pub Empties : {S V : Type 0} → Virtual S V → Sizes → Type 1
 Empties {S} {V} x z =
     (g : Known x) (slots id p : ℕ) (o : Own V) (c : List (ℕ × S)) → ((t : State S V) (r : x.holds t) → g t r t r) → has_number o.dirty p ≡ true →
     LastingSteps x z g slots id (o, c) p (λ n. 0)
-    (λ n m'. m' ≡ (record { view = o.view; dirty = without_number o.dirty p; free = p ∷ o.free }, c))
+    (λ n m'. m' ≡ (record { view = o.view; dirty = without_number o.dirty p; free = p ∷ o.free; looked = o.looked }, c))
 
 -- a slot that a seat has is given back, to be taken by whoever wants it
 abbrev pub Returns : {S V : Type 0} → Virtual S V → Sizes → Type 1
@@ -108,7 +110,7 @@ Returns {S} {V} x z =
     (g : Known x) (slots id p : ℕ) (o : Own V) (c : List (ℕ × S)) → ((t : State S V) (r : x.holds t) → g t r t r) →
     (has_number o.dirty p ≡ true) ⊎ (has_number o.free p ≡ true) →
     LastingSteps x z g slots id (o, c) (let_go_word z p) (λ n. 3)
-    (λ n m'. m' ≡ (record { view = o.view; dirty = without_number o.dirty p; free = without_number o.free p }, c))
+    (λ n m'. m' ≡ (record { view = o.view; dirty = without_number o.dirty p; free = without_number o.free p; looked = o.looked }, c))
 
 -- what a claim of a number beyond a count leaves gone: the numbers between, which nobody has
 abbrev pub Skips : {S V : Type 0} (x : Virtual S V) → Sizes → Known x → ℕ → Type 0
@@ -123,7 +125,7 @@ Takes {S} {V} x id v g n =
 
 -- the view after a claim of a number
 abbrev pub claimed_own : {V : Type 0} → Sizes → ℕ → Own V → V → Own V
-claimed_own z n o v = record { view = v; dirty = o.dirty; free = without_number o.free (slot_of z n) }
+claimed_own z n o v = record { view = v; dirty = o.dirty; free = without_number o.free (slot_of z n); looked = o.looked }
 
 -- a claim of a number whose slot is free: the count is exchanged for the next number, if it is what was found before; else the step was a load
 abbrev pub Claims : {S V : Type 0} → Virtual S V → Sizes → Type 1
@@ -134,7 +136,7 @@ Claims {S} {V} x z =
     (λ m. either (eqb m count) (n + 1) m) (λ m m'. MatchBool (eqb m count) (hit m') (miss m m')) →
     LastingSteps x z (λ t r t' r'. MatchBool (eqb (slice_index t.words z.limit) count) (g t r t' r') (h t r t' r')) slots id (o, c) (z.slots + 0)
     (λ m. either (eqb m count) (n + 1) m)
-    (λ m m'. (m'.0.dirty ≡ o.dirty) × MatchBool (eqb m count) (hit (m'.0.view, m'.1) × (m'.0.free ≡ without_number o.free (slot_of z n)))
+    (λ m m'. (m'.0.dirty ≡ o.dirty) × (m'.0.looked ≡ o.looked) × MatchBool (eqb m count) (hit (m'.0.view, m'.1) × (m'.0.free ≡ without_number o.free (slot_of z n)))
     (miss m (m'.0.view, m'.1) × (m'.0.free ≡ o.free)))
 
 -- the same where slots aren't used again: numbers are claimed in their order, and each has its slot
@@ -160,7 +162,7 @@ LetsGoWhole {S} {V} x z =
     x.gone t' r' b i × Unused x t' r' j) →
     Steps x g slots id (o.view, c) i (λ n. n) (λ n m'. told m') →
     LastingSteps x z g slots id (o, c) (let_go_word z (slot_of z i)) (λ n. bit_or n (side_bit b))
-    (λ n m'. told (m'.0.view, m'.1) × (m'.0.dirty ≡ slot_of z j ∷ o.dirty) × (m'.0.free ≡ o.free))
+    (λ n m'. told (m'.0.view, m'.1) × (m'.0.dirty ≡ slot_of z j ∷ o.dirty) × (m'.0.free ≡ o.free) × (m'.0.looked ≡ o.looked))
 
 -- the table at the start: each slot shows its own number; if slots are used again, both ends of those that are claimed are somewhere, and both
 -- sides of the others count as having let go
@@ -192,7 +194,7 @@ Deals {S} {V} x z =
     ((t : State S V) (r : x.holds t) → get_elem? t.views id ≡ some o.view →
     (r' : x.holds (record { words = t.words; homes = t.homes; views = slice_set t.views id left ++ right ∷ [] })) ×
     SameEnds x t r (record { words = t.words; homes = t.homes; views = slice_set t.views id left ++ right ∷ [] }) r') →
-    Splits (Lasting x z) id o (record { view = left; dirty = o.dirty; free = o.free }) (record { view = right; dirty = []; free = [] })
+    Splits (Lasting x z) id o (record { view = left; dirty = o.dirty; free = o.free; looked = o.looked }) (record { view = right; dirty = []; free = []; looked = [] })
 
 -- a seat takes in the view of another, and its slots
 abbrev pub JoinsSeats : {S V : Type 0} → Virtual S V → Sizes → Type 0
@@ -201,4 +203,4 @@ JoinsSeats {S} {V} x z =
     ((t : State S V) (r : x.holds t) → get_elem? t.views id ≡ some o.view → ¬ (other ≡ id) → get_elem? (slice_set t.views id both) other ≡ some p.view →
     (r' : x.holds (record { words = t.words; homes = t.homes; views = slice_set (slice_set t.views id both) other spent })) ×
     SameEnds x t r (record { words = t.words; homes = t.homes; views = slice_set (slice_set t.views id both) other spent }) r') →
-    Joins (Lasting x z) id o other p (record { view = both; dirty = o.dirty ++ p.dirty; free = o.free ++ p.free }) (record { view = spent; dirty = []; free = [] })
+    Joins (Lasting x z) id o other p (record { view = both; dirty = o.dirty ++ p.dirty; free = o.free ++ p.free; looked = o.looked }) (record { view = spent; dirty = []; free = []; looked = [] })

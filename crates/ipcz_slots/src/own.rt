@@ -7,4 +7,6 @@ pub struct Own<V> {
     pub dirty: LinkedList<u64>,
     /// The slots that are free, and its own.
     pub free: LinkedList<u64>,
+    /// The slots that it looked at and that weren't to be had, the last one first.
+    pub looked: LinkedList<u64>,
 }

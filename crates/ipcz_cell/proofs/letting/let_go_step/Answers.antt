@@ -20,5 +20,5 @@ fetch_or-requires g c =
       c.requires.own ∙ sym f.0,
       omega (arith, wide, inside),
       subst (λ (b : ℕ). Allows (LastingRules c.fabric.inside.table.shared.key.nodes c.fabric.inside.table.shared.key.words c.fabric.inside.table.shared.key.slots c.fabric.inside.table.shared.key.reuses) c.fabric.inside.table.shared.table_id.slots c.args.seat.now.id c.args.seat.now.me c.let_go_word-word.result (λ k. bit_or k b) (Told t (g.X.Outcome.tells (mine_of c.args.seat.now.me)) c.args.seat.now.me)) (sym c.side_bit.ensures)
-          (slots_are _ _ _ _ _ _ (let_go_word (sizes_of t) (c.args.number % t.slots)) t c.args.seat.now.id c.args.seat.now.me (λ k. bit_or k (bit_of_side c.args.side)) (g.X.Outcome.tells (mine_of c.args.seat.now.me)) c.args.seat.now.me.0.dirty c.args.seat.now.me.0.free f.1 f.2 f.6 f.7 (ap (λ (z : TableId). z.slots) f.0) at c.requires.may),
+          (slots_are _ _ _ _ _ _ (let_go_word (sizes_of t) (c.args.number % t.slots)) t c.args.seat.now.id c.args.seat.now.me (λ k. bit_or k (bit_of_side c.args.side)) (g.X.Outcome.tells (mine_of c.args.seat.now.me)) c.args.seat.now.me.0.dirty c.args.seat.now.me.0.free c.args.seat.now.me.0.looked f.1 f.2 f.6 f.7 (ap (λ (z : TableId). z.slots) f.0) at c.requires.may),
     )

@@ -12,6 +12,6 @@ vacant-requires c =
     let size = c.args.words in
     let words : c.deref.result.now ≡ whole_words n size = c.deref.ensures.value ∙ c.in-Ok.ensures in
     let slots : c.from.result * c.from-2.result ≡ n * n = ap (λ (k : ℕ). k * c.from-2.result) c.from.ensures ∙ ap (λ (k : ℕ). n * k) c.from-2.ensures in
-    subst (λ (ws : List ℕ). LastingRules n size size false (opening ws (no_messages (c.from.result * c.from-2.result)) (own_of (opening_view n) [] []))) (sym words)
-    (subst (λ (k : ℕ). LastingRules n size size false (opening (whole_words n size) (no_messages k) (own_of (opening_view n) [] []))) (sym slots)
+    subst (λ (ws : List ℕ). LastingRules n size size false (opening ws (no_messages (c.from.result * c.from-2.result)) (own_of (opening_view n) [] [] []))) (sym words)
+    (subst (λ (k : ℕ). LastingRules n size size false (opening (whole_words n size) (no_messages k) (own_of (opening_view n) [] [] []))) (sym slots)
     (start_lasts.1 n size c.requires.limits))

@@ -17,7 +17,7 @@ vacant-requires c =
     let all : length (first_pairs n) + spare ≡ c.args.slots = omega (arith, pairs) in
     let words : c.deref.result.now ≡ lasting_words n spare = c.deref.ensures.value ∙ c.in-Ok.ensures in
     let slots : c.from.result * c.from-2.result ≡ n * n = ap (λ (k : ℕ). k * c.from-2.result) c.from.ensures ∙ ap (λ (k : ℕ). n * k) c.from-2.ensures in
-    subst (λ (ws : List ℕ). LastingRules n size c.args.slots true (opening ws (no_messages (c.from.result * c.from-2.result)) (own_of (opening_view n) [] []))) (sym words)
-    (subst (λ (k : ℕ). LastingRules n size c.args.slots true (opening (lasting_words n spare) (no_messages k) (own_of (opening_view n) [] []))) (sym slots)
-    (subst (λ (k : ℕ). LastingRules n size k true (opening (lasting_words n spare) (no_messages (n * n)) (own_of (opening_view n) [] []))) all
+    subst (λ (ws : List ℕ). LastingRules n size c.args.slots true (opening ws (no_messages (c.from.result * c.from-2.result)) (own_of (opening_view n) [] [] []))) (sym words)
+    (subst (λ (k : ℕ). LastingRules n size c.args.slots true (opening (lasting_words n spare) (no_messages k) (own_of (opening_view n) [] [] []))) (sym slots)
+    (subst (λ (k : ℕ). LastingRules n size k true (opening (lasting_words n spare) (no_messages (n * n)) (own_of (opening_view n) [] [] []))) all
     (start_lasts.0 n size spare c.requires.limits (omega (arith, pairs, most)))))

@@ -1,9 +1,10 @@
 use Rattle.std.proofs.Common.{◌≡◌, ◌<◌}
 use Rattle.ipcz_rule.specs.Rule.{Mine}
 use Rattle.ipcz_cell.specs.Seats.{mine_of, HasNoSlots}
+use Rattle.ipcz_cell.proofs.Looking.{HasLooked, IsBehind}
 use Rattle.ipcz_cell.proofs.slots.find_slot.Given as goal
 
--- nothing is told of the seat, and it has no slot
+-- the seat has no slot, and has looked at each from the first on; the next is this one
 abbrev pub invariant-loop-tried : goal.invariant-loop-tried
 invariant-loop-tried g l = record {
   own : l.seat.table_id ≡ g.F.FabricName.table.id;
@@ -11,4 +12,6 @@ invariant-loop-tried g l = record {
   me : ◌≡◌ {A = Mine} (mine_of l.seat.me) (mine_of l.initial.seat.me);
   inside : l.slot < g.F.FabricName.table.slots;
   none : HasNoSlots l.seat.me.0;
+  looked : HasLooked g.F.FabricName.table.slots l.fn.first l.tried l.initial.seat.me.0.looked l.seat.me.0.looked;
+  behind : IsBehind g.F.FabricName.table.slots l.fn.first l.tried l.slot;
 }

@@ -17,4 +17,4 @@ invariant_of-self g c =
     (seen_cell g.F.FabricName.table _ _ _ _ _ c.self.invariant.0 _ (mine_of c.load_behind.new.seat.me) done.table done.sound (g.F.FabricName.table.size + c.args.place) c.load_behind.result done.done, none_then c.load_behind.ensures.slots c.self.invariant.1)
 
 pub returns : goal.returns
-returns g c = load_tells (g.F.FabricName.table.size + c.args.place) (g.F.FabricName.table.size + c.args.place) c.load_behind.result (mine_of c.self.inside.seat.me) (mine_of c.load_behind.new.seat.me) c.self.inside.state.room c.self.inside.state.room _ c.self.view_is refl refl c.load_behind.ensures.done
+returns g c = load_tells (g.F.FabricName.table.size + c.args.place) (g.F.FabricName.table.size + c.args.place) c.load_behind.result (mine_of c.self.inside.seat.me) (mine_of c.load_behind.new.seat.me) c.self.inside.state.room c.self.inside.state.room _ c.self.view_is refl c.load_behind.ensures.slots.2 refl c.load_behind.ensures.done

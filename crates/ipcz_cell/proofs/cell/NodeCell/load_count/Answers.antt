@@ -20,7 +20,7 @@ invariant_of-self g c =
 
 pub returns-clause-seen : goal.returns-clause-seen
 returns-clause-seen g c =
-    load_tells g.F.FabricName.table.size _ c.load_step.result (mine_of c.self.inside.seat.me) (mine_of c.load_step.new.seat.me) c.self.inside.state.room c.self.inside.state.room _ c.self.view_is refl refl c.load_step.ensures.done.2
+    load_tells g.F.FabricName.table.size _ c.load_step.result (mine_of c.self.inside.seat.me) (mine_of c.load_step.new.seat.me) c.self.inside.state.room c.self.inside.state.room _ c.self.view_is refl c.load_step.ensures.slots.2 refl c.load_step.ensures.done.2
 
 pub returns-clause-reached : goal.returns-clause-reached
 returns-clause-reached g c =

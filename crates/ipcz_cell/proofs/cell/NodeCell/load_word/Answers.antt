@@ -18,7 +18,7 @@ invariant_of-self g c =
 
 pub returns-clause-seen : goal.returns-clause-seen
 returns-clause-seen g c =
-    load_tells c.args.i c.args.i c.load_link.result (mine_of c.self.inside.seat.me) (mine_of c.load_link.new.seat.me) c.self.inside.state.room c.self.inside.state.room _ c.self.view_is refl refl c.load_link.ensures.done.1
+    load_tells c.args.i c.args.i c.load_link.result (mine_of c.self.inside.seat.me) (mine_of c.load_link.new.seat.me) c.self.inside.state.room c.self.inside.state.room _ c.self.view_is refl c.load_link.ensures.slots.2 refl c.load_link.ensures.done.1
 
 pub returns-clause-word : goal.returns-clause-word
 returns-clause-word g c = c.load_link.ensures.done.0

@@ -60,4 +60,4 @@ returns-then-found-ne1 g c =
     let t = g.F.FabricName.table in
     let node : c.number-node.result ≡ c.args.self.now.part.node = c.number-node.ensures ∙ (number_is _ _ _ _ was.seated ∙ ap (λ (z : CellState). z.part.node) c.self.view_is) in
     let miss = told_miss _ 1 _ _ c.if-found-ne1.true c.look_here-found.ensures.done in
-    (c.look_here-found.result, c.if-found-ne1.true, load_tells _ (mail_word t c.args.from c.number-node.result) _ (mine_of c.self.inside.seat.me) (mine_of c.look_here-found.new.seat.me) c.self.inside.state.room c.self.inside.state.room _ c.self.view_is refl (ap (λ (n : ℕ). mail_word t c.args.from n) node) miss)
+    (c.look_here-found.result, c.if-found-ne1.true, load_tells _ (mail_word t c.args.from c.number-node.result) _ (mine_of c.self.inside.seat.me) (mine_of c.look_here-found.new.seat.me) c.self.inside.state.room c.self.inside.state.room _ c.self.view_is refl c.look_here-found.ensures.slots.2 (ap (λ (n : ℕ). mail_word t c.args.from n) node) miss)

@@ -50,4 +50,4 @@ returns-then-found-ne0 g c =
     let node : c.number.result ≡ c.args.self.now.part.node = c.number.ensures ∙ (number_is _ _ _ _ was.seated ∙ ap (λ (z : CellState). z.part.node) c.self.view_is) in
     let miss = told_miss _ 0 _ _ c.if-found-ne0.true c.probe_here-found.ensures.done in
     let absent : has_number c.args.self.now.part.probed to ≡ false = ap (λ (z : CellState). has_number z.part.probed to) (sym c.self.view_is) ∙ (ap (λ (l : List ℕ). has_number l to) was.probed ∙ (sym c.has.ensures ∙ c.if-has.false)) in
-    (absent, (c.probe_here-found.result, c.if-found-ne0.true, load_tells _ (mail_word t c.number.result to) _ (mine_of c.self.inside.seat.me) (mine_of c.probe_here-found.new.seat.me) c.self.inside.state.room c.self.inside.state.room _ c.self.view_is refl (ap (λ (n : ℕ). mail_word t n to) node) miss))
+    (absent, (c.probe_here-found.result, c.if-found-ne0.true, load_tells _ (mail_word t c.number.result to) _ (mine_of c.self.inside.seat.me) (mine_of c.probe_here-found.new.seat.me) c.self.inside.state.room c.self.inside.state.room _ c.self.view_is refl c.probe_here-found.ensures.slots.2 (ap (λ (n : ℕ). mail_word t n to) node) miss))

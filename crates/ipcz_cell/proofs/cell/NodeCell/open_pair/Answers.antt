@@ -1,6 +1,7 @@
-use Rattle.std.proofs.Common.{◌≡◌, [], ◌∷◌, ◌++◌, Err, ap, sym, ◌∙◌, refl, arith, ⊎_elim}
+use Rattle.std.proofs.Common.{◌≡◌, ℕ, List, subst, [], ◌∷◌, ◌++◌, Err, ap, sym, ◌∙◌, refl, arith, ⊎_elim}
 use Rattle.ipcz_node.specs.Calls.{serials_refusal}
 use Rattle.ipcz_rule.specs.declared.view.Part.{Part}
+use Rattle.ipcz_cell.specs.Claims.{FindsNone}
 use Rattle.ipcz_cell.specs.Opens.{UnderWay, Fresh, NoSlot, Lost}
 use Rattle.ipcz_cell.proofs.OpenSteps.{no_open, same_open, fresh_open}
 use Rattle.ipcz_cell.proofs.cell.NodeCell.open_pair.Goals as goal
@@ -30,6 +31,6 @@ returns-in-Err g c =
     let idle = no_open _ (sym c.is_opening.ensures ∙ c.if-is_opening.false) in
     let fine = ap (λ (p : Part). serials_refusal p.state) (sym load.part) ∙ c.in_ok-open_prepare-2.ensures.allowed in
     ⊎_elim
-    (λ lost. Lost n lost.1.0 (ap Err lost.0) idle fine (omega (arith, most, other)) lost.1.1 (lost.1.2.part ∙ (room.part ∙ load.part)) (lost.1.2.seen ∙ ap (λ l. l ++ (t.size, lost.1.0) ∷ []) (room.seen ∙ load.seen)))
-    (λ none. NoSlot n (ap Err none.0) none.1.reuses idle fine (omega (arith, most, other)) (none.1.part ∙ (room.part ∙ load.part)) (none.1.seen ∙ (room.seen ∙ load.seen)))
+    (λ lost. Lost n lost.1.0 (ap Err lost.0) idle fine (omega (arith, most, other)) lost.1.1 (lost.1.2 ∙ (room.part ∙ load.part)) (lost.1.3 ∙ ap (λ l. l ++ (t.size, lost.1.0) ∷ []) (room.seen ∙ load.seen)))
+    (λ none. NoSlot n (ap Err none.0) none.1.reuses idle fine (omega (arith, most, other)) (none.1.part ∙ (room.part ∙ load.part)) (none.1.seen ∙ (room.seen ∙ load.seen)) (subst (λ (l : List ℕ). FindsNone t n l c.claim_at.new.self.looked) (room.looked ∙ load.looked) none.1.none))
     c.in-Err.ensures.claims

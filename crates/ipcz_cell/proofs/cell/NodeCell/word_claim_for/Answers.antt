@@ -1,4 +1,4 @@
-use Rattle.std.proofs.Common.{◌≡◌, [], ◌∷◌, ◌++◌, is_some, Ok, ap, sym, subst, ◌∙◌, refl, arith}
+use Rattle.std.proofs.Common.{◌≡◌, ℕ, List, [], ◌∷◌, ◌++◌, is_some, Ok, ap, sym, subst, ◌∙◌, refl, arith}
 use Rattle.ipcz_router.specs.declared.act.Answer.TheVariants as answers
 use Rattle.ipcz_router.specs.declared.act.RouterAct.TheVariants as router_acts
 use Rattle.ipcz_node.specs.declared.act.Act.TheVariants as acts
@@ -8,7 +8,7 @@ use Rattle.ipcz_rule.specs.Rule.{Mine, saw}
 use Rattle.ipcz_rule.specs.Steps.{act_part}
 use Rattle.ipcz_cell.specs.CellStates.{CellState, part_in, change_part}
 use Rattle.ipcz_cell.specs.Cells.{IsCell}
-use Rattle.ipcz_cell.specs.Claims.{AreReached, CanClaim, Got, Slotless, Lost}
+use Rattle.ipcz_cell.specs.Claims.{AreReached, CanClaim, FindsNone, Got, Slotless, Lost}
 use Rattle.ipcz_cell.proofs.Mailing.{seen_cell, told_hit, told_miss}
 use Rattle.ipcz_cell.proofs.NumberClaims.{kept_cell, reuses_if}
 use Rattle.ipcz_cell.proofs.Seating.{number_inside}
@@ -82,9 +82,12 @@ returns-in_default g c =
     let done = c.dry_here.ensures.done ∙ ap (λ (m : Mine). (change_part (act_part (acts.Router c.args.serial router_acts.Claim) answers.NoWord) m.0, m.1)) here in
     let most = loaded.done.0 in
     let other = (λ (e : n ≡ t.size). c.if-found-from.false (e ∙ sym words)) in
+    let why = if_none c.number_at.result _ c.in_default.is c.number_at.ensures.why in
     Slotless n refl (reuses_if t.reuses (λ e. sym (ap is_some c.in_default.is) ∙ c.number_at.ensures.order e)) (omega (arith, most, other))
     (ap (λ (m : Mine). part_in m.0) done ∙ ap (λ (o : CellState). act_part (acts.Router c.args.serial router_acts.Claim) answers.NoWord o.part) c.self.view_is)
     (ap (λ (m : Mine). m.0.seen) done ∙ ap (λ (o : CellState). o.seen ++ (t.size, n) ∷ []) c.self.view_is)
+    (subst (λ (l : List ℕ). FindsNone t n c.args.self.now.looked l) (sym c.dry_here.ensures.slots.2)
+    (subst (λ (l : List ℕ). FindsNone t n l c.number_at.new.seat.me.0.looked) (loaded.slots.2 ∙ ap (λ (o : CellState). o.looked) c.self.view_is) why))
 
 pub claim_here-now-requires-clause-can : goal.claim_here-now-requires-clause-can
 claim_here-now-requires-clause-can g c =
