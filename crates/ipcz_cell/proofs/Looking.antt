@@ -1,12 +1,10 @@
 -- A seat looks for a slot, all round from one on: what it has looked at in vain.
 use Rattle.std.specs.Prelude.{◌≡◌, ◌≢◌, ◌≤◌, ◌<◌, ◌⊎◌, ◌+◌, ℕ, true, List, [], ◌∷◌, ◌++◌, refl}
-use Rattle.std.proofs.Common.{arith, ap, ◌∙◌, sym, inl, inr, ⊎_elim}
+use Rattle.std.proofs.Common.{arith, ap, ◌∙◌, inl, inr, ⊎_elim}
 use mathlib.Core.Logic.{dite}
-use native.Mathlib.Decide.{ℕ_discrete, dec_lt}
+use native.Mathlib.Decide.{ℕ_discrete}
 use Rattle.ipcz_slots.specs.Slots.{has_number}
 use Rattle.ipcz_slots.proofs.Reusing.{has_first, has_more}
-use Rattle.ipcz_cell.specs.TableNames.{TableName}
-use Rattle.ipcz_cell.specs.Claims.{LooksAtEach}
 
 -- a slot is one of so many from the first on
 abbrev pub IsAmong : (slots first tried p : ℕ) → Type 0
@@ -22,22 +20,26 @@ HasLooked slots first tried old new =
     (more : List ℕ) × (new ≡ more ++ old) × ((p : ℕ) → p < slots → IsAmong slots first tried p → has_number more p ≡ true)
 
 pub none_looked : (slots first : ℕ) (old : List ℕ) → first < slots → HasLooked slots first 0 old old
-none_looked slots first old inside = ([], refl, λ p low among. absurd (⊎_elim
-    (λ (h : (first ≤ p) × (p < first + 0)). let a = h.0 in let b = h.1 in omega (arith, a, b))
-    (λ (h : p + slots < first + 0). omega (arith, h, inside))
-    among))
+none_looked slots first old inside = (
+  [],
+  refl,
+  λ p low among. absurd (⊎_elim
+      (λ (h : (first ≤ p) × (p < first + 0)). let a = h.0 in let b = h.1 in omega (arith, a, b))
+      (λ (h : p + slots < first + 0). omega (arith, h, inside))
+      among),
+)
 
 -- the next one is another, or the slot behind them
 among_more : (slots first tried at p : ℕ) → p < slots → at < slots → IsBehind slots first tried at → IsAmong slots first (tried + 1) p → p ≢ at → IsAmong slots first tried p
 among_more slots first tried at p low here behind among apart = ⊎_elim
     (λ (e : at ≡ first + tried). ⊎_elim
-        (λ (h : (first ≤ p) × (p < first + (tried + 1))). let a = h.0 in let b = h.1 in inl (a, omega (arith, b, e, apart)))
-        (λ (h : p + slots < first + (tried + 1)). inr (omega (arith, h, e, here, low)))
-        among)
+    (λ (h : (first ≤ p) × (p < first + (tried + 1))). let a = h.0 in let b = h.1 in inl (a, omega (arith, b, e, apart)))
+    (λ (h : p + slots < first + (tried + 1)). inr (omega (arith, h, e, here, low)))
+    among)
     (λ (e : at + slots ≡ first + tried). ⊎_elim
-        (λ (h : (first ≤ p) × (p < first + (tried + 1))). let a = h.0 in inl (a, omega (arith, e, low, here)))
-        (λ (h : p + slots < first + (tried + 1)). inr (omega (arith, h, e, apart)))
-        among)
+    (λ (h : (first ≤ p) × (p < first + (tried + 1))). let a = h.0 in inl (a, omega (arith, e, low, here)))
+    (λ (h : p + slots < first + (tried + 1)). inr (omega (arith, h, e, apart)))
+    among)
     behind
 
 pub one_looked : (slots first tried at : ℕ) (old new new' : List ℕ) → at < slots → IsBehind slots first tried at → HasLooked slots first tried old new → new' ≡ at ∷ new →
@@ -55,15 +57,11 @@ pub behind_next : (slots first tried at next : ℕ) → first < slots → tried 
     ((at + 1 < slots) × (next ≡ at + 1)) ⊎ ((slots ≤ at + 1) × (next ≡ 0)) → IsBehind slots first (tried + 1) next
 behind_next slots first tried at next inside few low behind step = ⊎_elim
     (λ (e : at ≡ first + tried). ⊎_elim
-        (λ (h : (at + 1 < slots) × (next ≡ at + 1)). let a = h.1 in inl (omega (arith, a, e)))
-        (λ (h : (slots ≤ at + 1) × (next ≡ 0)). let a = h.0 in let b = h.1 in inr (omega (arith, a, b, e, low)))
-        step)
+    (λ (h : (at + 1 < slots) × (next ≡ at + 1)). let a = h.1 in inl (omega (arith, a, e)))
+    (λ (h : (slots ≤ at + 1) × (next ≡ 0)). let a = h.0 in let b = h.1 in inr (omega (arith, a, b, e, low)))
+    step)
     (λ (e : at + slots ≡ first + tried). ⊎_elim
-        (λ (h : (at + 1 < slots) × (next ≡ at + 1)). let a = h.1 in inr (omega (arith, a, e)))
-        (λ (h : (slots ≤ at + 1) × (next ≡ 0)). let a = h.0 in absurd (omega (arith, a, e, few, inside)))
-        step)
+    (λ (h : (at + 1 < slots) × (next ≡ at + 1)). let a = h.1 in inr (omega (arith, a, e)))
+    (λ (h : (slots ≤ at + 1) × (next ≡ 0)). let a = h.0 in absurd (omega (arith, a, e, few, inside)))
+    step)
     behind
-
--- all round each was
-pub all_looked : (t : TableName) (first : ℕ) (old new : List ℕ) → HasLooked t.slots first t.slots old new → LooksAtEach t old new
-all_looked t first old new has = (has.0, has.1, λ p low. has.2 p low (dite (dec_lt p first) (λ l. inr (omega (arith, l))) (λ no. inl (omega (arith, no), omega (arith, low)))))

@@ -5,7 +5,7 @@ use mathlib.Core.Option.{some}
 use lib.ListN.{get_elem?}
 use Rattle.std.proofs.Common.{arith, ◌∙◌, sym, subst, inl, inr}
 use Rattle.std.proofs.lemmas.Bool.Decides.{nat_tests}
-use Rattle.atomic_table.specs.Table.{State, Me, Allows, stepped, carried_after}
+use Rattle.atomic_table.specs.Table.{State, Me, Allows, stepped}
 use Rattle.atomic_table.proofs.Lists.{set_here}
 use Rattle.ipcz_base.specs.declared.message.Message.{Message}
 use Rattle.ipcz_slots.specs.declared.own.Own.{Own}
@@ -17,7 +17,7 @@ use Rattle.ipcz_router.specs.declared.act.RouterAct.{RouterAct}
 use Rattle.ipcz_rule.specs.declared.view.View.{View}
 use Rattle.ipcz_rule.specs.Rule.{Slot, Mine}
 use Rattle.ipcz_rule.specs.Steps.{old_word}
-use Rattle.ipcz_rule.specs.Lasting.{LastingRules, virtual, own_of}
+use Rattle.ipcz_rule.specs.Lasting.{LastingRules, virtual}
 use Rattle.ipcz_rule.specs.LastingCalls.{keeping}
 use Rattle.ipcz_rule.proofs.Lasts.{router_lives, old_lives, reusing}
 use Rattle.ipcz_rule.proofs.LastsAll.{ends}

@@ -26,25 +26,31 @@ use Rattle.ipcz_cell.specs.TableNames.{TableName}
 use Rattle.ipcz_cell.specs.CellStates.{CellState}
 use Rattle.ipcz_rule.specs.Steps.{is_touch_act}
 use Rattle.ipcz_cell.specs.Mails.{Probes, IsProbed, Looks, mail_word}
-use Rattle.ipcz_cell.specs.TurnEnds.{IsAnswered, IsDone, IsTaken, IsLost, IsRefused, NoSerials, NoMemory, LostIt, lacks_serials, IsSeenBefore, may_grow, Acts}
+use Rattle.ipcz_cell.specs.TurnEnds.{IsAnswered, IsDone, IsTaken, IsLost, IsRefused, NoSerials, NoMemory, LostIt, lacks_serials, IsSeenBefore, may_grow, LooksFor, Acts}
 
 abbrev Seen : Type 0
 Seen = List (ℕ × ℕ)
 
+-- who has seen nothing hasn't looked
+looks_none : (t : TableName) (act : Act) (l l' : List ℕ) → LooksFor t act [] l l'
+looks_none t (acts.Router serial router_acts.Claim) l l' = λ c e below. cc
+looks_none t other l l' = tt
+
 -- an act that was done whole
-pub acts_whole : (t : TableName) (act : Act) (old new : CellState) (event : Happened) (seen : Seen) → new.seen ≡ old.seen ++ seen → IsDone t old.part act event new.part seen → Acts t act old (Ok event) new
-acts_whole t act old new event seen e done = record { found = seen; seen = e; outcome = record { taken = act; which = inl refl; done = done } }
+pub acts_whole : (t : TableName) (act : Act) (old new : CellState) (event : Happened) (seen : Seen) → new.seen ≡ old.seen ++ seen → LooksFor t act seen old.looked new.looked → IsDone t old.part act event new.part seen → Acts t act old (Ok event) new
+acts_whole t act old new event seen e looks done = record { found = seen; seen = e; looks = looks; outcome = record { taken = act; which = inl refl; done = done } }
 
 -- a look
 pub look_acts : (t : TableName) (from : ℕ) (old new : CellState) → Looks (mail_word t from old.part.node) from old true new → Acts t (acts.Look from) old (Ok (events.Look from)) new
 unfolding event_of
-look_acts t sender old new h = acts_whole t (acts.Look sender) old new (events.Look sender) ((mail_word t sender old.part.node, 1) ∷ []) h.2
+look_acts t sender old new h = acts_whole t (acts.Look sender) old new (events.Look sender) ((mail_word t sender old.part.node, 1) ∷ []) h.2 tt
     (record { answer = answers.Plain; answered = (refl, refl); part = (h.0, h.1); event_is = refl })
 
 pub look_lost : (t : TableName) (from : ℕ) (old new : CellState) → Looks (mail_word t from old.part.node) from old false new → Acts t (acts.Look from) old (Err refusals.Raced) new
 look_lost t sender old new h = record {
   found = (mail_word t sender old.part.node, h.0) ∷ [];
   seen = h.2.seen;
+  looks = tt;
   outcome = (h.2.part, LostIt refl (h.0, h.1, refl));
 }
 
@@ -72,12 +78,13 @@ unfolding event_of
 post_acts t to old mid new h part seen =
     let word = mail_word t old.part.node to in
     let k = probed_there (has_number old.part.probed to) word to old mid refl h in
-    acts_whole t (acts.Post to) old new (events.Post to) (probe_seen (has_number old.part.probed to) word) (seen ∙ k.0) (record { answer = answers.Plain; answered = (refl, refl); part = part ∙ k.1; event_is = refl })
+    acts_whole t (acts.Post to) old new (events.Post to) (probe_seen (has_number old.part.probed to) word) (seen ∙ k.0) tt (record { answer = answers.Plain; answered = (refl, refl); part = part ∙ k.1; event_is = refl })
 
 pub post_lost : (t : TableName) (to : ℕ) (old new : CellState) → Probes (mail_word t old.part.node to) to old false new → Acts t (acts.Post to) old (Err refusals.Raced) new
 post_lost t to old new h = record {
   found = (mail_word t old.part.node to, h.1.0) ∷ [];
   seen = h.1.2.seen;
+  looks = tt;
   outcome = (h.1.2.part, LostIt refl (h.1.0, h.1.1, h.0, refl));
 }
 
@@ -98,7 +105,7 @@ touch_done t p p' other event touch part is = cc
 pub touch_acts : (t : TableName) (act : Act) (old mid new : CellState) (event : Happened) → is_touch_act act ≡ true → mid.part ≡ old.part → mid.seen ≡ old.seen → event ≡ event_of mid.part.state act answers.Plain →
     new.part ≡ act_part act answers.Plain mid.part → new.seen ≡ mid.seen → Acts t act old (Ok event) new
 touch_acts t act old mid new event touch same kept is part seen =
-    acts_whole t act old new event [] (seen ∙ (kept ∙ sym (append-nil old.seen)))
+    acts_whole t act old new event [] (seen ∙ (kept ∙ sym (append-nil old.seen))) (looks_none t act old.looked new.looked)
     (touch_done t old.part new.part act event touch (part ∙ ap (act_part act answers.Plain) same) (is ∙ ap (λ (p : Part). event_of p.state act answers.Plain) same))
 
 -- it is refused before anything is done
@@ -123,6 +130,7 @@ pub prepare_refused : (t : TableName) (act : Act) (old new : CellState) (why : R
 prepare_refused t act old new why lacks none may alone part seen is grows = record {
   found = [];
   seen = seen ∙ sym (append-nil old.seen);
+  looks = looks_none t act old.looked new.looked;
   outcome = (part, go (act_lacks_serials old.part.state act) refl);
 }
   where
@@ -149,6 +157,7 @@ unfolding stand_in
 stood_in t serial act old mid new event in_place grows same kept h = record {
   found = h.found;
   seen = h.seen ∙ ap (λ (l : Seen). l ++ h.found) kept;
+  looks = looks act in_place;
   outcome = record {
     taken = acts.Router serial router_acts.Unlock;
     which = inr (in_place, grown (act_grows old.part.state (acts.Router serial act)) grows);
@@ -156,16 +165,22 @@ stood_in t serial act old mid new event in_place grows same kept h = record {
   };
 }
   where
+    looks : (act : RouterAct) → acts.Router serial router_acts.Unlock ≡ stand_in (acts.Router serial act) → LooksFor t (acts.Router serial act) h.found old.looked new.looked
+    looks router_acts.Claim e = cc
+    looks other e = tt
+
     unlocked : {a : Act} {Grows : Type 0} → (a ≡ acts.Router serial router_acts.Unlock) ⊎ ((a ≡ acts.Router serial router_acts.Unlock) × Grows) →
         a ≡ acts.Router serial router_acts.Unlock
     unlocked (inl e) = e
     unlocked (inr e) = e.0
 
 -- the same act, after a preparation
-pub after_same : (t : TableName) (act : Act) (old mid new : CellState) (answer : Result Happened Refusal) → mid.part ≡ old.part → mid.seen ≡ old.seen → Acts t act mid answer new → Acts t act old answer new
-after_same t act old mid new answer same kept h = record {
+pub after_same : (t : TableName) (act : Act) (old mid new : CellState) (answer : Result Happened Refusal) → mid.part ≡ old.part → mid.seen ≡ old.seen →
+    ((seen : Seen) → LooksFor t act seen old.looked new.looked) → Acts t act mid answer new → Acts t act old answer new
+after_same t act old mid new answer same kept looks h = record {
   found = h.found;
   seen = h.seen ∙ ap (λ (l : Seen). l ++ h.found) kept;
+  looks = looks h.found;
   outcome = subst (λ (p : Part). Rattle.std.specs.Prelude.MatchResult answer (λ event. IsTaken t p act event new.part h.found) (λ why. (new.part ≡ p) × IsRefused t.size p act (IsLost t p act h.found) why h.found)) same h.outcome;
 }
 
@@ -179,7 +194,7 @@ wake_refused t serial old new why part seen is grows = prepare_refused t (acts.R
 -- a begin or a retire that is refused wants serials
 pub held_refused : (t : TableName) (serial : ℕ) (act : RouterAct) (old new : CellState) (why : Refusal) → why ≢ refusals.OutOfMemory → new.part ≡ old.part → new.seen ≡ old.seen →
     why ≡ (if act_lacks_serials old.part.state (acts.Router serial act) then refusals.NumbersEnd else refusals.OutOfMemory) → Acts t (acts.Router serial act) old (Err why) new
-held_refused t serial act old new why not part seen is = record { found = []; seen = seen ∙ sym (append-nil old.seen); outcome = (part, go (act_lacks_serials old.part.state (acts.Router serial act)) refl) }
+held_refused t serial act old new why not part seen is = record { found = []; seen = seen ∙ sym (append-nil old.seen); looks = looks_none t (acts.Router serial act) old.looked new.looked; outcome = (part, go (act_lacks_serials old.part.state (acts.Router serial act)) refl) }
   where
     go : (b : Bool) → act_lacks_serials old.part.state (acts.Router serial act) ≡ b → IsRefused t.size old.part (acts.Router serial act) (IsLost t old.part (acts.Router serial act) []) why []
     go true e = NoSerials (is ∙ ap (λ (b : Bool). if b then refusals.NumbersEnd else refusals.OutOfMemory) e) e refl

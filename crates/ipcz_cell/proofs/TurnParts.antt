@@ -21,11 +21,11 @@ use Rattle.ipcz_rule.specs.declared.view.Part.{Part}
 use Rattle.ipcz_cell.specs.TableNames.{TableName}
 use Rattle.ipcz_cell.specs.CellStates.{CellState}
 use Rattle.ipcz_rule.specs.Steps.{old_word}
-use Rattle.ipcz_cell.specs.Claims.{Answered, Got as Claimed, Dry as WasDry, Slotless as HadNoSlot, Lost as WasLost}
+use Rattle.ipcz_cell.specs.Claims.{FindsNone, Answered, Got as Claimed, Dry as WasDry, Slotless as HadNoSlot, Lost as WasLost}
 use Rattle.ipcz_cell.specs.Mails.{mail_word, old_named, OldLoaded, source_found, Handles}
 use Rattle.ipcz_cell.specs.Turns.{IsFirst, Chooses}
 use Rattle.ipcz_rule.specs.Races.{IsWaitedFor}
-use Rattle.ipcz_cell.specs.TurnEnds.{IsTaken, IsLost, IsRefused, NoSerials, NoMemory, LostIt, hand_lacks_serials, Acts, EndsRaced, IsLostTurn, Turns, Got, Dry, NoSlot}
+use Rattle.ipcz_cell.specs.TurnEnds.{IsTaken, IsLost, IsRefused, NoSerials, NoMemory, LostIt, hand_lacks_serials, LooksFor, Acts, EndsRaced, IsLostTurn, Turns, Got, Dry, NoSlot}
 use Rattle.ipcz_cell.proofs.TurnWords.{seen_two}
 use Rattle.ipcz_cell.proofs.TurnActs.{acts_whole}
 
@@ -39,13 +39,13 @@ hand_loaded size o x found e h = subst (λ (q : Option Message). OldLoaded size 
 -- the message in hand is handled
 pub hand_takes : (t : TableName) (from : ℕ) (old new : CellState) (r : Result Happened Refusal) → Handles t.size from old r new → Acts t (acts.Hand from) old r new
 unfolding stand_in
-hand_takes t sender old new (Ok event) h = acts_whole t (acts.Hand sender) old new event h.found h.seen (record {
+hand_takes t sender old new (Ok event) h = acts_whole t (acts.Hand sender) old new event h.found h.seen tt (record {
   answer = answers.Plain;
   answered = (refl, hand_loaded t.size old.part.message h.message h.found h.in_hand h.loaded);
   part = (h.message, h.in_hand, h.outcome.1);
   event_is = (h.message, h.in_hand, h.outcome.0);
 })
-hand_takes t sender old new (Err why) h = record { found = h.found; seen = h.seen; outcome = (h.outcome.1, go (message_lacks_serials old.part.state sender h.message (source_found h.found)) refl) }
+hand_takes t sender old new (Err why) h = record { found = h.found; seen = h.seen; looks = tt; outcome = (h.outcome.1, go (message_lacks_serials old.part.state sender h.message (source_found h.found)) refl) }
   where
     lacks : (b : Bool) → message_lacks_serials old.part.state sender h.message (source_found h.found) ≡ b → hand_lacks_serials old.part.state sender (source_found h.found) old.part.message ≡ b
     lacks b f = ap (hand_lacks_serials old.part.state sender (source_found h.found)) h.in_hand ∙ f
@@ -63,7 +63,7 @@ hand_takes t sender old new (Err why) h = record { found = h.found; seen = h.see
 -- nothing is done
 pub idle_acts : (t : TableName) (old : CellState) → Acts t acts.Idle old (Ok events.Idle) old
 unfolding event_of commit
-idle_acts t old = acts_whole t acts.Idle old old events.Idle [] (sym (append-nil old.seen)) (record { answer = answers.Plain; answered = (refl, refl); part = refl; event_is = refl })
+idle_acts t old = acts_whole t acts.Idle old old events.Idle [] (sym (append-nil old.seen)) tt (record { answer = answers.Plain; answered = (refl, refl); part = refl; event_is = refl })
 
 -- what a claim is seen to be
 claim_event : (n : Node) (serial : ℕ) (answer : Answer) (event : Happened) → IsPossibleAct n (acts.Router serial router_acts.Claim) → ((r : Router) → event ≡ word_event serial (link_of r.outward.primary) answer) → event ≡ event_of n (acts.Router serial router_acts.Claim) answer
@@ -73,6 +73,11 @@ claim_event n serial answer event may is = go (router_in n serial) refl may
     go : (o : Option Router) → router_in n serial ≡ o → Rattle.std.specs.Prelude.IsSomeAnd o (λ r. Rattle.ipcz_router.specs.ActTable.may_take r router_acts.Claim ≡ true) → event ≡ event_at n serial (router_in n serial) router_acts.Claim answer
     go None e h = absurd h
     go (Some r) e h = is r ∙ sym (ap (λ (o : Option Router). event_at n serial o router_acts.Claim answer) e)
+
+-- the first number that was found
+abbrev first_count : Seen → ℕ
+first_count [] = 0
+first_count (s ∷ rest) = s.1
 
 abbrev number_in : ℕ → Result ℕ Refusal → ℕ
 number_in d (Ok n) = n
@@ -87,7 +92,7 @@ pub claim_acts : (t : TableName) (serial word count : ℕ) (old new : CellState)
 unfolding word_event
 claim_acts t serial word count old new may is (Claimed c n e number reached part seen) =
     let same : word ≡ n = is ∙ ap (number_in 0) e in
-    acts_whole t (acts.Router serial router_acts.Claim) old new (events.Claim serial word) ((t.size, c) ∷ (t.size, n) ∷ []) (seen ∙ seen_two old.seen (t.size, c) (t.size, n)) (record {
+    acts_whole t (acts.Router serial router_acts.Claim) old new (events.Claim serial word) ((t.size, c) ∷ (t.size, n) ∷ []) (seen ∙ seen_two old.seen (t.size, c) (t.size, n)) (λ k e low. cc) (record {
       answer = answers.Claimed n;
       answered = Got c n number refl refl;
       part = part;
@@ -102,14 +107,14 @@ pub claim_dries : (t : TableName) (serial : ℕ) (old new : CellState) (why : Re
 unfolding word_event
 claim_dries t serial old new why dry may (Claimed c n e number reached part seen) = cc
 claim_dries t serial old new why dry may (WasDry e part seen) =
-    acts_whole t (acts.Router serial router_acts.Claim) old new (events.ClaimNoWord serial) ((t.size, t.size) ∷ []) seen (record {
+    acts_whole t (acts.Router serial router_acts.Claim) old new (events.ClaimNoWord serial) ((t.size, t.size) ∷ []) seen (λ k e low. absurd (let same : t.size ≡ k = ap first_count e in omega (arith, same, low))) (record {
       answer = answers.NoWord;
       answered = Dry refl refl;
       part = part;
       event_is = claim_event old.part.state serial answers.NoWord (events.ClaimNoWord serial) may (λ r. refl);
     })
 claim_dries t serial old new why dry may (HadNoSlot c e again less part seen none) =
-    acts_whole t (acts.Router serial router_acts.Claim) old new (events.ClaimNoWord serial) ((t.size, c) ∷ []) seen (record {
+    acts_whole t (acts.Router serial router_acts.Claim) old new (events.ClaimNoWord serial) ((t.size, c) ∷ []) seen (λ k e low. subst (λ (m : ℕ). FindsNone t m old.looked new.looked) (ap first_count e) none) (record {
       answer = answers.NoWord;
       answered = NoSlot c less again refl refl;
       part = part;
@@ -124,6 +129,7 @@ claim_lost t serial old new why not (HadNoSlot c e again less part seen none) = 
 claim_lost t serial old new why not (WasLost n found e other part seen) = record {
   found = (t.size, n) ∷ (t.size, found) ∷ [];
   seen = seen ∙ seen_two old.seen (t.size, n) (t.size, found);
+  looks = λ k e low. cc;
   outcome = (part, LostIt (ap (refusal_in why) e) (n, found, other, refl));
 }
 
@@ -167,6 +173,7 @@ turn_done t act old mid new answer c h = record {
   found = h.found;
   first = c.first;
   seen = h.seen ∙ (ap (λ (l : Seen). l ++ h.found) c.looked.seen ∙ append_assoc old.seen c.found h.found);
+  looks = subst (λ (l : List ℕ). LooksFor t act h.found l new.looked) c.looked.looked h.looks;
   outcome = go answer (subst (λ (p : Part). MatchResult answer (λ event. IsTaken t p act event new.part h.found) (λ why. (new.part ≡ p) × IsRefused t.size p act (IsLost t p act h.found) why h.found)) c.looked.part h.outcome);
 }
   where

@@ -28,7 +28,7 @@ use Rattle.ipcz_cell.specs.TableNames.{TableName}
 use Rattle.ipcz_cell.specs.CellStates.{CellState}
 use Rattle.ipcz_cell.specs.Words.{ActsOnWord, LocksWord, lock_seen}
 use Rattle.ipcz_cell.specs.declared.words.LockTry.{LockTry}
-use Rattle.ipcz_cell.specs.TurnEnds.{try_event, FoundWord, IsAnswered, LostIt, Acts}
+use Rattle.ipcz_cell.specs.TurnEnds.{try_event, FoundWord, IsAnswered, LostIt, LooksFor, Acts}
 
 abbrev Loads : Type 0
 Loads = List (ℕ × ℕ)
@@ -96,11 +96,13 @@ unlock_event_is n serial word side x named =
 
 -- an act on a word is a turn's
 pub word_acts : (t : TableName) (serial : ℕ) (act : RouterAct) (old new : CellState) (after : ℕ) (event : Happened) →
-    ((answer : Answer) (seen : Loads) → FoundWord old.part.state serial act answer seen → IsAnswered t old.part (acts.Router serial act) answer seen) → (h : ActsOnWord serial act old after new) →
+    ((answer : Answer) (seen : Loads) → FoundWord old.part.state serial act answer seen → IsAnswered t old.part (acts.Router serial act) answer seen) →
+    ((seen : Loads) → LooksFor t (acts.Router serial act) seen old.looked new.looked) → (h : ActsOnWord serial act old after new) →
     event ≡ event_of old.part.state (acts.Router serial act) (word_answer (word_of_bits h.found) h.side None act) → Acts t (acts.Router serial act) old (Ok event) new
-word_acts t serial act old new after event fits h e = record {
+word_acts t serial act old new after event fits looks h e = record {
   found = (h.word, h.found) ∷ [];
   seen = h.seen;
+  looks = looks ((h.word, h.found) ∷ []);
   outcome = record {
     taken = acts.Router serial act;
     which = inl refl;
@@ -122,17 +124,17 @@ word_acts t serial act old new after event fits h e = record {
 -- what a mark, an unlock and a wake are seen to be, by the link that was asked for
 pub mark_acts : (t : TableName) (serial : ℕ) (old new : CellState) (after : ℕ) (link : LinkId) → ((word : ℕ) (side : Side) → word_side old.part.state serial ≡ Some (word, side) → link ≡ Central word) →
     ActsOnWord serial router_acts.Mark old after new → Acts t (acts.Router serial router_acts.Mark) old (Ok (events.Mark serial link after)) new
-mark_acts t serial old new after link at h = word_acts t serial router_acts.Mark old new after (events.Mark serial link after) (λ answer seen f. f) h
+mark_acts t serial old new after link at h = word_acts t serial router_acts.Mark old new after (events.Mark serial link after) (λ answer seen f. f) (λ seen. tt) h
     ((λ j. events.Mark serial (at h.word h.side h.named j) (h.after j)) ∙ mark_event old.part.state serial h.word h.side (word_of_bits h.found) h.named)
 
 pub wake_acts : (t : TableName) (serial : ℕ) (old new : CellState) (after : ℕ) (link : LinkId) → ((word : ℕ) (side : Side) → word_side old.part.state serial ≡ Some (word, side) → link ≡ Central word) →
     ActsOnWord serial router_acts.Wake old after new → Acts t (acts.Router serial router_acts.Wake) old (Ok (events.Wake serial link after)) new
-wake_acts t serial old new after link at h = word_acts t serial router_acts.Wake old new after (events.Wake serial link after) (λ answer seen f. f) h
+wake_acts t serial old new after link at h = word_acts t serial router_acts.Wake old new after (events.Wake serial link after) (λ answer seen f. f) (λ seen. tt) h
     ((λ j. events.Wake serial (at h.word h.side h.named j) (h.after j)) ∙ wake_event old.part.state serial h.word h.side (word_of_bits h.found) h.named)
 
 pub unlock_acts : (t : TableName) (serial : ℕ) (old new : CellState) (after : ℕ) (link : LinkId) → ((word : ℕ) (side : Side) → word_side old.part.state serial ≡ Some (word, side) → link ≡ Central word) →
     ActsOnWord serial router_acts.Unlock old after new → Acts t (acts.Router serial router_acts.Unlock) old (Ok (events.Unlock serial link after)) new
-unlock_acts t serial old new after link at h = word_acts t serial router_acts.Unlock old new after (events.Unlock serial link after) (λ answer seen f. f) h
+unlock_acts t serial old new after link at h = word_acts t serial router_acts.Unlock old new after (events.Unlock serial link after) (λ answer seen f. f) (λ seen. tt) h
     ((λ j. events.Unlock serial (at h.word h.side h.named j) (h.after j)) ∙ unlock_event_is old.part.state serial h.word h.side (word_of_bits h.found) h.named)
 
 -- what a try for the lock is seen to be
@@ -164,6 +166,7 @@ lock_acts t serial old new try event h e =
     let tried = h.tried in record {
       found = lock_seen h.word h.loaded try.plan [];
       seen = tried.2 ∙ seen_of_plan h.word h.loaded try.plan old.seen;
+      looks = tt;
       outcome = record {
         taken = acts.Router serial router_acts.Lock;
         which = inl refl;
@@ -188,5 +191,6 @@ lock_lost t serial old new why h =
     let seen = (h.word, h.loaded) ∷ (h.word, tried.1.0) ∷ [] in record {
       found = seen;
       seen = tried.1.3 ∙ seen_two old.seen (h.word, h.loaded) (h.word, tried.1.0);
+      looks = tt;
       outcome = (tried.1.2, LostIt tried.0 (h.word, h.loaded, tried.1.0, h.side, h.named, h.inside, tried.1.1, refl));
     }

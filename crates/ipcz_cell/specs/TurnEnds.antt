@@ -31,7 +31,7 @@ use Rattle.ipcz_rule.specs.Races.{IsWaitedFor}
 use Rattle.ipcz_rule.specs.Steps.{act_part, post_part, look_part, hand_part}
 use Rattle.ipcz_cell.specs.TableNames.{TableName}
 use Rattle.ipcz_cell.specs.CellStates.{CellState}
-use Rattle.ipcz_cell.specs.Claims.{IsNumberAt}
+use Rattle.ipcz_cell.specs.Claims.{IsNumberAt, FindsNone}
 use Rattle.ipcz_cell.specs.Mails.{mail_word, old_named, OldLoaded, source_found}
 use Rattle.ipcz_cell.specs.Words.{lock_seen}
 use Rattle.ipcz_cell.specs.Turns.{IsFirst}
@@ -147,10 +147,16 @@ pub data IsRefused (size : ℕ) (p : Part) (act : Act) (Lost : Type 0) (why : Re
       IsSeenBefore size p act seen → IsRefused size p act Lost why seen
   LostIt : why ≡ Raced → Lost → IsRefused size p act Lost why seen
 
+-- a claim that has found the claim count below the last number, and taken none, has looked for one in vain (`FindsNone`)
+abbrev pub LooksFor : TableName → Act → List (ℕ × ℕ) → List ℕ → List ℕ → Type 0
+LooksFor t (acts.Router serial router_acts.Claim) seen old new = (c : ℕ) → seen ≡ (t.size, c) ∷ [] → c < t.size → FindsNone t c old new
+LooksFor t other seen old new = Unit {0}
+
 -- what was done of an act: all of it, or nothing
 pub record Acts (t : TableName) (act : Act) (old : CellState) (answer : Result Happened Refusal) (new : CellState) : Type 0 where
   pub found : List (ℕ × ℕ)
   pub seen : new.seen ≡ old.seen ++ found
+  pub looks : LooksFor t act found old.looked new.looked
   pub outcome : MatchResult answer (λ event. IsTaken t old.part act event new.part found)
       (λ why. (new.part ≡ old.part) × IsRefused t.size old.part act (IsLost t old.part act found) why found)
 
@@ -177,5 +183,6 @@ pub record Turns (t : TableName) (old : CellState) (answer : Result Happened Ref
   pub found : List (ℕ × ℕ)
   pub first : IsFirst t old.part loads act
   pub seen : new.seen ≡ old.seen ++ (loads ++ found)
+  pub looks : LooksFor t act found old.looked new.looked
   pub outcome : MatchResult answer (λ event. IsTaken t old.part act event new.part found)
       (λ why. (new.part ≡ old.part) × IsRefused t.size old.part act (IsLostTurn t old.part act loads found) why found)

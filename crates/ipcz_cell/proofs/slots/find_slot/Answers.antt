@@ -15,8 +15,8 @@ loop-tried-preserved g c =
     let low = l.invariant.inside in
     let next = c.if-slot-fabric.slot in
     let step : ((l.slot + 1 < t.slots) × (next ≡ l.slot + 1)) ⊎ ((t.slots ≤ l.slot + 1) × (next ≡ 0)) = elim c.if-slot-fabric.branch [
-      then-slot-fabric w ↦ let h = w.if-slot-fabric.true in inl (omega (arith, h, slots), w.slot-is) |
-      else-slot-fabric w ↦ let h = w.if-slot-fabric.false in inr (omega (arith, h, slots), w.slot-is)
+      | then-slot-fabric w ↦ let h = w.if-slot-fabric.true in inl (omega (arith, h, slots), w.slot-is)
+      | else-slot-fabric w ↦ let h = w.if-slot-fabric.false in inr (omega (arith, h, slots), w.slot-is)
     ] in record {
       own = found.table.0 ∙ l.invariant.own;
       id = found.table.1 ∙ l.invariant.id;

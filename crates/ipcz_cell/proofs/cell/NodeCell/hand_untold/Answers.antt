@@ -19,7 +19,7 @@ returns-in-Ok-false g c =
     let t = g.F.FabricName.table in
     let left = c.in-Ok-false.ensures.left c.in-Ok-false.field-0-test in
     does t (acts.Hand c.args.from) c.args.self.now c.handle_by.new.self c.handle_by.result c.untold.result c.untold.ensures
-    (after_same t (acts.Hand c.args.from) c.args.self.now c.hand_alone.new.self c.handle_by.new.self c.handle_by.result left.0 left.1
+    (after_same t (acts.Hand c.args.from) c.args.self.now c.hand_alone.new.self c.handle_by.new.self c.handle_by.result left.0 left.1 (λ seen. tt)
     (hand_takes t c.args.from c.hand_alone.new.self c.handle_by.new.self c.handle_by.result c.handle_by.ensures))
 
 pub returns-in-Err : goal.returns-in-Err

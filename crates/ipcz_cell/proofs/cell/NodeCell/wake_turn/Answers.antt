@@ -7,7 +7,7 @@ pub returns : goal.returns
 returns g c =
     let t = g.F.FabricName.table in
     let ready = c.prepare.ensures in
-    after_same t _ c.args.self.now c.prepare.new.self c.word_take_waiting.new.self _ ready.part ready.seen
+    after_same t _ c.args.self.now c.prepare.new.self c.word_take_waiting.new.self _ ready.part ready.seen (λ seen. tt)
     (wake_acts t c.args.serial c.prepare.new.self c.word_take_waiting.new.self c.word_take_waiting.result c.word_link-link.result c.word_link-link.ensures c.word_take_waiting.ensures)
 
 pub returns-in_err-prepare : goal.returns-in_err-prepare
