@@ -100,7 +100,8 @@ enum {
     IPCZ_FORGED = 14,
     IPCZ_TOO_SMALL = 100,   /* there is too little room for the parcel */
     IPCZ_NOT_CREATED = 101, /* the handle has no world, or no cell */
-    IPCZ_ALREADY_CREATED = 102 /* the handle has one already */
+    IPCZ_ALREADY_CREATED = 102, /* the handle has one already */
+    IPCZ_STOPPED = 103      /* the loop was stopped. Only calls of ipcz_loop.h answer it */
 };
 
 #define IPCZ_MAX_NODES 8
@@ -330,6 +331,7 @@ static inline const char *ipcz_status_name(ipcz_status status) {
     case IPCZ_TOO_SMALL: return "TooSmall";
     case IPCZ_NOT_CREATED: return "NotCreated";
     case IPCZ_ALREADY_CREATED: return "AlreadyCreated";
+    case IPCZ_STOPPED: return "Stopped";
     default: return "Unknown";
     }
 }

@@ -141,7 +141,7 @@ def install(prefix: pathlib.Path, after_ci: bool) -> None:
     try:
         for path in ("include/ipcz_portals.h", licence, *INSTALLED):
             (prefix / path).parent.mkdir(parents=True, exist_ok=True)
-        for header in sorted((TOP / "include").glob("ipcz_portals.h*")):
+        for header in sorted((TOP / "include").glob("ipcz_*.h*")):
             shutil.copy(header, prefix / "include")
         joined(archive, prefix / "lib" / "libipcz_portals.a")
         shutil.copy(TOP / "LICENSE", prefix / licence)

@@ -37,7 +37,7 @@ target_link_libraries(hello ipcz::portals)
 """
 MOST_SECONDS = 600
 # Callers that are built and not run: what they print is times.
-MEASURES = {"measure", "measure_cells"}
+MEASURES = {"measure", "measure_cells", "measure_loop"}
 # Flags of one caller, and of one language: the headers are read by pkg-config's -I, so that each warning of theirs fails.
 FLAGS = {"no_memory": ["-Wl,--wrap=malloc,--wrap=realloc"], "no_exceptions": ["-fno-exceptions"]}
 STRICTER = {"cpp": ["-Wold-style-cast", "-Wzero-as-null-pointer-constant", "-Wshadow"]}
