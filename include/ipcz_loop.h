@@ -189,7 +189,7 @@ struct ipcz_node {
     size_t data_count, data_room;
     int fd; /* -1 until it is asked for */
     bool is_rung, is_stopped;
-    ipcz_status refused; /* why the last turn was refused, if it was */
+    ipcz_status refused; /* why a turn of some node was refused, if one was since this node took turns */
     uint8_t number;
     char apart[64]; /* so that locks of different nodes don't share a line of the processor's cache */
 };
@@ -292,8 +292,21 @@ static inline bool ipcz_node_turns_(ipcz_node *node, bool was_called) {
     return had_turn;
 }
 
-/* After turns of a node: has the others take theirs, and once more after each that had one. No lock is held. */
-static inline void ipcz_loop_move_(ipcz_node *from) {
+/* Tells all nodes that a turn was refused, so that whoever sleeps calls again, at whatever node. No lock is held. */
+static inline void ipcz_loop_tell_(ipcz_loop *loop, ipcz_status refused) {
+    for (uint8_t i = 0; i < loop->nodes; i++) {
+        ipcz_node *node = &loop->node[i];
+        pthread_mutex_lock(&node->lock);
+        node->refused = refused;
+        ipcz_node_ring_(node);
+        ipcz_node_hand_out_(node);
+        pthread_mutex_unlock(&node->lock);
+    }
+}
+
+/* After turns of a node, the last of which may have been refused: has the others take theirs, and all the rest once more after each that had one. No lock
+ * is held. */
+static inline void ipcz_loop_move_(ipcz_node *from, ipcz_status refused) {
     ipcz_loop *loop = from->loop;
     const uint32_t all = (1u << loop->nodes) - 1u;
     uint32_t asked = all & ~(1u << from->number);
@@ -302,23 +315,29 @@ static inline void ipcz_loop_move_(ipcz_node *from) {
         if (!(asked >> i & 1u)) continue;
         pthread_mutex_lock(&loop->node[i].lock);
         bool had_turn = ipcz_node_turns_(&loop->node[i], false);
+        if (loop->node[i].refused) refused = loop->node[i].refused;
         pthread_mutex_unlock(&loop->node[i].lock);
         asked = had_turn ? all & ~(1u << i) : asked & ~(1u << i);
     }
+    if (refused) ipcz_loop_tell_(loop, refused);
 }
 
 /* What follows a call that may have changed its node: turns of it, and of the others. The lock is given back. */
 static inline void ipcz_node_end_call_(ipcz_node *node) {
     bool had_turn = ipcz_node_turns_(node, true);
+    ipcz_status refused = node->refused;
     pthread_mutex_unlock(&node->lock);
-    if (had_turn) ipcz_loop_move_(node);
+    if (had_turn) ipcz_loop_move_(node, refused);
 }
 
-/* Takes the lock before a look. A turn that was refused is tried again. */
+/* Takes the lock before a look. If a turn of any node was refused, all take turns first. */
 static inline void ipcz_node_begin_look_(ipcz_node *node) {
     pthread_mutex_lock(&node->lock);
     if (!node->refused) return;
-    ipcz_node_end_call_(node);
+    ipcz_node_turns_(node, false);
+    ipcz_status refused = node->refused;
+    pthread_mutex_unlock(&node->lock);
+    ipcz_loop_move_(node, refused);
     pthread_mutex_lock(&node->lock);
 }
 

@@ -39,7 +39,7 @@ MOST_SECONDS = 600
 # Callers that are built and not run: what they print is times.
 MEASURES = {"measure", "measure_cells", "measure_loop"}
 # Flags of one caller, and of one language: the headers are read by pkg-config's -I, so that each warning of theirs fails.
-FLAGS = {"no_memory": ["-Wl,--wrap=malloc,--wrap=realloc"], "no_exceptions": ["-fno-exceptions"]}
+FLAGS = {"no_memory": ["-Wl,--wrap=malloc,--wrap=realloc"], "loop_no_memory": ["-Wl,--wrap=malloc,--wrap=realloc"], "no_exceptions": ["-fno-exceptions"]}
 STRICTER = {"cpp": ["-Wold-style-cast", "-Wzero-as-null-pointer-constant", "-Wshadow"]}
 
 
