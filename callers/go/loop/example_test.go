@@ -16,6 +16,20 @@ func must(err error) {
 	}
 }
 
+// What is sent at a node comes at the other.
+func Example() {
+	nodes, err := loop.New(2)
+	must(err)
+	defer nodes.Close()
+	portal := nodes.Node(0).First(1)
+	must(portal.Send([]byte("hello")))
+	must(portal.Close())
+	for parcel := range nodes.Node(1).First(0).Parcels(context.Background()) {
+		fmt.Println(string(parcel.Bytes))
+	}
+	// Output: hello
+}
+
 // The asker sends a portal for the answer along; whoever has the request answers there, and closes it.
 func Example_requestAndReply() {
 	background := context.Background()
