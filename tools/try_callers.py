@@ -201,9 +201,9 @@ class Callers:
         """Compares what docs/C.md, README and those of the callers show with the programs that are run."""
         page = (TOP / "docs/C.md").read_text()
         programs = re.findall(r"^```c\n(.*?)^```$", page, re.M | re.S)
-        sources = [(CALLERS / "c" / name).read_text() for name in ("hello.c", "own_nodes.c")]
-        if len(programs) != 2 or programs[0] != sources[0] or programs[1] not in sources[1]:
-            self.wrong.append("docs/C.md doesn't show callers/c/hello.c and a part of callers/c/own_nodes.c")
+        sources = [(CALLERS / "c" / name).read_text() for name in ("hello.c", "own_nodes.c", "loop_hello.c", "loop_poll.c")]
+        if len(programs) != 4 or any(shown not in source for shown, source in zip(programs, sources)) or programs[::2] != sources[::2]:
+            self.wrong.append("docs/C.md doesn't show callers/c/hello.c and loop_hello.c, and parts of own_nodes.c and loop_poll.c")
         part = re.search(r"^```c\n(.*?)^```$", (TOP / "README.md").read_text(), re.M | re.S)
         if not part or part[1] not in sources[0]:
             self.wrong.append("README.md doesn't show a part of callers/c/hello.c")
