@@ -74,6 +74,9 @@ INSTALLED = {
 }
 
 
+VERSION_C = """const char *ipcz_version(void);
+const char *ipcz_version(void) {{ return "{version}"; }}
+"""
 # The shared library: its name, and what is compiled into it beside the archive. (Before 1.0 each minor version may change calls)
 SHARED = "libipcz_loop.so"
 SHARED_C = """#define IPCZ_LOOP_API __attribute__((visibility("default")))
@@ -124,12 +127,14 @@ def built_after_ci() -> pathlib.Path:
 
 
 def joined(archive: pathlib.Path, to: pathlib.Path) -> None:
-    """Writes an archive with all that a program links: the crate's, and what the kit's heap calls of C."""
+    """Writes an archive with all that a program links: the crate's, what the kit's heap calls of C, and the version."""
     with tempfile.TemporaryDirectory() as room:
+        pathlib.Path(room, "version.c").write_text(VERSION_C.format(version=version()))
+        ran(["cc", "-O2", "-fPIC", "-c", "version.c", "-o", "version.o"], "the version isn't compiled", cwd=room)
         shutil.copy(archive, pathlib.Path(room, "crate.a"))
         shutil.copy(try_edits.KIT / "c" / "liblibc_c.a", pathlib.Path(room, "heap.a"))
         script = pathlib.Path(room, "script")
-        script.write_text("CREATE all.a\nADDLIB crate.a\nADDLIB heap.a\nSAVE\nEND\n")
+        script.write_text("CREATE all.a\nADDLIB crate.a\nADDLIB heap.a\nADDMOD version.o\nSAVE\nEND\n")
         with script.open() as given:
             try:
                 done = subprocess.run(["ar", "-M"], stdin=given, cwd=room, stdout=subprocess.PIPE, stderr=subprocess.STDOUT, text=True)

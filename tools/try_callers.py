@@ -192,6 +192,7 @@ class Callers:
         for path, line in {
             "include/ipcz_portals.h": f"#define IPCZ_VERSION_NUMBER {10000 * numbers[0] + 100 * numbers[1] + numbers[2]}\n",
             "callers/rust/Cargo.toml": f'version = "{version}"\n',
+            "callers/python/ipcz_portals.py": f'__version__ = "{version}"\n',
             "CHANGELOG.md": f"## {version}\n",
         }.items():
             if f"\n{line}" not in (TOP / path).read_text():

@@ -24,7 +24,8 @@ static void tell(const char *what, size_t number) { printf(" %s %zu", what, numb
 static void limits(void) {
     ipcz_loop *loop;
     ipcz_portal a, b;
-    printf("limits:");
+    tell("version", !strcmp(ipcz_version(), IPCZ_VERSION));
+    printf("\nlimits:");
     say(ipcz_loop_create(0, 0, &loop));
     say(ipcz_loop_create(9, 0, &loop));
     say(ipcz_loop_create(8, 27, &loop));

@@ -27,6 +27,7 @@ from collections.abc import AsyncIterator, Iterator, Sequence
 from types import TracebackType
 from typing import NamedTuple, Optional, Union
 
+__version__ = "0.2.0"
 __all__ = ["Loop", "Node", "Portal", "Parcel", "Status", "Refused", "PeerClosed", "Stopped", "MAX_BYTES", "MAX_NODES", "MAX_PORTALS"]
 
 MAX_BYTES = 65536
@@ -91,6 +92,9 @@ def _library() -> ctypes.CDLL:
     if not found:
         raise ImportError("there is no libipcz_loop.so: make it by tools/install_c.py --shared PREFIX, and set IPCZ_LIBRARY=PREFIX/lib/libipcz_loop.so")
     library, at, size = ctypes.CDLL(found), ctypes.c_void_p, ctypes.c_size_t
+    library.ipcz_version.restype = ctypes.c_char_p
+    if library.ipcz_version().decode() != __version__:
+        raise ImportError(f"{found} is of version {library.ipcz_version().decode()}, and this file of {__version__}")
     for name, result, given in (
         ("ipcz_loop_create", ctypes.c_uint32, [ctypes.c_uint8, ctypes.c_uint32, ctypes.POINTER(at)]),
         ("ipcz_loop_stop", None, [at]),
