@@ -6,6 +6,7 @@ import (
 	"log"
 	"strconv"
 	"sync"
+	"sync/atomic"
 
 	"ipcz_portals/loop"
 )
@@ -142,4 +143,60 @@ func Example_channel() {
 	// node 2 heard two
 	// node 2 heard three
 	// PeerClosed
+}
+
+// A sender sends no more parcels than the receiver has given credits for, and waits until it has one.
+type sender struct {
+	at      *loop.Portal
+	credits int
+}
+
+func (s *sender) send(bytes []byte) error {
+	for {
+		if _, err := s.at.TryRecv(); err != nil {
+			break
+		}
+		s.credits++
+	}
+	if s.credits == 0 {
+		if _, err := s.at.Recv(context.Background()); err != nil {
+			return err
+		}
+		s.credits++
+	}
+	s.credits--
+	return s.at.Send(bytes)
+}
+
+// Back-pressure: the receiver grants four credits, and one more for each parcel that it has dealt with.
+func Example_credits() {
+	nodes, err := loop.New(2)
+	must(err)
+	defer nodes.Close()
+	var dealtWith atomic.Int32
+	receiver := make(chan struct{})
+	go func() {
+		defer close(receiver)
+		at := nodes.Node(1).First(0)
+		for i := 0; i < 4; i++ {
+			must(at.Send(nil))
+		}
+		for range at.Parcels(context.Background()) {
+			dealtWith.Add(1)
+			// (an error: the sender has closed, and wants no credit)
+			_ = at.Send(nil)
+		}
+	}()
+	sends, most := sender{at: nodes.Node(0).First(1)}, 0
+	for i := 0; i < 1000; i++ {
+		must(sends.send([]byte(strconv.Itoa(i))))
+		if ahead := i + 1 - int(dealtWith.Load()); ahead > most {
+			most = ahead
+		}
+	}
+	must(sends.at.Close())
+	<-receiver
+	fmt.Printf("%d parcels, never more than 4 ahead: %t\n", dealtWith.Load(), most <= 4)
+	// Output:
+	// 1000 parcels, never more than 4 ahead: true
 }
