@@ -25,7 +25,7 @@
  * one file before it includes this: as nothing, or as what makes a symbol visible.
  *
  * WHAT THE CALLER UPHOLDS, beside what ipcz_portals.h says: pointers are of loops that aren't destroyed; no call is made in a signal handler, or in
- * the child of a fork; a portal is one of this loop (of another loop it is silently a portal of this one).
+ * the child of a fork; no thread is cancelled in a call; a portal is one of this loop (of another loop it is silently a portal of this one).
  */
 #ifndef IPCZ_LOOP_H
 #define IPCZ_LOOP_H
@@ -117,7 +117,8 @@ IPCZ_LOOP_API ipcz_status ipcz_node_recv(ipcz_node *node, ipcz_portal at, ipcz_p
 
 /* The same at the first of some portals at which there is something.
  *   portals, count  portals of the node, which the call reads until it returns. With none it is IPCZ_STRANGER
- *   which           the place in the list of the portal that the status is of; may be null. Written unless IPCZ_EMPTY or IPCZ_STOPPED is answered */
+ *   which           the place in the list of the portal that the status is of; may be null. Written with IPCZ_OK, IPCZ_PEER_CLOSED and IPCZ_TOO_SMALL,
+ *                   and with IPCZ_STRANGER if there is a portal in the list */
 IPCZ_LOOP_API ipcz_status ipcz_node_recv_any(ipcz_node *node, const ipcz_portal *portals, size_t count, ipcz_parcel *parcel, size_t *which, int timeout);
 
 /* Closes a portal of the node. What was sent there still comes to the other one; what comes to it is discarded, with the portals in it.
@@ -131,7 +132,7 @@ IPCZ_LOOP_API int ipcz_node_fd(ipcz_node *node);
 
 /* Sleeps until something may have come to the node since the last ipcz_node_wait, at most as long as ipcz_node_recv would; and makes the file
  * descriptor unreadable until something comes again. It says that the node has moved, not that there is something to receive.
- * IPCZ_EMPTY if nothing came in time; IPCZ_STOPPED. */
+ * IPCZ_EMPTY: nothing came in time. IPCZ_STOPPED: the loop was stopped. IPCZ_NUMBERS_END, IPCZ_OUT_OF_MEMORY: as of ipcz_node_recv. */
 IPCZ_LOOP_API ipcz_status ipcz_node_wait(ipcz_node *node, int timeout);
 
 /* Keeps a pointer of the program's own with a portal of the node, in place of the one before. It is forgotten, and not freed, once the portal is
@@ -144,7 +145,8 @@ IPCZ_LOOP_API void *ipcz_node_data(ipcz_node *node, ipcz_portal portal);
 
 /* HOW IT WORKS.
  *
- * A node's cell is called only under the node's lock, and no thread holds two of these.
+ * A node's cell is called only under the node's lock, and no thread holds two of these. So a call waits at most for calls and turns of others at one
+ * node after the other.
  *
  * No parcel stays behind. A turn that has become possible at a node B was made so by a call on B, or by a turn of some node. After a call on B, and
  * before the lock is given back, B takes turns until it has none. After turns of a node A the thread that took them, having given A's lock back,
@@ -154,10 +156,10 @@ IPCZ_LOOP_API void *ipcz_node_data(ipcz_node *node, ipcz_portal portal);
  *
  * No thread sleeps on. A parcel can be received at B only after a call on B or a turn of B, and both are made under B's lock. A thread that wants to
  * wait looks under this lock, finds nothing, writes itself into B's list, and gives the lock back only by falling asleep (pthread_cond_wait). So a
- * call or a turn comes before it looked, and it would have found the parcel; or after it stands in the list, and whoever makes that call or
- * takes that turn gets the parcel for it before he gives the lock back, writes it where the sleeper wants it, takes him off the list and wakes
- * him (ipcz_node_hand_out_). For the file descriptor: a turn sets is_rung, and who reads it sets it back before he looks at his portals; so what
- * comes after that look sets it once more.
+ * call or a turn comes before it looked, and then it would have found the parcel; or it comes after the thread stands in the list, and whoever makes that
+ * call or takes that turn, before he gives the lock back, gets the parcel for the sleeper, writes it where the sleeper wants it, takes him off the
+ * list and wakes him (ipcz_node_hand_out_). For the file descriptor: a turn sets is_rung, and who is told of it sets it back before he looks at his
+ * portals; so what comes after that look sets it once more.
  *
  * How long it takes. A call of ipcz_node_send goes on while nodes have turns, also for what others send meanwhile, but takes no more than
  * IPCZ_LOOP_ROUNDS_ looks: portals that chase each other in a circle don't hold it for ever. What is left then goes on in the next call. */
@@ -455,12 +457,12 @@ IPCZ_LOOP_API ipcz_status ipcz_node_recv_any(ipcz_node *node, const ipcz_portal 
     ipcz_waiter_ me;
     memset(&me, 0, sizeof me);
     me.portals = portals;
-    me.count = count;
+    me.count = me.which = count;
     me.parcel = parcel;
     ipcz_node_begin_look_(node);
     ipcz_status status = ipcz_node_look_(node, &me);
     if (status == IPCZ_EMPTY && timeout) status = ipcz_node_sleep_(node, &me, timeout);
-    if (which && status != IPCZ_EMPTY && status != IPCZ_STOPPED) *which = me.which;
+    if (which && me.which < count) *which = me.which;
     /* (what a sleeper was given was followed by turns already) */
     if (status || me.is_done) pthread_mutex_unlock(&node->lock);
     else ipcz_node_end_call_(node);
