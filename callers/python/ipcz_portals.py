@@ -23,7 +23,7 @@ import os
 import pathlib
 import threading
 import time
-from collections.abc import AsyncIterator, Iterator, Sequence
+from collections.abc import AsyncIterator, Callable, Iterator, Sequence
 from types import TracebackType
 from typing import NamedTuple, Optional, Union
 
@@ -150,7 +150,7 @@ class _Handle:
             raise Refused(Status.TOO_MANY)
         _check(_C.ipcz_loop_create(nodes, slots, ctypes.byref(self.at)))
 
-    def __del__(self, destroy=_C.ipcz_loop_destroy) -> None:
+    def __del__(self, destroy: Callable[[object], None] = _C.ipcz_loop_destroy) -> None:
         at, self.at = self.at, None
         destroy(at)
 
@@ -220,7 +220,7 @@ class Node:
             _check(status)
         return status == Status.OK
 
-    def _in_slices(self, call, timeout: Optional[float]) -> int:
+    def _in_slices(self, call: Callable[[int], int], timeout: Optional[float]) -> int:
         """A call that waits: in slices if it is the main thread's, which handles signals between them."""
         slice = SLICE if threading.current_thread() is threading.main_thread() else LONGEST
         until = None if timeout is None else time.monotonic() + timeout
@@ -344,7 +344,7 @@ class Portal:
         if self._name:
             self.close()
 
-    def __del__(self, close=_C.ipcz_node_close) -> None:
+    def __del__(self, close: Callable[[object, object], int] = _C.ipcz_node_close) -> None:
         # (of what is forgotten all at once the loop may be freed first)
         if self._name and self._is_closed_at_end and self._node._handle.at:
             close(self._node._at, self._name)
