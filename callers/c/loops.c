@@ -33,6 +33,7 @@ static void limits(void) {
     ipcz_loop_destroy(loop);
     say(ipcz_loop_create(8, 28, &loop));
     if (!loop) exit(1);
+    tell("fresh and readable", is_readable(ipcz_node_fd(ipcz_loop_node(loop, 0))));
     say(ipcz_node_open(ipcz_loop_node(loop, 7), &a, &b));
     tell("last", ipcz_node_number(ipcz_loop_node(loop, 7)));
     tell("none", ipcz_loop_node(loop, 8) == NULL);
@@ -144,6 +145,7 @@ typedef struct {
     ipcz_node *node;
     ipcz_portal at;
     ipcz_status status, wait;
+    uint64_t number;
 } sleeper;
 
 static void *sleeps(void *given) {
@@ -163,6 +165,51 @@ static void *waits(void *given) {
 static void moment(void) {
     struct timespec time = { 0, 20000000 };
     nanosleep(&time, NULL);
+}
+
+/* Waits until so many threads sleep at a node, which only the header's own fields tell. */
+static void await_sleepers(ipcz_node *node, int wanted) {
+    int sleepers = 0;
+    while (sleepers != wanted) {
+        sched_yield();
+        sleepers = 0;
+        pthread_mutex_lock(&node->lock);
+        for (ipcz_waiter_ *it = node->waiters; it; it = it->next) sleepers++;
+        pthread_mutex_unlock(&node->lock);
+    }
+}
+
+static void *receives(void *given) {
+    sleeper *me = given;
+    char text[8];
+    ipcz_parcel parcel = IPCZ_PARCEL(text, sizeof text);
+    me->status = ipcz_node_recv(me->node, me->at, &parcel, -1);
+    me->number = parcel.number;
+    return NULL;
+}
+
+/* Three threads fall asleep at one portal, one after the other: the first of them gets the first parcel. */
+static void turns_of_sleepers(ipcz_node *left, ipcz_node *right) {
+    ipcz_portal kept, sent;
+    pthread_t threads[3];
+    sleeper sleepers[3];
+    ipcz_parcel parcel = IPCZ_PARCEL(NULL, 0);
+    if (ipcz_node_open(left, &kept, &sent) || ipcz_node_send(left, ipcz_node_first(left, 1), NULL, 0, &sent, 1)) exit(1);
+    if (ipcz_node_recv(right, ipcz_node_first(right, 0), &parcel, -1)) exit(1);
+    for (int i = 0; i < 3; i++) {
+        sleepers[i] = (sleeper){ .node = right, .at = sent, .status = 9, .number = 9 };
+        pthread_create(&threads[i], NULL, receives, &sleepers[i]);
+        await_sleepers(right, i + 1);
+    }
+    for (int i = 0; i < 3; i++) ipcz_node_send(left, kept, "next", 4, NULL, 0);
+    printf("\nin the order in which they came:");
+    for (int i = 0; i < 3; i++) {
+        pthread_join(threads[i], NULL);
+        say(sleepers[i].status);
+        tell("number", sleepers[i].number);
+    }
+    ipcz_node_close(left, kept);
+    ipcz_node_close(right, sent);
 }
 
 static void ends_of_waiting(ipcz_loop *loop) {
@@ -203,6 +250,7 @@ int main(void) {
     waiting(left);
     portals(left, right);
     descriptors(left, right);
+    turns_of_sleepers(left, right);
     ends_of_waiting(loop);
     ipcz_loop_destroy(loop);
     return 0;
