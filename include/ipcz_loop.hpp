@@ -240,10 +240,14 @@ class Loop {
         std::string many;
         ::ipcz_parcel came = IPCZ_PARCEL(few, sizeof few);
         ipcz_status status;
+        const std::chrono::steady_clock::time_point begun = std::chrono::steady_clock::now();
+        // (another thread may take the wide parcel before this one has room for it)
         while ((status = ::ipcz_node_recv_any(node, at, count, &came, which, milliseconds(timeout))) == IPCZ_TOO_SMALL) {
             many.resize(came.size);
             came.bytes = &many[0];
             came.room = many.size();
+            const Time passed = std::chrono::duration_cast<Time>(std::chrono::steady_clock::now() - begun);
+            if (timeout != Time::max()) timeout = timeout > passed ? timeout - passed : Time(0);
         }
         if (status == IPCZ_EMPTY) return Got::nothing;
         if (status == IPCZ_PEER_CLOSED) return Got::closed;
