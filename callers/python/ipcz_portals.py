@@ -247,16 +247,17 @@ class Node:
         return place.value, Parcel(came.number, ctypes.string_at(room, came.size), portals)
 
     # asyncio: tasks that wait at this node stand in a list. When the descriptor is readable it is first made unreadable, and then they all look again. A task
-    # looks and goes into the list without giving the event loop back, so what comes after its look makes the descriptor readable while it stands there.
+    # looks and goes into the list without giving the event loop back, so what comes after its look makes the descriptor readable while it stands there. An event
+    # loop in which no task waits any more takes its reader away when it is called for nothing.
 
     async def _moved(self) -> None:
         """Waits until something may have come to the node."""
         events = asyncio.get_running_loop()
-        if self._waiting and self._events is not events:
-            raise RuntimeError("tasks of two event loops wait at one node")
-        if not self._waiting:
+        if self._events is not events:
+            if self._waiting:
+                raise RuntimeError("tasks of two event loops wait at one node")
             self._events = events
-            events.add_reader(self.fileno(), self._wake)
+            events.add_reader(self.fileno(), self._wake, events)
         future = events.create_future()
         self._waiting.append(future)
         try:
@@ -264,13 +265,13 @@ class Node:
         finally:
             if future in self._waiting:
                 self._waiting.remove(future)
-                if not self._waiting:
-                    events.remove_reader(self.fileno())
 
-    def _wake(self) -> None:
+    def _wake(self, events: asyncio.AbstractEventLoop) -> None:
+        if self._events is not events or not self._waiting:
+            events.remove_reader(self.fileno())
+            self._events = None if self._events is events else self._events
+            return
         _C.ipcz_node_wait(self._at, 0)
-        assert self._events is not None
-        self._events.remove_reader(self.fileno())
         waiting, self._waiting = self._waiting, []
         for future in waiting:
             if not future.done():

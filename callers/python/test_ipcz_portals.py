@@ -109,6 +109,51 @@ class OnOneThread(unittest.TestCase):
         self.assertRaises(Stopped, self.right.try_recv)
 
 
+class OnEventLoops(unittest.TestCase):
+    def test_one_after_the_other(self) -> None:
+        with Loop(2) as loop:
+            left, right = loop.node(0).first(1), loop.node(1).first(0)
+
+            async def receive(number: int) -> bytes:
+                waiting = asyncio.create_task(right.recv_async())
+                await asyncio.sleep(0)
+                left.send(b"%d" % number)
+                return (await asyncio.wait_for(waiting, 5)).bytes
+
+            self.assertEqual([asyncio.run(receive(number)) for number in range(3)], [b"0", b"1", b"2"])
+
+    def test_an_event_loop_without_waiting_tasks_takes_nothing(self) -> None:
+        with Loop(2) as loop:
+            left, right = loop.node(0).first(1), loop.node(1).first(0)
+            quiet, over = threading.Event(), threading.Event()
+
+            async def first() -> None:
+                left.send(b"first")
+                await right.recv_async()
+                with self.assertRaises(asyncio.TimeoutError):
+                    await asyncio.wait_for(right.recv_async(), 0.01)
+                quiet.set()
+                while not over.is_set():
+                    await asyncio.sleep(0.001)
+
+            async def second() -> int:
+                return sum([len((await asyncio.wait_for(right.recv_async(), 5)).bytes) for _ in range(100)])
+
+            def sends() -> None:
+                for _ in range(100):
+                    time.sleep(0.0005)
+                    left.send(b"x")
+
+            threads = [threading.Thread(target=asyncio.run, args=[first()]), threading.Thread(target=sends)]
+            threads[0].start()
+            quiet.wait()
+            threads[1].start()
+            self.assertEqual(asyncio.run(second()), 100)
+            over.set()
+            for thread in threads:
+                thread.join()
+
+
 class OnAsyncio(unittest.IsolatedAsyncioTestCase):
     async def test_tasks_and_threads(self) -> None:
         with Loop(2) as loop:
