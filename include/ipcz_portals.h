@@ -26,7 +26,7 @@
  * WHAT THE CALLER UPHOLDS. The library is proved for callers that keep these, and tests none of them; what follows otherwise is undefined.
  *  - An ipcz_world is IPCZ_WORLD_INIT and an ipcz_cell IPCZ_CELL_INIT before its first call. Later only the library writes
  *    its fields, and no copy of it is used: whoever moves one sets the old one to the same again.
- *  - No pointer is null, but for those of a put beside a count of 0. What a call writes (by a pointer that isn't const) lies apart from
+ *  - No pointer is null, but for those of a put beside a count of 0, and the place for its number. What a call writes (by a pointer that isn't const) lies apart from
  *    all else that the call is given, and arrays are as long as is said beside them. A bool is true or false.
  *  - malloc, realloc and free belong together, and align a block of so many bytes to each power of two up to 16 that divides this number.
  *  - No call is made in a signal handler, nor in the child of a fork in a process with threads.
@@ -39,7 +39,8 @@
 #include <stdint.h>
 
 /* The version of the library, as a text, and as a number: 10000 * major + 100 * minor + patch. CHANGELOG.md of the repository says what each
- * has changed. Library and header are of one version: an archive of another one may link and do something else. */
+ * has changed. Library and header are of one version: an archive of another one may link and do something else. A program that wants to be sure
+ * compares IPCZ_VERSION with ipcz_version(). */
 #define IPCZ_VERSION "0.2.0"
 #define IPCZ_VERSION_NUMBER 200
 
@@ -100,8 +101,12 @@ enum {
     IPCZ_FORGED = 14,
     IPCZ_TOO_SMALL = 100,   /* there is too little room for the parcel */
     IPCZ_NOT_CREATED = 101, /* the handle has no world, or no cell */
-    IPCZ_ALREADY_CREATED = 102 /* the handle has one already */
+    IPCZ_ALREADY_CREATED = 102, /* the handle has one already */
+    IPCZ_STOPPED = 103      /* the loop was stopped. Only calls of ipcz_loop.h answer it */
 };
+
+/* The version of the archive, as a text that isn't to be freed. That of the header is IPCZ_VERSION. */
+const char *ipcz_version(void);
 
 #define IPCZ_MAX_NODES 8
 #define IPCZ_MAX_WORDS 4096
@@ -256,7 +261,7 @@ bool ipcz_cell_node(ipcz_cell *cell, uint8_t *node);
  *   bytes, size    its bytes, at most IPCZ_MAX_BYTES; they are copied. bytes may be null if size is 0
  *   portals, count its portals, at most IPCZ_MAX_PORTALS, all of the node, none twice; with IPCZ_OK they are the node's no more. portals
  *                  may be null if count is 0
- *   number         how many parcels were put at this portal before it
+ *   number         how many parcels were put at this portal before it; may be null
  * IPCZ_OUT_OF_MEMORY, IPCZ_STRANGER, IPCZ_TOO_MANY, IPCZ_SELF_ATTACH, IPCZ_PEER_ATTACH, IPCZ_PEER_CLOSED (once the news has come),
  * IPCZ_NUMBERS_END.
  *
@@ -272,7 +277,8 @@ static inline ipcz_status ipcz_put(ipcz_world *world, uint8_t node, ipcz_portal 
                                    const ipcz_portal *portals, size_t count, uint64_t *number) {
     static const ipcz_portal nothing = { 0, false };
     const void *given = size ? bytes : &nothing;
-    return ipcz_put_wide_parcel(world, node, at, IPCZ_BYTES_(given), size, count ? portals : &nothing, count, number);
+    uint64_t unwanted;
+    return ipcz_put_wide_parcel(world, node, at, IPCZ_BYTES_(given), size, count ? portals : &nothing, count, number ? number : &unwanted);
 }
 
 /* Puts a parcel of at most IPCZ_MAX_PRINTED_BYTES bytes, each from 0x20 to 0x7E, as scripts of the repository do; of others it is
@@ -281,7 +287,8 @@ static inline ipcz_status ipcz_put_printed(ipcz_world *world, uint8_t node, ipcz
                                            const ipcz_portal *portals, size_t count, uint64_t *number) {
     static const ipcz_portal nothing = { 0, false };
     const void *given = size ? bytes : &nothing;
-    return ipcz_put_parcel(world, node, at, IPCZ_BYTES_(given), size, count ? portals : &nothing, count, number);
+    uint64_t unwanted;
+    return ipcz_put_parcel(world, node, at, IPCZ_BYTES_(given), size, count ? portals : &nothing, count, number ? number : &unwanted);
 }
 
 /* Puts a parcel at a portal of the cell's node. The arguments and answers are as for ipcz_put. */
@@ -289,7 +296,8 @@ static inline ipcz_status ipcz_cell_put(ipcz_cell *cell, ipcz_portal at, const v
                                         const ipcz_portal *portals, size_t count, uint64_t *number) {
     static const ipcz_portal nothing = { 0, false };
     const void *given = size ? bytes : &nothing;
-    return ipcz_cell_put_wide_parcel(cell, at, IPCZ_BYTES_(given), size, count ? portals : &nothing, count, number);
+    uint64_t unwanted;
+    return ipcz_cell_put_wide_parcel(cell, at, IPCZ_BYTES_(given), size, count ? portals : &nothing, count, number ? number : &unwanted);
 }
 
 /* Puts a parcel at a portal of the cell's node, as ipcz_put_printed. */
@@ -297,7 +305,8 @@ static inline ipcz_status ipcz_cell_put_printed(ipcz_cell *cell, ipcz_portal at,
                                                 const ipcz_portal *portals, size_t count, uint64_t *number) {
     static const ipcz_portal nothing = { 0, false };
     const void *given = size ? bytes : &nothing;
-    return ipcz_cell_put_parcel(cell, at, IPCZ_BYTES_(given), size, count ? portals : &nothing, count, number);
+    uint64_t unwanted;
+    return ipcz_cell_put_parcel(cell, at, IPCZ_BYTES_(given), size, count ? portals : &nothing, count, number ? number : &unwanted);
 }
 
 /* The portal that a node has from the start of the pair that it shares with another; both are below nodes, and not the same. */
@@ -330,6 +339,7 @@ static inline const char *ipcz_status_name(ipcz_status status) {
     case IPCZ_TOO_SMALL: return "TooSmall";
     case IPCZ_NOT_CREATED: return "NotCreated";
     case IPCZ_ALREADY_CREATED: return "AlreadyCreated";
+    case IPCZ_STOPPED: return "Stopped";
     default: return "Unknown";
     }
 }

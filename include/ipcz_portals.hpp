@@ -43,8 +43,9 @@ struct Parcel {
     std::vector<Portal> portals;
 };
 
-// What a get came to: a parcel; none yet; or none any more, since the other portal of the pair is closed and what was put at it is got.
-enum class Got { parcel, nothing, closed };
+// What a get came to: a parcel; none yet; or none any more, since the other portal of the pair is closed and what was put at it is got. (That a loop was
+// stopped is answered only by ipcz_loop.hpp.)
+enum class Got { parcel, nothing, closed, stopped };
 
 struct Settled {
     std::uint64_t acts;

@@ -2,10 +2,13 @@
 
     python3 tools/install_c.py PREFIX               builds the archive by `rt lib`, which first proves what isn't proved yet
     python3 tools/install_c.py --after-ci PREFIX    builds it over the libraries that `rt ci` left here, as .ci/run does
+    python3 tools/install_c.py --shared PREFIX      puts `lib/libipcz_loop.so` there, too, for Python and other languages
+    python3 tools/install_c.py --uninstall PREFIX   takes away what the others put there
 
 Under the prefix then stand `lib/libipcz_portals.a`, which also has the kit's three functions for memory (over malloc, realloc and free),
-`include/ipcz_portals.h` and `.hpp`, `lib/pkgconfig/ipcz_portals.pc`, `lib/cmake/ipcz_portals` and the licence. The prefix may be moved
-later. A program is built with
+`include/ipcz_portals.h`, `ipcz_loop.h` and the same two for C++ (`.hpp`), `lib/pkgconfig/ipcz_portals.pc`, `lib/cmake/ipcz_portals` and the licence. The
+prefix may be moved later. If the environment has DESTDIR, all of it goes under that folder first, as packages are made. The shared library has the archive
+and the functions of `ipcz_loop.h`, which `cc` compiles. A program is built with
 
     cc program.c $(PKG_CONFIG_PATH=PREFIX/lib/pkgconfig pkg-config --cflags --libs ipcz_portals)
 
@@ -71,6 +74,17 @@ INSTALLED = {
 }
 
 
+VERSION_C = """const char *ipcz_version(void);
+const char *ipcz_version(void) {{ return "{version}"; }}
+"""
+# The shared library: its name, and what is compiled into it beside the archive. (Before 1.0 each minor version may change calls)
+SHARED = "libipcz_loop.so"
+SHARED_C = """#define IPCZ_LOOP_API __attribute__((visibility("default")))
+#include "ipcz_loop.h"
+"""
+LICENCE = "share/licenses/ipcz_portals/LICENSE"
+
+
 class Fault(Exception):
     """What keeps the library from being built or installed, in a sentence."""
 
@@ -113,12 +127,14 @@ def built_after_ci() -> pathlib.Path:
 
 
 def joined(archive: pathlib.Path, to: pathlib.Path) -> None:
-    """Writes an archive with all that a program links: the crate's, and what the kit's heap calls of C."""
+    """Writes an archive with all that a program links: the crate's, what the kit's heap calls of C, and the version."""
     with tempfile.TemporaryDirectory() as room:
+        pathlib.Path(room, "version.c").write_text(VERSION_C.format(version=version()))
+        ran(["cc", "-O2", "-fPIC", "-c", "version.c", "-o", "version.o"], "the version isn't compiled", cwd=room)
         shutil.copy(archive, pathlib.Path(room, "crate.a"))
         shutil.copy(try_edits.KIT / "c" / "liblibc_c.a", pathlib.Path(room, "heap.a"))
         script = pathlib.Path(room, "script")
-        script.write_text("CREATE all.a\nADDLIB crate.a\nADDLIB heap.a\nSAVE\nEND\n")
+        script.write_text("CREATE all.a\nADDLIB crate.a\nADDLIB heap.a\nADDMOD version.o\nSAVE\nEND\n")
         with script.open() as given:
             try:
                 done = subprocess.run(["ar", "-M"], stdin=given, cwd=room, stdout=subprocess.PIPE, stderr=subprocess.STDOUT, text=True)
@@ -134,30 +150,79 @@ def version() -> str:
     return re.search(r'^#define IPCZ_VERSION "(.*)"$', (TOP / "include/ipcz_portals.h").read_text(), re.M)[1]
 
 
-def install(prefix: pathlib.Path, after_ci: bool) -> None:
+def headers() -> list[pathlib.Path]:
+    return sorted((TOP / "include").glob("ipcz_*.h*"))
+
+
+def soname() -> str:
+    return f"{SHARED}.{version().rpartition('.')[0]}"
+
+
+def share(prefix: pathlib.Path) -> None:
+    """Makes the shared library out of the archive under a prefix and the functions of `ipcz_loop.h`. It exports what begins with ipcz_."""
+    with tempfile.TemporaryDirectory() as room:
+        source, names, made = pathlib.Path(room, "loop.c"), pathlib.Path(room, "names"), pathlib.Path(room, "made.so")
+        source.write_text(SHARED_C)
+        names.write_text("{ global: ipcz_*; local: *; };\n")
+        command = ["cc", "-std=gnu11", "-O2", "-fPIC", "-shared", "-pthread", f"-I{TOP / 'include'}", str(source), "-Wl,--whole-archive"]
+        command += [str(prefix / "lib/libipcz_portals.a"), "-Wl,--no-whole-archive", f"-Wl,-soname,{soname()}", f"-Wl,--version-script,{names}", "-Wl,-z,defs"]
+        ran([*command, "-o", str(made)], "the shared library isn't built")
+        shutil.copy(made, prefix / "lib" / soname())
+    link = prefix / "lib" / SHARED
+    link.unlink(missing_ok=True)
+    link.symlink_to(soname())
+
+
+def staged(prefix: pathlib.Path) -> pathlib.Path:
+    """Where the prefix stands for now: under DESTDIR, if there is one."""
+    stage = os.environ.get("DESTDIR")
+    return pathlib.Path(stage).resolve() / prefix.resolve().relative_to("/") if stage else prefix.resolve()
+
+
+def install(prefix: pathlib.Path, after_ci: bool, shared: bool = False) -> None:
     """Puts the library under a prefix."""
-    archive = built_after_ci() if after_ci else built_by_rt()
-    prefix, licence = prefix.resolve(), pathlib.Path("share/licenses/ipcz_portals/LICENSE")
+    archive, prefix = built_after_ci() if after_ci else built_by_rt(), staged(prefix)
     try:
-        for path in ("include/ipcz_portals.h", licence, *INSTALLED):
+        for path in ("include/ipcz_portals.h", LICENCE, *INSTALLED):
             (prefix / path).parent.mkdir(parents=True, exist_ok=True)
-        for header in sorted((TOP / "include").glob("ipcz_portals.h*")):
+        for header in headers():
             shutil.copy(header, prefix / "include")
         joined(archive, prefix / "lib" / "libipcz_portals.a")
-        shutil.copy(TOP / "LICENSE", prefix / licence)
+        shutil.copy(TOP / "LICENSE", prefix / LICENCE)
         for path, text in INSTALLED.items():
             (prefix / path).write_text(text.format(version=version()))
+        if shared:
+            share(prefix)
     except OSError as error:
         raise Fault(f"nothing can be put under {prefix}: {error.strerror}") from error
+
+
+def uninstall(prefix: pathlib.Path) -> None:
+    """Takes away what `install` puts under a prefix, and the folders that are only the library's."""
+    prefix = staged(prefix)
+    files = [f"include/{header.name}" for header in headers()] + ["lib/libipcz_portals.a", f"lib/{SHARED}", f"lib/{soname()}", LICENCE, *INSTALLED]
+    try:
+        for path in files:
+            (prefix / path).unlink(missing_ok=True)
+        for folder in (LICENCE, *INSTALLED):
+            if (prefix / folder).parent.name == "ipcz_portals" and (prefix / folder).parent.is_dir():
+                (prefix / folder).parent.rmdir()
+    except OSError as error:
+        raise Fault(f"not all is taken away from {prefix}: {error.strerror}") from error
 
 
 def main() -> None:
     given = argparse.ArgumentParser(description=__doc__, formatter_class=argparse.RawDescriptionHelpFormatter)
     given.add_argument("prefix", type=pathlib.Path)
     given.add_argument("--after-ci", action="store_true", help="build over the libraries that rt ci left")
+    given.add_argument("--shared", action="store_true", help="make a shared library, too")
+    given.add_argument("--uninstall", action="store_true", help="take away what was installed")
     asked = given.parse_args()
     try:
-        install(asked.prefix, asked.after_ci)
+        if asked.uninstall:
+            uninstall(asked.prefix)
+        else:
+            install(asked.prefix, asked.after_ci, asked.shared)
     except Fault as fault:
         sys.exit(f"install_c: {fault}")
 

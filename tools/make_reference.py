@@ -1,4 +1,4 @@
-"""Makes the pages of docs/reference: each public call of worlds, cells, hubs and portals, of the promise, and of the header for C.
+"""Makes the pages of docs/reference: each public call of worlds, cells, hubs and portals, of the promise, and of the headers for C.
 
     python3 tools/make_reference.py            compares the pages with what is there; prints what differs, and fails if something does
     python3 tools/make_reference.py --write    writes them
@@ -28,12 +28,13 @@ from list_statements import head_of
 FOLDER = TOP / "docs/reference"
 REFUSALS = TOP / "tools/data/refusals.json"
 HEADER = TOP / "include/ipcz_portals.h"
+LOOP = TOP / "include/ipcz_loop.h"
 # Where a call is looked for that may stand as an example: what a reader may take over comes first.
 CALLERS = ("ipcz_example", "ipcz_example_threads", "ipcz_promise_tests", "ipcz_world_tests", "ipcz_fabric_tests", "ipcz_faults", "ipcz_threads", "ipcz_bench", "ipcz_bench_threads", "ipcz_fabric")
-C_CALLERS = ("hello.c", "travels.c", "own_nodes.c", "cells.c", "sleeping.c", "two_threads.c")
+C_CALLERS = ("hello.c", "travels.c", "own_nodes.c", "cells.c", "sleeping.c", "two_threads.c", "loop_hello.c", "loop_request.c", "loop_poll.c", "loop_stress.c", "loops.c")
 FUNCTION = re.compile(r"^(?P<indent> *)pub fn (?P<name>\w+)", re.MULTILINE)
 BLOCK = re.compile(r"^impl(?:<[^>]*>)? (?P<type>\w+)(?:<[^>]*>)? \{", re.MULTILINE)
-C_CALL = re.compile(r"/\* (?P<comment>(?:(?!\*/).)*?)\*/\n(?P<head>(?:static inline )?\w[\w *]*?\b(?P<name>ipcz_\w+)\([^;{]*\))(?: \{|;)", re.DOTALL)
+C_CALL = re.compile(r"/\* (?P<comment>(?:(?!\*/).)*?)\*/\n(?P<head>(?:static inline |IPCZ_LOOP_API )?\w[\w *]*?\b(?P<name>ipcz_\w+)\([^;{]*\))(?: \{|;)", re.DOTALL)
 
 
 @dataclasses.dataclass
@@ -214,13 +215,19 @@ def statuses() -> dict[str, str]:
     return dict(re.findall(r"\b(IPCZ_\w+) = \d+,? */\* (.*?) \*/", HEADER.read_text()))
 
 
-def header_page() -> str:
-    about = "The calls of [ipcz_portals.h](../../include/ipcz_portals.h), with what its comments say. [C.md](../C.md) says how to build and link, and what stands round it."
-    lines = ["# The header for C", "", about, ""]
-    for found in C_CALL.finditer(HEADER.read_text()):
+def c_calls(header: pathlib.Path) -> list[re.Match[str]]:
+    """The calls of a header with a comment, but for those of its own."""
+    return [it for it in C_CALL.finditer(header.read_text()) if not it["name"].endswith("_")]
+
+
+def header_page(header: pathlib.Path, title: str, what: str) -> str:
+    about = f"The calls of [{header.name}](../../include/{header.name}), {what} [C.md](../C.md) says how to build and link, and what stands round it."
+    lines = [f"# {title}", "", about, ""]
+    for found in c_calls(header):
         comment = found["comment"]
         told = [it for it in dict.fromkeys(re.findall(r"IPCZ_[A-Z_]+", comment)) if it in statuses()]
-        lines += [f"### {found['name']}", "", "```c", found["head"].removeprefix("static inline ") + ";", "```", "", c_paragraphs(comment)]
+        head = found["head"].removeprefix("static inline ").removeprefix("IPCZ_LOOP_API ")
+        lines += [f"### {found['name']}", "", "```c", head + ";", "```", "", c_paragraphs(comment)]
         if told:
             lines += ["", "Of the statuses named here:", "", *(f"- `{it}`: {statuses()[it]}" for it in told)]
         if one := example(rf"\b{found['name']}\(", (TOP / "callers/c" / it for it in C_CALLERS)):
@@ -236,8 +243,8 @@ def index_page() -> str:
     for page in PAGES:
         names = [f"`{section.key(found['name'])}`" for section in page.sections for _, _, found in calls_of(section)]
         lines.append(f"| [{page.title}]({page.name}.md) | {', '.join(names)} |")
-    in_c = ", ".join(f"`{it['name']}`" for it in C_CALL.finditer(HEADER.read_text()))
-    lines += [f"| [The header for C](HEADER.md) | {in_c} |", "", "## Which calls answer which refusal", "", "| refusal | calls in Rattle |", "|---|---|"]
+    in_c, of_loops = (", ".join(f"`{it['name']}`" for it in c_calls(header)) for header in (HEADER, LOOP))
+    lines += [f"| [The header for C](HEADER.md) | {in_c} |", f"| [Loops, from C](LOOP.md) | {of_loops} |", "", "## Which calls answer which refusal", "", "| refusal | calls in Rattle |", "|---|---|"]
     for name in refusal_names():
         rows = {key: given if isinstance(given, list) else refusals()["kinds"][given] for key, given in refusals()["calls"].items()}
         calls = [f"`{key}`" for key, row in rows.items() if any(it == name for it, _ in row)]
@@ -248,7 +255,9 @@ def index_page() -> str:
 
 def pages() -> dict[pathlib.Path, str]:
     made = {FOLDER / f"{page.name}.md": rattle_page(page) for page in PAGES}
-    return made | {FOLDER / "HEADER.md": header_page(), FOLDER / "INDEX.md": index_page()}
+    header = header_page(HEADER, "The header for C", "with what its comments say.")
+    loop = header_page(LOOP, "Loops, from C", "with what its comments say: nodes that threads share, and calls that sleep. It isn't proved, but the archive below it is.")
+    return made | {FOLDER / "HEADER.md": header, FOLDER / "LOOP.md": loop, FOLDER / "INDEX.md": index_page()}
 
 
 def faults() -> list[str]:

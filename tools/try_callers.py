@@ -1,4 +1,4 @@
-"""Builds and runs the callers of the static library, in C, C++, Rust and Go, and prints what isn't as it must be.
+"""Builds and runs the callers of the static library, in C, C++, Rust, Go and Python, and prints what isn't as it must be.
 
     python3 tools/try_callers.py               over the archive that `rt lib` builds
     python3 tools/try_callers.py --after-ci    over the libraries that `rt ci` left here, as .ci/run does
@@ -7,8 +7,8 @@
 The library is installed in a folder of its own by `tools/install_c.py`, this is moved and has a name with a space, and each caller is built
 from there, by the flags that pkg-config tells; one in C by CMake, too, which finds the package. What a caller of `callers/c` and `callers/cpp` prints is compared with the file beside it that ends in `.out`. It runs again under
 valgrind, which must find no error, and no memory that isn't freed, and one with a mutex under helgrind, which must find no race (it takes no
-account of atomic steps, and only these order the calls on two cells). The tests of `callers/rust` and of `callers/go` are run, and so is what
-stands in `callers/rust/examples`. A caller whose
+account of atomic steps, and only these order the calls on two cells). The tests of `callers/rust`, `callers/go` and `callers/python` are run, and so is what
+stands in `callers/rust/examples` and `callers/python/examples`. A caller whose
 compiler isn't on the machine is left out. The statuses of the header must be those of `Refusal`, the crate and CHANGELOG.md must have the header's version, and docs/C.md and README must
 show these callers.
 """
@@ -37,9 +37,9 @@ target_link_libraries(hello ipcz::portals)
 """
 MOST_SECONDS = 600
 # Callers that are built and not run: what they print is times.
-MEASURES = {"measure", "measure_cells"}
+MEASURES = {"measure", "measure_cells", "measure_loop"}
 # Flags of one caller, and of one language: the headers are read by pkg-config's -I, so that each warning of theirs fails.
-FLAGS = {"no_memory": ["-Wl,--wrap=malloc,--wrap=realloc"], "no_exceptions": ["-fno-exceptions"]}
+FLAGS = {"no_memory": ["-Wl,--wrap=malloc,--wrap=realloc"], "loop_no_memory": ["-Wl,--wrap=malloc,--wrap=realloc"], "no_exceptions": ["-fno-exceptions"]}
 STRICTER = {"cpp": ["-Wold-style-cast", "-Wzero-as-null-pointer-constant", "-Wshadow"]}
 
 
@@ -150,14 +150,40 @@ class Callers:
         self.run("callers/go", ["go", "test", "./..."], env, CALLERS / "go")
         self.run("callers/go", ["go", "vet", "./..."], env, CALLERS / "go")
 
+    def python(self) -> None:
+        """Runs the tests and the examples of callers/python over the shared library, and one test without it."""
+        if not self.has("cc"):
+            return
+        folder = CALLERS / "python"
+        env = {"PYTHONPATH": str(folder), "PYTHONDONTWRITEBYTECODE": "1", "IPCZ_LIBRARY": f"{self.prefix}/lib/{install_c.SHARED}"}
+        self.run("callers/python", [sys.executable, "-X", "dev", "-m", "unittest", "test_ipcz_portals"], env, folder)
+        for source in sorted((folder / "examples").glob("*.py")):
+            what = str(source.relative_to(TOP))
+            self.compare(what, self.run(what, [sys.executable, str(source)], env), source.with_suffix(".out"))
+        done = subprocess.run([sys.executable, "-c", "import ipcz_portals"], env={**os.environ, **env, "IPCZ_LIBRARY": ""}, cwd=folder, capture_output=True, text=True)
+        if done.returncode == 0 or "there is no libipcz_loop.so" not in done.stderr:
+            self.wrong.append(f"callers/python without a library ended with status {done.returncode}:\n{done.stderr.strip()}")
+
+    def uninstalled(self, prefix: pathlib.Path) -> None:
+        """Takes away what was installed: nothing of it is left."""
+        install_c.uninstall(prefix)
+        left = [str(path.relative_to(prefix)) for folder in ("include", "lib", "share") for path in (prefix / folder).rglob("*ipcz*")]
+        if left:
+            self.wrong.append(f"install_c.py --uninstall leaves {', '.join(left)}")
+
     def statuses(self) -> None:
-        """Compares the header's statuses and names with those of `Refusal`."""
+        """Compares the header's statuses and names with those of `Refusal`, and Python's with the header's."""
         header = (TOP / "include/ipcz_portals.h").read_text()
         refusals = dict(re.findall(r"^    (\w+) = (\d+),$", (TOP / "crates/ipcz_base/src/refusal.rt").read_text(), re.M))
         codes = dict(re.findall(r"\b(IPCZ_\w+) = (\d+)", header))
         names = {name: codes.get(code) for code, name in re.findall(r'case (IPCZ_\w+): return "(\w+)"', header)}
         if not refusals or refusals != {name: code for name, code in names.items() if code is not None and 0 < int(code) < 100}:
             self.wrong.append("the statuses of include/ipcz_portals.h aren't those of crates/ipcz_base/src/refusal.rt")
+        # (three are between nodes, and no call answers them)
+        answered = {name: codes[name] for name in re.findall(r"case (IPCZ_\w+): return", header) if not 12 <= int(codes[name]) <= 14}
+        of_python = re.findall(r"^    (\w+) = (\d+)$", (CALLERS / "python/ipcz_portals.py").read_text(), re.M)
+        if {f"IPCZ_{name}": code for name, code in of_python} != answered:
+            self.wrong.append("the statuses of callers/python aren't those of include/ipcz_portals.h")
 
     def versions(self) -> None:
         """Compares the versions with that of the header."""
@@ -166,21 +192,26 @@ class Callers:
         for path, line in {
             "include/ipcz_portals.h": f"#define IPCZ_VERSION_NUMBER {10000 * numbers[0] + 100 * numbers[1] + numbers[2]}\n",
             "callers/rust/Cargo.toml": f'version = "{version}"\n',
+            "callers/python/ipcz_portals.py": f'__version__ = "{version}"\n',
             "CHANGELOG.md": f"## {version}\n",
         }.items():
             if f"\n{line}" not in (TOP / path).read_text():
                 self.wrong.append(f"{path} has no line {line.strip()}, which the version of include/ipcz_portals.h wants")
 
     def shown(self) -> None:
-        """Compares what docs/C.md and README show with the programs that are run: one whole, and parts."""
+        """Compares what docs/C.md, README and those of the callers show with the programs that are run."""
         page = (TOP / "docs/C.md").read_text()
         programs = re.findall(r"^```c\n(.*?)^```$", page, re.M | re.S)
-        sources = [(CALLERS / "c" / name).read_text() for name in ("hello.c", "own_nodes.c")]
-        if len(programs) != 2 or programs[0] != sources[0] or programs[1] not in sources[1]:
-            self.wrong.append("docs/C.md doesn't show callers/c/hello.c and a part of callers/c/own_nodes.c")
+        sources = [(CALLERS / "c" / name).read_text() for name in ("hello.c", "own_nodes.c", "loop_hello.c", "loop_poll.c")]
+        if len(programs) != 4 or any(shown not in source for shown, source in zip(programs, sources)) or programs[::2] != sources[::2]:
+            self.wrong.append("docs/C.md doesn't show callers/c/hello.c and loop_hello.c, and parts of own_nodes.c and loop_poll.c")
         part = re.search(r"^```c\n(.*?)^```$", (TOP / "README.md").read_text(), re.M | re.S)
         if not part or part[1] not in sources[0]:
             self.wrong.append("README.md doesn't show a part of callers/c/hello.c")
+        for page in sorted(CALLERS.glob("*/README.md")):
+            quoted = re.findall(r"^<!-- out of (\S+) -->\n```\w+\n(.*?)^```$", page.read_text(), re.M | re.S)
+            if not quoted or any(shown not in (TOP / name).read_text() for name, shown in quoted):
+                self.wrong.append(f"{page.relative_to(TOP)} shows what stands in no caller")
 
 
 def main() -> None:
@@ -191,7 +222,7 @@ def main() -> None:
     with tempfile.TemporaryDirectory(prefix="try-callers-") as room:
         first, callers = pathlib.Path(room, "first"), Callers(pathlib.Path(room, "moved here" if tells_spaces() else "moved_here"))
         try:
-            install_c.install(first, asked.after_ci)
+            install_c.install(first, asked.after_ci, bool(shutil.which("cc")))
         except install_c.Fault as fault:
             sys.exit(f"try_callers: {fault}")
         callers.prefix.symlink_to(first.rename(pathlib.Path(room, "moved")))
@@ -203,6 +234,8 @@ def main() -> None:
         callers.cmake()
         callers.rust()
         callers.go()
+        callers.python()
+        callers.uninstalled(pathlib.Path(room, "moved"))
     if asked.all and callers.lacking:
         callers.wrong.append(f"left out, since the machine lacks it: {', '.join(sorted(callers.lacking))}")
     if callers.wrong:

@@ -1,4 +1,5 @@
 // Compiled without exceptions: what may be refused is called on the handle, by the C header.
+#include "ipcz_loop.hpp"
 #include "ipcz_portals.hpp"
 
 #include <iostream>
@@ -14,5 +15,10 @@ int main() {
     world.settle(100);
     if (world.get(1, right, got) != ipcz::Got::parcel) return 1;
     std::cout << got.bytes << '\n';
+    ipcz::Loop loop(2);
+    loop.node(0).first(1).send("hello by a loop");
+    ipcz::Loop::Parcel came;
+    if (loop.node(1).first(0).recv(came) != ipcz::Got::parcel) return 1;
+    std::cout << came.bytes << '\n';
     return 0;
 }

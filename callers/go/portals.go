@@ -57,6 +57,7 @@ const (
 	Raced          Status = C.IPCZ_RACED
 	NotCreated     Status = C.IPCZ_NOT_CREATED
 	AlreadyCreated Status = C.IPCZ_ALREADY_CREATED
+	Stopped        Status = C.IPCZ_STOPPED // only of package loop
 )
 
 func (s Status) Error() string {

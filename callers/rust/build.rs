@@ -38,6 +38,10 @@ fn main() {
     println!("cargo:rerun-if-env-changed=IPCZ_LIB");
     println!("cargo:rerun-if-env-changed=PKG_CONFIG");
     println!("cargo:rerun-if-env-changed=PKG_CONFIG_PATH");
+    // Pages of documentation are made without the archive.
+    if std::env::var_os("DOCS_RS").is_some() {
+        return;
+    }
     match folder().and_then(|folder| has_archive(&folder).map(|()| folder)) {
         Ok(folder) => {
             println!("cargo:rustc-link-search=native={}", folder.display());

@@ -9,7 +9,11 @@
 #![warn(missing_docs)]
 
 mod cells;
+#[forbid(unsafe_code)]
+pub mod nodes;
 mod raw;
+#[forbid(unsafe_code)]
+mod table;
 
 use std::fmt;
 
@@ -50,6 +54,8 @@ pub enum Refused {
     TooMany,
     /// Another node's thread was there first: call again. Only [`Cell::acts`] answers it.
     Raced,
+    /// The loop was stopped. Only calls of [`nodes`] answer it.
+    Stopped,
     /// A status that these calls don't answer.
     Other(u32),
 }
