@@ -115,9 +115,9 @@ impl<F: FabricName> NodeCell<F> {
     /// Claims a link word: for the bypass of the proxy of a serial, whose act this is to be, or, with none, for an open, if none is
     /// under way; that open is under way then, until `word_open` or `open_pair` does it. It answers the word.
     ///
-    /// It loads the claim count, and exchanges it for the next. It answers `NoWord` if the load found that each word was claimed; a
-    /// proxy is dry then, and its act is done. It answers `Raced` only if the exchange found another count than the load; then nothing
-    /// but what was seen has changed. It takes no memory.
+    /// It loads the claim count, and exchanges it for the next. It answers `NoWord` if the load found that each word was claimed, or, where
+    /// slots are used again, if each slot was looked at and none was to be had; a proxy is dry then, and its act is done. It answers `Raced`
+    /// only if the exchange found another count than the load; then nothing but what was seen has changed. It takes no memory.
     pub fn word_claim(&mut self, fabric: &Fabric<F>, serial: Option<u64>) -> Result<u32, Refusal>
         requires { MayClaim self.old.part.state serial }
         ensures { ClaimsWord F.table serial self.old self.new result }
@@ -170,8 +170,8 @@ impl<F: FabricName> NodeCell<F> {
     /// Opens a pair, on a word that it claims, or on that of the open under way, and answers its ends of sides A and B, both held here.
     ///
     /// It answers, the first of these: `NoWord` if no open is under way and each link word was claimed, `NumbersEnd` if too few
-    /// serials are left for two routers, `OutOfMemory`, and `Raced` if another node has claimed a word meanwhile; the caller may try
-    /// again. A refused open changes nothing but what was seen.
+    /// serials are left for two routers, `OutOfMemory`, `NoWord` if slots are used again and none is to be had, and `Raced` if another
+    /// node has claimed a word meanwhile; the caller may try again. A refused open changes nothing but what was seen and looked at.
     pub fn open_pair(&mut self, fabric: &Fabric<F>) -> Result<(End, End), Refusal>
         ensures { OpensPair F.table self.old self.new result }
     {
