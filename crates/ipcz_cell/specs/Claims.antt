@@ -35,8 +35,8 @@ pub record IsNumberAt (t : TableName) (count n : ℕ) : Type 0 where
 abbrev pub LooksAtEach : TableName → List ℕ → List ℕ → Type 0
 LooksAtEach t old new = (more : List ℕ) × (new ≡ more ++ old) × ((p : ℕ) → p < t.slots → has_number more p ≡ true)
 
--- why there is no number for a claim at a count, where slots are used again, by the slots that were looked at in vain before and since: each was,
--- or of one that was to be had no number is left
+-- why there is no number for a claim at a count, where slots are used again, by the slots that had been looked at in vain before and that have
+-- been since: each has been since, or of one slot no number is left from that count on
 abbrev pub FindsNone : TableName → ℕ → List ℕ → List ℕ → Type 0
 FindsNone t count old new = LooksAtEach t old new ⊎ ((p : ℕ) × (p < t.slots) × IsNextNumber count p t.slots t.size None)
 
