@@ -1,11 +1,14 @@
 -- Why a call of a portal is refused, what one that isn't answers, and the portals that a get gives.
 use Rattle.std.proofs.Common.{◌≡◌, ◌⊎◌, ◌≤◌, ◌<◌, ◌+◌, ℕ, zero, suc, List, [], ◌∷◌, ◌++◌, All, take, length, slice_index_or, refl, sym, subst, ap, ◌∙◌, arith, Bool, true, false, not, if◌then◌else◌, Option, Some, None, inl, inr}
-use Rattle.std.specs.Prelude.{nat_le, unwrap_or}
+use Rattle.std.specs.Prelude.{nat_le, unwrap_or, option_map}
 use Rattle.std.proofs.lemmas.List.{map_more}
 use Rattle.std.proofs.Math.Seq.{take-length}
 use Rattle.ipcz_base.specs.declared.profile.Profile.{Profile}
 use Rattle.ipcz_base.specs.declared.end.End.{End}
 use Rattle.ipcz_base.specs.declared.item.Item.{Item}
+use Rattle.ipcz_base.specs.declared.parcel.Parcel as parcels
+use Rattle.ipcz_base.specs.declared.parcel.Sizes.{Sizes}
+use Rattle.ipcz_base.specs.Items.{sizes_of}
 use Rattle.ipcz_base.specs.declared.item.Item.TheVariants as items
 use Rattle.ipcz_base.specs.declared.refusal.Refusal.{Refusal}
 use Rattle.ipcz_base.specs.declared.refusal.Refusal.TheVariants as refusals
@@ -15,7 +18,7 @@ use Rattle.ipcz_seq.specs.Queue.{current_item}
 use Rattle.ipcz_router.specs.Router.{Router}
 use Rattle.ipcz_router.specs.Calls.{item_refusal, next_number, router_get_refusal, router_put_refusal}
 use Rattle.ipcz_node.specs.Node.{Node, Found, terminal_of, holds_end}
-use Rattle.ipcz_node.specs.Calls.{refusal_at, are_held_once, are_too_many, put_refusal, get_refusal, close_refusal}
+use Rattle.ipcz_node.specs.Calls.{refusal_at, are_held_once, are_too_many, put_refusal, get_refusal, got_at, next_sizes, close_refusal}
 use Rattle.ipcz_rule.specs.declared.view.Part.{Part}
 use Rattle.ipcz_rule.specs.Steps.{put_part}
 use Rattle.ipcz_fabric.specs.Places.{IsRefusedFor, IsRefusedInOrder}
@@ -42,9 +45,24 @@ pub take_refused : (n : Node) (at : End) (e : Refusal) → get_refusal n at ≡ 
 unfolding get_refusal
 take_refused n at e h = held_why (holds_end n at) (terminal_of n at) e h
 
-pub get_refused : (n : Node) (at : End) (e : Refusal) → IsRefusedFor (get_refusal n at) e → IsGetRefusal e
-get_refused n at e (inl h) = inl h
-get_refused n at e (inr h) = inr (take_refused n at e h)
+pub get_refused : (wants : Bool) (n : Node) (at : End) (e : Refusal) → IsRefusedFor wants (get_refusal n at) e → IsGetRefusal e
+get_refused wants n at e (inl h) = inl h.1
+get_refused wants n at e (inr h) = inr (take_refused n at e h)
+
+-- how many ends these sizes tell, if they tell any
+abbrev pub ends_told : Option Sizes → ℕ
+ends_told None = 0
+ends_told (Some sizes) = sizes.ends
+
+-- the sizes of what a get gives that isn't refused
+pub sizes_there : (n : Node) (at : End) (got : ℕ × parcels.Parcel) → get_refusal n at ≡ None → got_at n at ≡ Some got → next_sizes n at ≡ Some (sizes_of got.1)
+unfolding get_refusal
+sizes_there n at got allowed there = go (holds_end n at) allowed
+  where
+    go : (held : Bool) → (if not held then Some refusals.Stranger else refusal_at (terminal_of n at) router_get_refusal) ≡ None →
+        (if held then option_map (λ g. sizes_of g.1) (got_at n at) else None) ≡ Some (sizes_of got.1)
+    go true e = ap (option_map (λ (g : ℕ × parcels.Parcel). sizes_of g.1)) there
+    go false e = cc
 
 open_why : (t : Option Found) (e : Refusal) → e ≡ unwrap_or (refusal_at t (λ (r : Router). None)) refusals.OutOfMemory → IsCloseRefusal e
 unfolding refusal_at

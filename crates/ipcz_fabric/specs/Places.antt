@@ -19,9 +19,9 @@ pub record CellWhere (t : TableName) (node : ℕ) (Holds : CellState → Type 0)
   pub here : IsCellOf t node cell
   pub holds : Holds cell
 
--- a call is refused for this, if there is such a reason, or for want of memory
-abbrev pub IsRefusedFor : Option Refusal → Refusal → Type 0
-IsRefusedFor reason why = (why ≡ refusals.OutOfMemory) ⊎ (reason ≡ Some why)
+-- a call is refused for this, if there is such a reason, or for want of memory, if it wants some
+abbrev pub IsRefusedFor : Bool → Option Refusal → Refusal → Type 0
+IsRefusedFor wants reason why = ((wants ≡ true) × (why ≡ refusals.OutOfMemory)) ⊎ (reason ≡ Some why)
 
 -- a call is refused for want of memory for a list of its own, if it wants one; else for this, if there is such a reason; else for
 -- want of memory

@@ -1,14 +1,15 @@
 -- Portals: what a clause sees of one, what a call of one answers, and why it may be refused: what the call of some cell of its node
 -- answers.
-use Rattle.std.specs.Prelude.{◌≡◌, ◌⊎◌, ℕ, Bool, true, false, not, if◌then◌else◌, Option, Some, None, List, [], ◌∷◌, map, take, unwrap_or}
+use Rattle.std.specs.Prelude.{◌≡◌, ◌⊎◌, ℕ, Bool, true, false, not, if◌then◌else◌, Option, Some, None, List, [], ◌∷◌, map, take, unwrap_or, nat_lt}
 use Rattle.ipcz_base.specs.declared.profile.Profile.{Profile}
 use Rattle.ipcz_base.specs.declared.end.End.{End}
 use Rattle.ipcz_base.specs.declared.parcel.Parcel as parcels
+use Rattle.ipcz_base.specs.declared.parcel.Sizes.{Sizes}
 use Rattle.ipcz_base.specs.declared.refusal.Refusal.{Refusal}
 use Rattle.ipcz_base.specs.declared.refusal.Refusal.TheVariants as refusals
 use Rattle.ipcz_base.specs.Ends.{opposite_end, has_end}
 use Rattle.ipcz_base.specs.Limits.{takes_bytes}
-use Rattle.ipcz_node.specs.Calls.{are_too_many, put_refusal, put_number, get_refusal, got_at, close_refusal}
+use Rattle.ipcz_node.specs.Calls.{are_too_many, put_refusal, put_number, get_refusal, got_at, next_sizes, close_refusal}
 use Rattle.ipcz_cell.specs.CellStates.{CellState}
 use Rattle.ipcz_cell.specs.TableNames.{TableName}
 use Rattle.ipcz_fabric.specs.Places.{CellWhere, IsRefusedFor, IsRefusedInOrder}
@@ -92,9 +93,18 @@ pub record IsGotHere (c : CellState) (here : ℕ) (at : End) (number : ℕ) (byt
 abbrev pub IsGot : TableName → ℕ → End → ℕ → List ℕ → List PortalValue → Type 0
 IsGot t node at number bytes portals = CellWhere t node (λ c. IsGotHere c node at number bytes portals)
 
--- a get at an end of a node is refused so: for want of memory, or as the node refuses it
+-- whether a get wants memory for a list of portals: its parcel has some
+abbrev pub has_ends : Option Sizes → Bool
+has_ends None = false
+has_ends (Some sizes) = nat_lt 0 sizes.ends
+
+-- a get at an end of a cell's node is refused so: for want of memory, if its parcel has ends, or as the node refuses it
+abbrev pub IsRefusedGetHere : CellState → End → Refusal → Type 0
+IsRefusedGetHere c at why = IsRefusedFor (has_ends (next_sizes c.part.state at)) (get_refusal c.part.state at) why
+
+-- a get at an end of a node is refused so
 abbrev pub IsRefusedGet : TableName → ℕ → End → Refusal → Type 0
-IsRefusedGet t node at why = CellWhere t node (λ c. IsRefusedFor (get_refusal c.part.state at) why)
+IsRefusedGet t node at why = CellWhere t node (λ c. IsRefusedGetHere c at why)
 
 -- a get that takes no memory is refused so, at an end of a node: as the node refuses it
 abbrev pub IsRefusedTake : TableName → ℕ → End → Refusal → Type 0

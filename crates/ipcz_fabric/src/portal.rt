@@ -3,9 +3,9 @@ ghost use Rattle.std.specs.Prelude.{◌≡◌, ◌≤◌, ◌<◌, ◌+◌, ◌+
 ghost use Rattle.ipcz_node.specs.Calls.{put_refusal, put_number, get_refusal, close_refusal};
 ghost use Rattle.ipcz_rule.specs.Steps.{put_part, close_part};
 ghost use Rattle.ipcz_cell.specs.Parts.{got_part};
-ghost use Rattle.ipcz_fabric.specs.Places.{IsRefusedFor, IsRefusedInOrder};
+ghost use Rattle.ipcz_fabric.specs.Places.{IsRefusedInOrder};
 ghost use Rattle.ipcz_fabric.specs.Portals.{ends_of, portals_at, parcel_refusal, wants_list};
-ghost use Rattle.ipcz_fabric.specs.Portals.{IsPut, IsPutRefusal, IsRefusedPut, IsGot, IsGotHere, IsGetRefusal, IsRefusedGet};
+ghost use Rattle.ipcz_fabric.specs.Portals.{IsPut, IsPutRefusal, IsRefusedPut, IsGot, IsGotHere, IsGetRefusal, IsRefusedGetHere, IsRefusedGet};
 ghost use Rattle.ipcz_fabric.specs.Portals.{IsTaken, IsTakenHere, IsTakeRefusal, IsRefusedTake};
 ghost use Rattle.ipcz_fabric.specs.Portals.{IsClosed, IsCloseRefusal, IsRefusedClose};
 
@@ -98,7 +98,7 @@ pub(crate) fn add_portals<F: FabricName>(
 // A parcel that was got at a node: its ends are portals in this room.
 fn with_portals<F: FabricName>(node: u8, n: u64, parcel: Parcel, room: Vec<Portal<F>>) -> Got<F>
     requires node { node < F.table.count }
-    requires room { 8 ≤ vec_capacity room }
+    requires room { length parcel.ends ≤ vec_capacity room }
     requires empty { vec_len room ≡ 0 }
     ensures number { result.n ≡ n }
     ensures bytes { result.bytes.items ≡ parcel.bytes }
@@ -106,7 +106,13 @@ fn with_portals<F: FabricName>(node: u8, n: u64, parcel: Parcel, room: Vec<Porta
 {
     let mut portals = room;
     let ends = parcel.ends.as_slice();
-    add_portals(node, ends, MOST_PORTALS, &mut portals);
+    let count = ends.len();
+    let most = if count < MOST_PORTALS {
+        count
+    } else {
+        MOST_PORTALS
+    };
+    add_portals(node, ends, most, &mut portals);
     Got {
         n,
         bytes: parcel.bytes.into_vec(),
@@ -179,15 +185,19 @@ impl<F: FabricName> Portal<F> {
         }
     }
 
-    // Takes the next parcel at the end, whose node's cell this is. Room for eight portals is taken first.
+    // Takes the next parcel at the end, whose node's cell this is. Room for its portals is taken first, if it has some.
     fn get_here(&self, cell: &mut NodeCell<F>, hub: &Hub<F>) -> Result<Got<F>, Refusal>
         ensures got { IfOk result (λ g. IsGotHere cell.old self.now.node self.now.end g.n g.bytes.items g.portals.items) }
         ensures ok { OnOk result (cell.new.part ≡ got_part self.now.end cell.old.part) }
-        ensures why { IfErr result (IsRefusedFor (get_refusal cell.old.part.state self.now.end)) }
+        ensures why { IfErr result (IsRefusedGetHere cell.old self.now.end) }
         ensures err { OnErr result (cell.new.part ≡ cell.old.part) }
         ensures seen { cell.new.seen ≡ cell.old.seen }
     {
-        let Ok(room) = Vec::with_capacity(hub.allocator(), MOST_PORTALS) else {
+        let count = match cell.next_sizes(self.end) {
+            Some(sizes) => sizes.ends,
+            None => 0,
+        };
+        let Ok(room) = Vec::with_capacity(hub.allocator(), count) else {
             return Err(Refusal::OutOfMemory);
         };
         let (n, parcel) = cell.get(hub.fabric(), self.end)?;
@@ -267,8 +277,8 @@ impl<F: FabricName> Portal<F> {
     /// Takes the next parcel, under the lock of the portal's node. What else holds of it is what `NodeCell::get` says, of the cell as the
     /// call found it.
     ///
-    /// Room for eight portals is taken first, so `OutOfMemory` comes before all else, and no parcel is lost; then the refusals are those of
-    /// `NodeState::get`: `Stranger`, `Empty`, `PeerClosed`.
+    /// If the parcel has portals room for them is taken first, so that no parcel is lost: `OutOfMemory` is answered only then. Else the
+    /// refusals are those of `NodeState::get`: `Stranger`, `Empty`, `PeerClosed`; such a get takes no memory.
     pub fn get<R: Wait>(&self, rt: &R, hub: &Hub<F>) -> Result<Got<F>, Refusal>
         ensures got { IfOk result (λ g. IsGot F.table self.now.node self.now.end g.n g.bytes.items g.portals.items) }
         ensures here { IfOk result (λ g. All (λ p. p.node ≡ self.now.node) g.portals.items) }

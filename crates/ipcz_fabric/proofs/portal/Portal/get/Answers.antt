@@ -17,7 +17,7 @@ pub returns-clause-here : goal.returns-clause-here
 returns-clause-here g c = if_ok (λ x h. are_there _ _ _ h.portals_are) c.get_here.result c.get_here.ensures.got
 
 pub returns-clause-why : goal.returns-clause-why
-returns-clause-why g c = if_err (λ e h. get_refused c.deref_mut.result.now.part.state _ _ h) c.get_here.result c.get_here.ensures.why
+returns-clause-why g c = if_err (λ e h. get_refused _ c.deref_mut.result.now.part.state _ _ h) c.get_here.result c.get_here.ensures.why
 
 pub returns-clause-refused : goal.returns-clause-refused
 returns-clause-refused g c = if_err
