@@ -21,6 +21,12 @@ const MOVED: &[u8] =
 const MOVED_TRANSCRIPT: &[u8] =
     b"open x y ok\nput x 0\nput x 1\nput x 2\nput x 3\nsettled\nget y 0 [] \"a\"\nput 0>1 0\nsettled\nget 1>0 0 [y] \"m\"\nget y 1 [] \"b\"\nget y 2 [] \"c\"\nget y 3 [] \"d\"\nget y Empty\n";
 
+// Three puts that start a circle, in which portals chase each other for ever (docs/C.md, "Circles").
+const CIRCLE: &[u8] =
+    br#"{"nodes":3,"words":64,"commands":[["put","0>1","a",["0>2"]],["put","1>2","b",["1>0"]],["put","2>0","c",["2>1"]],["settle",10000],["get","1>0"]]}"#;
+
+const CIRCLE_TRANSCRIPT: &[u8] = b"put 0>1 0\nput 1>2 0\nput 2>0 0\nunsettled\nget 1>0 Away\n";
+
 // Runs the script with its settles on threads, with its transcript behind what `out` holds.
 fn run<R: Threads + Sync>(
     rt: &R,
@@ -60,6 +66,15 @@ fn writes_the_same_transcript_each_time(rt: HostRuntime) -> Result<(), Fail> {
         assert_eq!(rt; out.as_slice(), MOVED_TRANSCRIPT);
         assert_eq!(rt; ending, Ok(Outcome::Done));
     }
+    Ok(())
+}
+
+#[test]
+fn a_circle_comes_to_the_limit(rt: HostRuntime) -> Result<(), Fail> {
+    let mut out = Vec::new(rt.alloc());
+    let ending = run(&rt, rt.alloc(), CIRCLE, &mut out);
+    assert_eq!(rt; out.as_slice(), CIRCLE_TRANSCRIPT);
+    assert_eq!(rt; ending, Ok(Outcome::Unsettled));
     Ok(())
 }
 
