@@ -1,5 +1,5 @@
 -- The workers of a script's nodes with what its names are bound to, and what each command does to them.
-use Rattle.std.specs.Prelude.{◌≡◌, ℕ, zero, suc, Bool, true, false, MatchBool, MatchOption, List, [], ◌∷◌, length, if◌then◌else◌}
+use Rattle.std.specs.Prelude.{◌≡◌, ◌<◌, ℕ, zero, suc, Bool, false, MatchBool, MatchOption, List, [], ◌∷◌, length, if◌then◌else◌}
 use Rattle.std.specs.FinMap.{get}
 use Rattle.ipcz_base.specs.declared.end.End.{End}
 use Rattle.ipcz_world.specs.declared.step.Reply.{Reply}
@@ -14,7 +14,7 @@ use Rattle.ipcz_cell.specs.TableNames.{TableName}
 use Rattle.ipcz_threads.specs.declared.call.Call.{Call}
 use Rattle.ipcz_threads.specs.declared.call.Call.TheVariants as calls
 use Rattle.ipcz_threads.specs.Workers.{WorkerState, CallsAt, holder_from}
-use Rattle.ipcz_threads.specs.Rounds.{Gates, IsRound, AreAsked, is_some_starved}
+use Rattle.ipcz_threads.specs.Rounds.{Gates, IsRound, AreAsked, is_some_starved, left_after}
 
 pub record Stage : Type 0 where
   pub workers : List WorkerState
@@ -72,18 +72,23 @@ abbrev pub TurnsTo : TableName → ℕ → ℕ → List WorkerState → Said →
 TurnsTo t count node ws (said.Turned turns) vs = AreTurns t count node ws turns vs
 TurnsTo t count node ws other vs = ⊥
 
--- with so many rounds left: all workers are asked whether their nodes have nothing to do; if one has, and a round is left, it is made, and
--- finds memory
-abbrev pub Settles : Gates → TableName → ℕ → ℕ → List WorkerState → Bool → List WorkerState → Type 0
-Settles gates t limit zero ws quiet vs = AreAsked t (length ws) 0 ws quiet vs
-Settles gates t limit (suc left) ws quiet vs =
-    (now : Bool) × (us : List WorkerState) × AreAsked t (length ws) 0 ws now us
-    × MatchBool now ((quiet ≡ true) × (vs ≡ us))
-    ((xs : List WorkerState) × IsRound gates t limit us xs × (is_some_starved xs ≡ false) × Settles gates t limit left xs quiet vs)
+-- so many rounds, with so many acts left before the first: before each, and after the last, all workers are asked whether their nodes have
+-- nothing to do. Before each some node has, and some act is left; each worker may take what is left, and the round finds memory. After
+-- the last all are quiet, or no act is left
+abbrev pub TakesRounds : Gates → TableName → ℕ → ℕ → List WorkerState → Bool → List WorkerState → Type 0
+TakesRounds gates t zero left ws quiet vs = AreAsked t (length ws) 0 ws quiet vs × (quiet ≡ false → left ≡ 0)
+TakesRounds gates t (suc rounds) left ws quiet vs =
+    (us xs : List WorkerState) × (0 < left) × AreAsked t (length ws) 0 ws false us
+    × IsRound gates t left us xs × (is_some_starved xs ≡ false)
+    × TakesRounds gates t rounds (left_after left xs) xs quiet vs
+
+-- a settle is some rounds, and says whether all nodes were quiet in the end
+abbrev pub Settles : Gates → TableName → ℕ → List WorkerState → Bool → List WorkerState → Type 0
+Settles gates t limit ws quiet vs = (rounds : ℕ) × TakesRounds gates t rounds limit ws quiet vs
 
 -- a settle is answered by whether all nodes were quiet in the end
 abbrev pub SettlesTo : Gates → TableName → ℕ → List WorkerState → Said → List WorkerState → Type 0
-SettlesTo gates t limit ws answer vs = (quiet : Bool) × Settles gates t limit limit ws quiet vs
+SettlesTo gates t limit ws answer vs = (quiet : Bool) × Settles gates t limit ws quiet vs
     × (answer ≡ (if quiet then said.Settled else said.Unsettled))
 
 -- a show is answered by some words

@@ -20,10 +20,11 @@ use Rattle.ipcz_cell.specs.TurnEnds.{Turns}
 use Rattle.ipcz_threads.specs.declared.call.Call.{Call}
 use Rattle.ipcz_threads.specs.declared.call.Call.TheVariants as calls
 
--- the cell, and whether some turn in a round found no memory
+-- the cell; whether some turn in a round found no memory; and how many acts the worker may still take in the round
 pub record WorkerState : Type 0 where
   pub cell : CellState
   pub starved : Bool
+  pub left : ℕ
 
 -- what is replied if a call answers this
 abbrev pub opened : Result (End × End) Refusal → Reply
@@ -74,7 +75,7 @@ CallsCell t c calls.Turn reply d = (answer : Result Happened Refusal) × Turns t
 
 -- a call on a worker's cell
 abbrev pub CallsWorker : TableName → WorkerState → Call → Reply → WorkerState → Type 0
-CallsWorker t w call reply v = CallsCell t w.cell call reply v.cell × (v.starved ≡ w.starved)
+CallsWorker t w call reply v = CallsCell t w.cell call reply v.cell × (v.starved ≡ w.starved) × (v.left ≡ w.left)
 
 -- a call at the node of a number, after which only its worker may have changed; one that isn't there is a Stranger
 abbrev pub CallsAt : TableName → List WorkerState → ℕ → Call → Reply → List WorkerState → Type 0

@@ -28,6 +28,7 @@ pub(crate) fn lend<'a, F: FabricName, G>(
         cell,
         gate,
         starved: false,
+        left: 0,
     });
     lend(fabric, cells, rest, workers)
 }

@@ -125,9 +125,11 @@ fn output<R: Threads + Sync, G: Gate + Send>(
 ///
 /// It differs from `run_script` only in settle. A settle asks whether each node has nothing to do, before the first round and after each.
 /// In a round every node's cell is lent to a worker in a thread of its own, which takes turns: before each it asks the node's gate, and its
-/// round ends if that answers false, at an idle turn, after `limit` turns, and at a turn that is refused `NumbersEnd` or `OutOfMemory`;
-/// one that is refused `Raced` counts, and it goes on. Then all are joined. The settle has settled if no node has anything to do, and
-/// is unsettled after `limit` rounds. If a turn found no memory, the run ends.
+/// round ends if that answers false, at an idle turn, at a turn that is refused `NumbersEnd` or `OutOfMemory`, and after as many acts as are
+/// left of the limit. Each turn but the one that ends the round counts as an act, also one that is refused `Raced`. Then all are joined,
+/// and the acts of all of them are taken off what is left, or one if there was none. The settle has settled if no node has anything to
+/// do, and is unsettled once nothing is left. So a node takes at most `limit` acts in a settle, and there are at most `limit` rounds. If a
+/// turn found no memory, the run ends.
 ///
 /// Node n has the gate of place n; there are eight. What is read and written, and the answers, are as those of `run_script`.
 pub fn run_gated<R: Threads + Sync, I: Read, W: Write, G: Gate + Send>(

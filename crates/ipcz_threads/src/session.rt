@@ -6,7 +6,7 @@ ghost use Rattle.ipcz_threads.specs.declared.call.Call.TheVariants as calls;
 
 use crate::call::Call;
 use crate::worker::NodeWorker;
-use crate::workers::{are_quiet, call_at, holder_from, is_some_starved, take_round};
+use crate::workers::{are_quiet, call_at, holder_from, is_some_starved, left_after, take_round};
 use ipcz_base::{Bytes, End, Sequence};
 use ipcz_fabric::{FabricName, Gate};
 use ipcz_script::{Command, Labels, Said, Text, Titles, answer_to, is_idle, is_want};
@@ -147,7 +147,7 @@ impl<'a, F: FabricName, G> Session<'a, F, G> {
 }
 
 impl<'a, F: FabricName + Send + Sync, G: Gate + Send> Session<'a, F, G> {
-    // Lets the nodes take rounds of turns until none has anything to do, and at most so many.
+    // Lets the nodes take rounds of turns until none has anything to do, or so many acts were taken.
     fn settle<R: Threads + Sync>(&mut self, rt: &R, limit: u32) -> Result<Said, AllocError>
         ensures settles { IfOk result (λ said. SettlesTo G.answers F.table limit self.old.workers said self.new.workers) }
         ensures labels { self.new.labels ≡ self.old.labels }
@@ -211,25 +211,25 @@ fn take_turns<'a, F: FabricName, G>(
     Ok(turns)
 }
 
-// Lets the nodes take rounds of turns until none has anything to do, and at most so many. It says whether none has.
+// Lets the nodes take rounds of turns until none has anything to do, or so many acts were taken. It says whether none has.
 fn settle<'a, R: Threads + Sync, F: FabricName + Send + Sync, G: Gate + Send>(
     rt: &R,
     workers: &mut [NodeWorker<'a, F, G>],
     limit: u32,
 ) -> Result<bool, AllocError>
-    ensures { IfOk result (λ quiet. Settles G.answers F.table limit limit workers.old quiet workers.new) }
+    ensures { IfOk result (λ quiet. Settles G.answers F.table limit workers.old quiet workers.new) }
 {
     let count = workers.len();
-    let mut left = limit;
+    let mut left = u64::from(limit);
     while left > 0 {
         if are_quiet(workers, 0, count) {
             return Ok(true);
         }
-        take_round(rt, workers, u64::from(limit));
+        take_round(rt, workers, left);
         if is_some_starved(workers) {
             return Err(AllocError);
         }
-        left -= 1;
+        left = left_after(workers, left);
     }
     Ok(are_quiet(workers, 0, count))
 }

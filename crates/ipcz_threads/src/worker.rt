@@ -2,7 +2,7 @@
 ghost use Rattle.std.specs.Prelude.{◌≡◌};
 ghost use Rattle.ipcz_cell.specs.Opens.{FindsQuiet, OpensPair};
 ghost use Rattle.ipcz_node.specs.Node.{holds_end};
-ghost use Rattle.ipcz_threads.specs.Rounds.{finds_no_memory};
+ghost use Rattle.ipcz_threads.specs.Rounds.{ends_round, finds_no_memory};
 ghost use Rattle.ipcz_threads.specs.Workers.{CallsWorker, Puts, opened, put};
 
 use crate::call::Call;
@@ -20,6 +20,8 @@ pub(crate) struct NodeWorker<'a, F: FabricName, G> {
     pub(crate) gate: &'a mut G,
     /// Whether some turn in a round found no memory.
     pub(crate) starved: bool,
+    /// How many acts it may still take in the round.
+    pub(crate) left: u64,
 }
 
 impl<'a, F: FabricName, G> Model for NodeWorker<'a, F, G> {
@@ -32,7 +34,7 @@ impl<'a, F: FabricName, G> Model for NodeWorker<'a, F, G> {
 
     ghost coded = { Prim.hlevel (codes, code, sets.code) };
 
-    ghost view = { λ w. record { cell = w.cell; starved = w.starved } };
+    ghost view = { λ w. record { cell = w.cell; starved = w.starved; left = w.left } };
 }
 
 // What is replied if an open answers this.
@@ -67,6 +69,7 @@ impl<'a, F: FabricName, G> NodeWorker<'a, F, G> {
     pub(crate) fn quiet(&mut self) -> bool
         ensures quiet { FindsQuiet F.table self.old.cell result self.new.cell }
         ensures starved { self.new.starved ≡ self.old.starved }
+        ensures left { self.new.left ≡ self.old.left }
     {
         self.cell.quiet(self.fabric)
     }
@@ -75,6 +78,7 @@ impl<'a, F: FabricName, G> NodeWorker<'a, F, G> {
     fn open(&mut self) -> Result<(End, End), Refusal>
         ensures opens { OpensPair F.table self.old.cell self.new.cell result }
         ensures starved { self.new.starved ≡ self.old.starved }
+        ensures left { self.new.left ≡ self.old.left }
     {
         self.cell.open_pair(self.fabric)
     }
@@ -83,6 +87,7 @@ impl<'a, F: FabricName, G> NodeWorker<'a, F, G> {
     fn put(&mut self, at: End, bytes: Bytes, ends: Ends) -> Result<u64, Refusal>
         ensures puts { Puts at bytes ends self.old.cell result self.new.cell }
         ensures starved { self.new.starved ≡ self.old.starved }
+        ensures left { self.new.left ≡ self.old.left }
     {
         match self.cell.put(self.fabric, at, bytes, ends) {
             Ok(number) => Ok(number),
@@ -120,6 +125,16 @@ fn finds_no_memory(answer: &Result<Happened, Refusal>) -> bool
     matches!(answer, Err(Refusal::OutOfMemory))
 }
 
+// Whether a round ends with a turn that is answered this.
+fn ends_round(answer: &Result<Happened, Refusal>) -> bool
+    ensures { result ≡ ends_round answer.now }
+{
+    matches!(
+        answer,
+        Ok(Happened::Idle) | Err(Refusal::OutOfMemory | Refusal::NumbersEnd)
+    )
+}
+
 impl<'a, F: FabricName, G: Gate> Worker for NodeWorker<'a, F, G> {
     ghost use Rattle.ipcz_threads.specs.Rounds.{Asks, Takes, ends_round};
 
@@ -137,13 +152,13 @@ impl<'a, F: FabricName, G: Gate> Worker for NodeWorker<'a, F, G> {
     fn turn(&mut self) -> Result<Happened, Refusal> {
         let answer = self.cell.turn(self.fabric);
         self.starved |= finds_no_memory(&answer);
+        if !ends_round(&answer) {
+            self.left = self.left.saturating_sub(1);
+        }
         answer
     }
 
     fn is_last(&self, answer: &Result<Happened, Refusal>) -> bool {
-        matches!(
-            answer,
-            Ok(Happened::Idle) | Err(Refusal::OutOfMemory | Refusal::NumbersEnd)
-        )
+        ends_round(answer)
     }
 }

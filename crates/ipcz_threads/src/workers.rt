@@ -1,6 +1,6 @@
 //! The workers of a table's nodes, by number.
-ghost use Rattle.std.specs.Prelude.{◌≡◌, ◌+◌, ◌<◌, ◌≤◌, ◌^◌, length};
-ghost use Rattle.ipcz_threads.specs.Rounds.{AreAsked, IsAskedAt, IsRound, TakesTurns, is_some_starved};
+ghost use Rattle.std.specs.Prelude.{◌≡◌, ◌+◌, ◌-◌, ◌<◌, ◌≤◌, ◌^◌, length};
+ghost use Rattle.ipcz_threads.specs.Rounds.{AreAsked, IsAskedAt, IsRound, TakesTurns, acts, is_some_starved, left_after};
 ghost use Rattle.ipcz_threads.specs.Workers.{CallsAt, holder_from};
 
 use crate::call::Call;
@@ -83,14 +83,42 @@ pub(crate) fn is_some_starved<'a, F: FabricName, G>(workers: &[NodeWorker<'a, F,
     }
 }
 
+// What is left of so many acts without those that these workers have taken in a round in which each might take `limit`.
+fn without_acts<'a, F: FabricName, G>(
+    workers: &[NodeWorker<'a, F, G>],
+    limit: u64,
+    left: u64,
+) -> u64
+    ensures { result ≡ left - acts limit workers.now }
+{
+    match workers {
+        [] => left,
+        [first, rest @ ..] => {
+            let taken = limit.saturating_sub(first.left);
+            without_acts(rest, limit, left.saturating_sub(taken))
+        }
+    }
+}
+
+/// How many acts are left of so many after a round in which each worker might take them all: the round uses up those that the workers have
+/// taken, and at least one, so that rounds come to an end whatever the gates answer.
+pub(crate) fn left_after<'a, F: FabricName, G>(workers: &[NodeWorker<'a, F, G>], limit: u64) -> u64
+    ensures left { result ≡ left_after limit workers.now }
+    ensures falls { 0 < limit → result < limit }
+{
+    let left = without_acts(workers, limit, limit);
+    left.min(limit.saturating_sub(1))
+}
+
 // Lets a worker take its turns of a round.
 fn take_turns<'a, F: FabricName, G: Gate>(worker: &mut NodeWorker<'a, F, G>, limit: u64)
     ensures { TakesTurns G.answers F.table limit worker.old worker.new }
 {
+    worker.left = limit;
     run_worker(worker, limit);
 }
 
-/// A round: each worker takes turns in a thread of its own, at most so many, and all are joined.
+/// A round: each worker takes turns in a thread of its own, at most so many acts, and all are joined.
 pub(crate) fn take_round<'a, R: Threads + Sync, F: FabricName + Send + Sync, G: Gate + Send>(
     rt: &R,
     workers: &mut [NodeWorker<'a, F, G>],

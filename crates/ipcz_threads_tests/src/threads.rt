@@ -21,6 +21,12 @@ const MOVED: &[u8] =
 const MOVED_TRANSCRIPT: &[u8] =
     b"open x y ok\nput x 0\nput x 1\nput x 2\nput x 3\nsettled\nget y 0 [] \"a\"\nput 0>1 0\nsettled\nget 1>0 0 [y] \"m\"\nget y 1 [] \"b\"\nget y 2 [] \"c\"\nget y 3 [] \"d\"\nget y Empty\n";
 
+// Three puts that start a circle, in which portals chase each other for ever (docs/C.md, "Circles").
+const CIRCLE: &[u8] =
+    br#"{"nodes":3,"words":64,"commands":[["put","0>1","a",["0>2"]],["put","1>2","b",["1>0"]],["put","2>0","c",["2>1"]],["settle",3000],["get","1>0"]]}"#;
+
+const CIRCLE_TRANSCRIPT: &[u8] = b"put 0>1 0\nput 1>2 0\nput 2>0 0\nunsettled\nget 1>0 Away\n";
+
 // Runs the script with its settles on threads, with its transcript behind what `out` holds.
 fn run<R: Threads + Sync>(
     rt: &R,
@@ -59,6 +65,52 @@ fn writes_the_same_transcript_each_time(rt: HostRuntime) -> Result<(), Fail> {
         let ending = run(&rt, rt.alloc(), MOVED, &mut out);
         assert_eq!(rt; out.as_slice(), MOVED_TRANSCRIPT);
         assert_eq!(rt; ending, Ok(Outcome::Done));
+    }
+    Ok(())
+}
+
+// A gate that is open, and counts how often it was asked.
+#[derive(Drop)]
+struct CountsAsked {
+    asked: u64,
+}
+
+impl Gate for CountsAsked {
+    fn pass(&mut self, _node: u8, _turns: u64) -> bool {
+        self.asked = self.asked.saturating_add(1);
+        true
+    }
+}
+
+fn counting_gate() -> CountsAsked {
+    CountsAsked { asked: 0 }
+}
+
+// A node takes at most as many acts as the limit says, and in each of at most as many rounds its gate is asked once more.
+#[test]
+fn a_circle_comes_to_the_limit(rt: HostRuntime) -> Result<(), Fail> {
+    let mut gates = [
+        counting_gate(),
+        counting_gate(),
+        counting_gate(),
+        counting_gate(),
+        counting_gate(),
+        counting_gate(),
+        counting_gate(),
+        counting_gate(),
+    ];
+    let mut out = Vec::new(rt.alloc());
+    let ending = run_gated(
+        &rt,
+        rt.alloc(),
+        &mut Device::new(CIRCLE),
+        &mut Device::new(&mut out),
+        &mut gates,
+    );
+    assert_eq!(rt; out.as_slice(), CIRCLE_TRANSCRIPT);
+    assert_eq!(rt; ending, Ok(Outcome::Unsettled));
+    for gate in &gates {
+        assert!(rt; gate.asked <= 2 * 3000);
     }
     Ok(())
 }

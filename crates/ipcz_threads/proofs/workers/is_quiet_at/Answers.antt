@@ -10,5 +10,6 @@ returns-clause-asked g c = (
   slice_get_read c.args.workers.now (length c.args.workers.now) c.args.node c.index-workers-node.result refl (omega (arith, c.requires)) c.index-workers-node.is,
   subst (λ w. FindsQuiet g.F.FabricName.table w.cell c.quiet.result c.quiet.new.self.cell) (sym c.index-workers-node.is) c.quiet.ensures.quiet,
   subst (λ w. c.quiet.new.self.starved ≡ w.starved) (sym c.index-workers-node.is) c.quiet.ensures.starved,
+  subst (λ w. c.quiet.new.self.left ≡ w.left) (sym c.index-workers-node.is) c.quiet.ensures.left,
   refl,
 )
