@@ -1,5 +1,5 @@
 -- The claim count of a cell: what the calls on it require, answer and leave.
-use Rattle.std.specs.Prelude.{◌≡◌, ◌≢◌, ◌<◌, ◌≤◌, ◌⊎◌, ℕ, None, true, false, [], ◌∷◌, ◌++◌, List, Result, Ok, Err, MatchBool, eqb}
+use Rattle.std.specs.Prelude.{◌≡◌, ◌≢◌, ◌<◌, ◌≤◌, ◌⊎◌, ◌%◌, ℕ, None, true, false, [], ◌∷◌, ◌++◌, List, Result, Ok, Err, MatchBool, eqb}
 use mathlib.Core.Option.{some}
 use lib.ListN.{get_elem?}
 use Rattle.ipcz_base.specs.declared.refusal.Refusal.{Refusal}
@@ -25,11 +25,12 @@ CanClaim x serial = (r : Router) × CanAct x serial r router_acts.Claim
 abbrev pub AreReached : ℕ → List (ℕ × ℕ) → ℕ → Type 0
 AreReached size seen n = (k earlier : ℕ) → get_elem? seen k ≡ some (size, earlier) → earlier ≤ n
 
--- the number that a claim at a count is for: the count itself, where slots aren't used again; else one from it on
+-- the number that a claim at a count is for: the count itself, where slots aren't used again; else the least of its slot from the count on
 pub record IsNumberAt (t : TableName) (count n : ℕ) : Type 0 where
   pub least : count ≤ n
   pub below : n < t.size
   pub order : t.reuses ≡ false → n ≡ count
+  pub next : (m : ℕ) → count ≤ m → m % t.slots ≡ n % t.slots → n ≤ m
 
 -- each slot was looked at, besides those that had been looked at before, and none was to be had
 abbrev pub LooksAtEach : TableName → List ℕ → List ℕ → Type 0
