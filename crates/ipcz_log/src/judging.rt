@@ -1,8 +1,7 @@
-ghost use Rattle.std.specs.Prelude.{◌≡◌, ◌≤◌, ◌+◌, ◌++◌, ◌∷◌, [], ℕ, List, Some, None, MatchBool, length, take, drop, option_map, IfOk, IfSome};
+ghost use Rattle.std.specs.Prelude.{◌≡◌, ◌≤◌, ◌+◌, [], ℕ, length, drop, option_map, IfOk, IfSome};
 ghost use Rattle.serde_json.specs.View.{view};
 ghost use Rattle.ipcz_base.specs.declared.profile.Profile.{Profile};
 ghost use Rattle.ipcz_script.specs.Reading.{IsJson};
-ghost use Rattle.ipcz_verdict.specs.declared.line.Line.{Line};
 ghost use Rattle.ipcz_verdict.specs.Desks.{HasAllowed};
 ghost use Rattle.ipcz_log.specs.Steps.{JudgesLine};
 ghost use Rattle.ipcz_log.specs.Verdicts.{IsHeader, IsLine, IsSaidOf, IsVerdict, line_len, text_lines};

@@ -3,9 +3,8 @@
 ghost use Rattle.std.specs.Prelude.{◌≡◌, option_map, IfOk, OnOk};
 ghost use Rattle.ipcz_world.specs.declared.step.Step.TheVariants as Step;
 ghost use Rattle.ipcz_world.specs.declared.step.Reply.TheVariants as Reply;
-ghost use Rattle.ipcz_promise.specs.Promise.{first_refusal};
 ghost use Rattle.ipcz_verdict.specs.Ledger.{put_step};
-ghost use Rattle.ipcz_verdict.specs.Desks.{account_of, DecidesCall, may_refuse_close, may_refuse_get, may_refuse_open, may_refuse_put, next_ends, receiving, Sends};
+ghost use Rattle.ipcz_verdict.specs.Desks.{DecidesCall, may_refuse_close, may_refuse_get, may_refuse_open, may_refuse_put, next_ends, receiving, Sends};
 
 use crate::books;
 use crate::portal::Portal;
