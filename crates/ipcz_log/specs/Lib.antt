@@ -1,0 +1,4 @@
+pub mod Logs
+pub mod Outputs
+pub mod Steps
+pub mod Verdicts

@@ -1,0 +1,13 @@
+pub mod Allowed
+pub mod Beginning
+pub mod Below
+pub mod Changing
+pub mod Closing
+pub mod Deciding
+pub mod Facts
+pub mod Going
+pub mod Keeping
+pub mod Lines
+pub mod Refusals
+pub mod Sound
+pub mod Turns

@@ -1,0 +1,16 @@
+use Rattle.std.proofs.Common.{false, ◌∙◌, ap, sym, subst}
+use Rattle.std.specs.FinMap.{get}
+use Rattle.ipcz_verdict.specs.contracts.judge.Judge.{the_view}
+use Rattle.ipcz_verdict.specs.declared.line.Line.TheVariants as lines
+use Rattle.ipcz_verdict.specs.Desks.{Decides, Desk, may_refuse_get}
+use Rattle.ipcz_verdict.proofs.Lines.{get_refused_line, get_refused_unnamed}
+use Rattle.ipcz_verdict.proofs.judge.Judge.get_refused.Goals as goal
+
+pub returns-in_default : goal.returns-in_default
+returns-in_default c = subst (λ (d : Desk). Decides d (lines.GetRefused c.args.node c.args.at.now c.args.why) false d) c.self.view_is
+    (get_refused_unnamed (the_view c.self.inside) c.args.node c.args.at.now c.args.why (sym (c.end_of.ensures.end ∙ ap (λ k. get c.self.inside.labels.names k) c.as_str.ensures.same) ∙ c.in_default.is))
+
+pub returns : goal.returns
+returns c = subst (λ (d : Desk). Decides d (lines.GetRefused c.args.node c.args.at.now c.args.why) c.may_refuse_get.result d) c.self.view_is
+    (get_refused_line (the_view c.self.inside) c.args.node c.args.at.now c.args.why c.in-Some.end c.may_refuse_get.result (sym (c.end_of.ensures.end ∙ ap (λ k. get c.self.inside.labels.names k) c.as_str.ensures.same) ∙ c.in-Some.is)
+    (c.may_refuse_get.ensures ∙ ap (λ s. may_refuse_get s c.args.node c.in-Some.end c.args.why) c.deref.ensures.value))

@@ -1,0 +1,336 @@
+//! A judge, which takes the lines of a log one after the other.
+
+ghost use Rattle.std.specs.Prelude.{◌≡◌, ◌≢◌, ◌⊎◌, ◌<◌, ◌≤◌, ◌+◌, ◌∷◌, ◌++◌, [], ℕ, List, Some, None, MatchBool, IfOk, OnOk};
+ghost use Rattle.std.specs.FinMap.{get};
+ghost use Rattle.ipcz_base.specs.declared.profile.Profile.{Profile};
+ghost use Rattle.ipcz_node.specs.FirstPairs.{first_pairs_from, pairs_from};
+ghost use Rattle.ipcz_verdict.specs.declared.line.Line.{Line};
+ghost use Rattle.ipcz_verdict.specs.declared.line.Line.TheVariants as Line;
+ghost use Rattle.ipcz_verdict.specs.Ledger.{IsAllowed};
+ghost use Rattle.ipcz_verdict.specs.Desks.{BindsOnly, Decides, Desk, first_books, HasAllowed, may_open};
+
+use crate::line::Line;
+use crate::portal::Portal;
+use crate::{books, calls};
+use ipcz_base::{Bytes, End, Parcel, Profile, Refusal, Side};
+use ipcz_node::first_pair_count;
+use ipcz_script::{Labels, Text};
+use std::alloc::{AllocError, Global};
+use std::marker::Model;
+
+/// A judge of one log: what its lines so far have come to.
+#[derive(Drop)]
+pub struct Judge {
+    nodes: u8,
+    profile: Profile,
+    portals: Vec<Portal>,
+    pairs: u32,
+    labels: Labels,
+    alloc: Global,
+}
+
+impl Model for Judge {
+    ghost use Rattle.std.specs.FinMap.{code};
+    ghost use Rattle.std.specs.Coded.{codes};
+    ghost use Rattle.ipcz_verdict.specs.Desks as value;
+
+    ghost Value = { value.Desk };
+
+    ghost coded = { Prim.hlevel (codes, code) };
+
+    ghost view = { λ a. record { nodes = a.nodes; profile = a.profile; portals = a.portals.items; pairs = a.pairs; labels = a.labels } };
+}
+
+// ---- the first pairs
+
+// The books of the first pairs of one node with so many others, from one on.
+fn add_pairs(
+    alloc: Global,
+    portals: &mut Vec<Portal>,
+    i: u8,
+    j: u8,
+    left: u8,
+) -> Result<(), AllocError>
+    requires { j + left ≤ 8 }
+    ensures { OnOk result (portals.new.items ≡ portals.old.items ++ first_books (pairs_from i j left)) }
+{
+    if left == 0 {
+        return Ok(());
+    }
+    portals.push(Portal::new(alloc, i))?;
+    portals.push(Portal::new(alloc, j))?;
+    add_pairs(alloc, portals, i, j + 1, left - 1)
+}
+
+// The books of the first pairs among so many nodes, from one on.
+fn add_first_pairs(
+    alloc: Global,
+    portals: &mut Vec<Portal>,
+    i: u8,
+    left: u8,
+) -> Result<(), AllocError>
+    requires { i + left ≤ 8 }
+    ensures { OnOk result (portals.new.items ≡ portals.old.items ++ first_books (first_pairs_from i left)) }
+{
+    if left == 0 {
+        return Ok(());
+    }
+    let others = left - 1;
+    add_pairs(alloc, portals, i, i + 1, others)?;
+    add_first_pairs(alloc, portals, i + 1, others)
+}
+
+// ---- what names mean
+
+// Whether these names may mean these portals: each does already, or is new and is bound now.
+fn bind_all(labels: &mut Labels, names: &[Text], ends: &[End]) -> Result<bool, AllocError>
+    ensures { IfOk result (λ bound. BindsOnly labels.old names.now ends.now bound labels.new) }
+{
+    let [name, names @ ..] = names else {
+        return Ok(ends.is_empty());
+    };
+    let [end, ends @ ..] = ends else {
+        return Ok(false);
+    };
+    if !may_mean(labels, name.as_str(), *end) {
+        return Ok(false);
+    }
+    labels.bind(name.as_str(), *end)?;
+    bind_all(labels, names, ends)
+}
+
+// Whether a name means a portal, or nothing yet.
+fn may_mean(labels: &Labels, name: &str, end: End) -> bool
+    ensures { MatchBool result ((get labels.now.names name.now ≡ None) ⊎ (get labels.now.names name.now ≡ Some end))
+        ((get labels.now.names name.now ≢ None) × (get labels.now.names name.now ≢ Some end)) }
+{
+    match labels.end_of(name) {
+        Some(bound) => bound == end,
+        None => true,
+    }
+}
+
+// ---- lines
+
+impl Judge {
+    // A put that was accepted.
+    fn put(
+        &mut self,
+        node: u8,
+        at: &Text,
+        bytes: Bytes,
+        portals: &[Text],
+        number: u64,
+    ) -> Result<bool, AllocError>
+        ensures { IfOk result (λ allowed. Decides self.old (Line.Put node at.now bytes portals.now number) allowed self.new) }
+    {
+        let Some(end) = self.labels.end_of(at.as_str()) else {
+            return Ok(false);
+        };
+        let Some(ends) = self.labels.ends_of(portals)? else {
+            return Ok(false);
+        };
+        let parcel = Parcel { bytes, ends };
+        let allowed = calls::put(&mut self.portals, self.profile, node, end, parcel, number)?;
+        Ok(allowed)
+    }
+
+    // A close.
+    fn closed(&mut self, node: u8, at: &Text, number: u64) -> Result<bool, AllocError>
+        ensures { IfOk result (λ allowed. Decides self.old (Line.Closed node at.now number) allowed self.new) }
+    {
+        let Some(end) = self.labels.end_of(at.as_str()) else {
+            return Ok(false);
+        };
+        let allowed = calls::close(self.alloc, &mut self.portals, node, end, number)?;
+        Ok(allowed)
+    }
+
+    // A get that gave a parcel.
+    fn got(
+        &mut self,
+        node: u8,
+        at: &Text,
+        bytes: &[u8],
+        portals: &[Text],
+        number: u64,
+    ) -> Result<bool, AllocError>
+        ensures { IfOk result (λ allowed. Decides self.old (Line.Got node at.now bytes.now portals.now number) allowed self.new) }
+    {
+        let Some(end) = self.labels.end_of(at.as_str()) else {
+            return Ok(false);
+        };
+        let Some(ends) = calls::next_ends(self.alloc, &self.portals, node, end, number, bytes)?
+        else {
+            return Ok(false);
+        };
+        if !bind_all(&mut self.labels, portals, &ends)? {
+            return Ok(false);
+        }
+        calls::receive(&mut self.portals, node, end, &ends)?;
+        Ok(true)
+    }
+
+    // Whether two names are new and differ, and the node is one.
+    fn may_open(&self, node: u8, first: &Text, second: &Text) -> bool
+        ensures { result ≡ may_open self.now node first.now second.now }
+    {
+        node < self.nodes
+            && self.labels.end_of(first.as_str()).is_none()
+            && self.labels.end_of(second.as_str()).is_none()
+            && first.as_str() != second.as_str()
+    }
+
+    // An open.
+    fn opened(&mut self, node: u8, first: &Text, second: &Text) -> Result<bool, AllocError>
+        ensures { IfOk result (λ allowed. Decides self.old (Line.Opened node first.now second.now) allowed self.new) }
+    {
+        if !self.may_open(node, first, second) {
+            return Ok(false);
+        }
+        let pair = self.pairs;
+        let Some(pairs) = pair.checked_add(1) else {
+            return Err(AllocError);
+        };
+        let side = End {
+            pair,
+            side: Side::A,
+        };
+        self.labels.bind(first.as_str(), side)?;
+        self.labels.bind(second.as_str(), side.opposite())?;
+        self.portals.push(Portal::new(self.alloc, node))?;
+        self.portals.push(Portal::new(self.alloc, node))?;
+        self.pairs = pairs;
+        Ok(true)
+    }
+
+    // A put that was refused.
+    fn put_refused(
+        &self,
+        node: u8,
+        at: &Text,
+        bytes: &[u8],
+        portals: &[Text],
+        why: Refusal,
+    ) -> Result<bool, AllocError>
+        ensures { IfOk result (λ allowed. Decides self.now (Line.PutRefused node at.now bytes.now portals.now why) allowed self.now) }
+    {
+        let Some(end) = self.labels.end_of(at.as_str()) else {
+            return Ok(false);
+        };
+        let Some(ends) = self.labels.ends_of(portals)? else {
+            return Ok(false);
+        };
+        let first = books::first_refusal(
+            &self.portals,
+            self.profile,
+            node,
+            end,
+            bytes,
+            ends.as_slice(),
+        );
+        Ok(calls::may_refuse_put(first, &self.portals, self.nodes, node, end, why))
+    }
+
+    // A get that was refused.
+    fn get_refused(&self, node: u8, at: &Text, why: Refusal) -> bool
+        ensures { Decides self.now (Line.GetRefused node at.now why) result self.now }
+    {
+        let Some(end) = self.labels.end_of(at.as_str()) else {
+            return false;
+        };
+        calls::may_refuse_get(&self.portals, node, end, why)
+    }
+
+    // A close that was refused.
+    fn close_refused(&self, node: u8, at: &Text, why: Refusal) -> bool
+        ensures { Decides self.now (Line.CloseRefused node at.now why) result self.now }
+    {
+        let Some(end) = self.labels.end_of(at.as_str()) else {
+            return false;
+        };
+        calls::may_refuse_close(&self.portals, node, end, why)
+    }
+
+    // An open that was refused.
+    fn open_refused(&self, node: u8, why: Refusal) -> bool
+        ensures { Decides self.now (Line.OpenRefused node why) result self.now }
+    {
+        calls::may_refuse_open(self.nodes, node, why)
+    }
+}
+
+impl Judge {
+    /// A judge of a log of an implementation with so many nodes, of which no line was read yet.
+    pub fn new(alloc: Global, nodes: u8, profile: Profile) -> Result<Self, AllocError>
+        requires some { 0 < nodes }
+        requires few { nodes ≤ 8 }
+        ensures nothing { IfOk result (λ judge. HasAllowed judge nodes profile []) }
+    {
+        let mut portals = Vec::new(alloc);
+        add_first_pairs(alloc, &mut portals, 0, nodes)?;
+        let labels = Labels::first(alloc, nodes)?;
+        Ok(Judge {
+            nodes,
+            profile,
+            portals,
+            pairs: first_pair_count(nodes),
+            labels,
+            alloc,
+        })
+    }
+
+    // Judges a line.
+    fn judge(&mut self, line: Line) -> Result<bool, AllocError>
+        ensures { IfOk result (λ allowed. Decides self.old line allowed self.new) }
+    {
+        match line {
+            Line::Opened {
+                node,
+                first,
+                second,
+            } => self.opened(node, &first, &second),
+            Line::Put {
+                node,
+                at,
+                bytes,
+                portals,
+                number,
+            } => self.put(node, &at, bytes, portals.as_slice(), number),
+            Line::Got {
+                node,
+                at,
+                bytes,
+                portals,
+                number,
+            } => self.got(node, &at, bytes.as_slice(), portals.as_slice(), number),
+            Line::Closed { node, at, number } => self.closed(node, &at, number),
+            Line::OpenRefused { node, why } => Ok(self.open_refused(node, why)),
+            Line::PutRefused {
+                node,
+                at,
+                bytes,
+                portals,
+                why,
+            } => self.put_refused(node, &at, bytes.as_slice(), portals.as_slice(), why),
+            Line::GetRefused { node, at, why } => Ok(self.get_refused(node, &at, why)),
+            Line::CloseRefused { node, at, why } => Ok(self.close_refused(node, &at, why)),
+        }
+    }
+
+    /// Judges the next line of the log: whether the log with it is allowed.
+    ///
+    /// If it isn't, this line is the first that the rules don't allow, and the judge is done with. After an `Err` it is, too.
+    pub fn take(&mut self, line: Line) -> Result<bool, AllocError>
+        ensures allowed { (nodes : ℕ) (profile : Profile) (log : List Line) → HasAllowed self.old nodes profile log →
+            IfOk result (λ allowed. MatchBool allowed (HasAllowed self.new nodes profile (log ++ line ∷ []))
+            (IsAllowed nodes profile (log ++ line ∷ []) → ⊥)) }
+    {
+        self.judge(line)
+    }
+}
+
+/// What a judge that has allowed a log tells: the machine has a run with these calls and these answers.
+pub fn what_is_allowed()
+    ensures law { (judge : Desk) (nodes : ℕ) (profile : Profile) (log : List Line) → HasAllowed judge nodes profile log → IsAllowed nodes profile log }
+{}

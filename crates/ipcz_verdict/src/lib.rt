@@ -1,0 +1,11 @@
+//! A judge of logs: whether the promise allows the calls that another implementation has recorded, with their answers.
+#![tactic(auto)]
+
+mod books;
+mod calls;
+mod judge;
+mod line;
+mod portal;
+
+pub use judge::{Judge, what_is_allowed};
+pub use line::Line;

@@ -1,0 +1,106 @@
+"""Makes logs of random scripts, wrong ones among them, and prints which ipcz_judge and tools/judge.py judge differently.
+
+    python3 tools/compare_judges.py PROGRAM [COUNT [FIRST]] [--folder FOLDER]
+
+Of each of COUNT scripts (200 if nothing is said), drawn from the seeds FIRST and up, the log of its transcript by tools/model.py must be allowed. Some copies of the
+log are changed in one place each: a line lost, doubled, or swapped with the next one; a number, a node, a name, the bytes, a portal or a refusal changed; some bytes
+spoiled. The program must say of each what tools/judge.py says, with its status. With `--folder` the logs and what is to be written are put
+there, for `rt try --cases FOLDER`, and no program is run.
+"""
+import collections
+import json
+import pathlib
+import random
+import subprocess
+import sys
+from typing import Any
+
+import asked
+import judge
+import model
+from compare_with_model import of_any_calls
+from record_calls import log_of, written
+
+CHANGES = 6
+
+
+def other(draw: random.Random, line: dict[str, Any], log: list[dict[str, Any]]) -> None:
+    """Changes one member of a line."""
+    name = draw.choice([member for member in line if member != "op"])
+    names = [value for each in log for key, value in each.items() if key in ("at", "first", "second")] + ["nobody"]
+    match name:
+        case "n":
+            line["n"] = max(0, line["n"] + draw.choice([-1, 1, 2]))
+        case "node":
+            line["node"] = draw.randrange(9)
+        case "bytes":
+            line["bytes"] = draw.choice(["", "a", "b", line["bytes"] + "x", "x" * 257])
+        case "portals":
+            line["portals"] = draw.choice([line["portals"][::-1], line["portals"][1:], [*line["portals"], draw.choice(names)]])
+        case "refused":
+            del line["refused"]
+            line |= draw.choice([{"n": 0}, {"n": 1}, {"refused": draw.choice(judge.WORDS)}])
+        case _:
+            line[name] = draw.choice(names)
+
+
+def changed(draw: random.Random, log: list[dict[str, Any]]) -> bytes:
+    """The log with one change."""
+    log = json.loads(json.dumps(log))
+    at = draw.randrange(1, len(log))
+    match draw.randrange(8):
+        case 0:
+            del log[at]
+        case 1:
+            log.insert(at, log[at])
+        case 2:
+            log[at - 1 : at + 1] = log[at - 1 : at + 1][::-1]
+        case 3:
+            log[at] = {"node": log[at]["node"], "op": log[at]["op"], "at": log[at].get("at", "x"), "bytes": "", "refused": draw.choice(judge.WORDS)}
+        case 4:
+            text = bytearray(written(log).encode())
+            text[draw.randrange(len(text))] = draw.randrange(256)
+            return bytes(text)
+        case _:
+            other(draw, log[at], log)
+    return written(log).encode()
+
+
+def logs_of(seed: int) -> list[bytes]:
+    """The log of a random script, and changed copies of it."""
+    draw = random.Random(seed)
+    script = of_any_calls(draw)
+    log = log_of(script, model.transcript(script)[0].splitlines())
+    return [written(log).encode()] + [changed(draw, log) for _ in range(CHANGES) if len(log) > 1]
+
+
+def main() -> int:
+    parser = asked.parser(__doc__)
+    parser.add_argument("program", type=pathlib.Path)
+    parser.add_argument("count", type=int, nargs="?", default=200)
+    parser.add_argument("first", type=int, nargs="?", default=0)
+    parser.add_argument("--folder", type=pathlib.Path)
+    arguments = parser.parse_args()
+    wrong = 0
+    said: collections.Counter[str] = collections.Counter()
+    for seed in range(arguments.first, arguments.first + arguments.count):
+        for number, log in enumerate(logs_of(seed)):
+            wanted = judge.verdict(log)
+            said[wanted.split(": ")[-1]] += 1
+            if number == 0 and wanted != "allowed":
+                print(f"{seed}.{number}: tools/judge.py says {wanted}")
+                wrong += 1
+            if arguments.folder:
+                (arguments.folder / f"{seed}.{number}").write_bytes(log)
+                (arguments.folder / f"{seed}.{number}.stdout").write_text(wanted + "\n")
+                continue
+            done = subprocess.run([asked.program(arguments.program)], input=log, capture_output=True)
+            if (done.stdout.decode(), done.returncode) != (wanted + "\n", 0 if wanted == "allowed" else 2):
+                print(f"{seed}.{number}: the program says {done.stdout.decode()!r}, status {done.returncode}; tools/judge.py {wanted!r}")
+                wrong += 1
+    print(", ".join(f"{count} {verdict}" for verdict, count in sorted(said.items())) + f"; {wrong} differ")
+    return 1 if wrong else 0
+
+
+if __name__ == "__main__":
+    sys.exit(main())
