@@ -163,7 +163,7 @@ IPCZ_LOOP_API void *ipcz_node_data(ipcz_node *node, ipcz_portal portal);
  *
  * How long it takes. A call of ipcz_node_send goes on while nodes have turns, also for what others send meanwhile, but takes no more than
  * IPCZ_LOOP_ROUNDS_ looks: portals that chase each other in a circle don't hold it for ever. What is left then goes on in the next call. */
-enum { IPCZ_LOOP_TURNS_ = 1 << 10, IPCZ_LOOP_ROUNDS_ = 1 << 14 };
+enum { IPCZ_LOOP_TURNS_ = 1 << 10, IPCZ_LOOP_ROUNDS_ = 1 << 14, IPCZ_LOOP_RETRY_ = 256 };
 
 /* A thread that sleeps: at portals, or, if it has no parcel, until the node is rung. */
 typedef struct ipcz_waiter_ {
@@ -191,6 +191,7 @@ struct ipcz_node {
     size_t data_count, data_room;
     int fd; /* -1 until it is asked for */
     bool is_rung, is_stopped;
+    unsigned served; /* how often it was asked to take turns, as far as an unsigned counts */
     ipcz_status refused; /* why a turn of some node was refused, if one was since this node took turns */
     uint8_t number;
     char apart[64]; /* so that locks of different nodes don't share a line of the processor's cache */
@@ -277,6 +278,11 @@ static inline bool ipcz_node_hand_out_(ipcz_node *node) {
     return has_given;
 }
 
+/* Now and then: lets a router that was told that there is no slot for its shorter way ask again; whether one does. */
+static inline bool ipcz_node_retries_(ipcz_node *node) {
+    return node->served++ % IPCZ_LOOP_RETRY_ == 0 && ipcz_cell_retry(&node->cell) == IPCZ_AGAIN;
+}
+
 /* Takes turns of a node until it has none, or one is refused, and hands out what has come; whether it had one. */
 static inline bool ipcz_node_turns_(ipcz_node *node, bool was_called) {
     bool had_turn = false, has_given;
@@ -287,7 +293,7 @@ static inline bool ipcz_node_turns_(ipcz_node *node, bool was_called) {
             node->refused = ipcz_cell_acts(&node->cell, IPCZ_LOOP_TURNS_, &acts);
             /* (of a call that is refused the turns before stand) */
             had_turn = had_turn || node->refused || acts;
-        } while (node->refused == IPCZ_RACED || acts == IPCZ_LOOP_TURNS_);
+        } while (node->refused == IPCZ_RACED || acts == IPCZ_LOOP_TURNS_ || (!node->refused && ipcz_node_retries_(node)));
         if (had_turn) ipcz_node_ring_(node);
         has_given = (had_turn || was_called) && ipcz_node_hand_out_(node);
     } while (has_given && !node->refused);

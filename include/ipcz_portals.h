@@ -236,6 +236,7 @@ ipcz_status ipcz_cell_close(ipcz_cell *cell, ipcz_portal at);
 /* Takes turns of the node until it has no act, or limit acts were taken.
  *   acts  how many acts were taken; fewer than limit: the node has nothing to do until another node acts, or it is called. With a limit of
  *         1 it takes the first act that is possible, if there is one
+ * Portals that travel in a circle have acts for ever: see CIRCLES at ipcz_put.
  * IPCZ_NUMBERS_END, IPCZ_OUT_OF_MEMORY, IPCZ_RACED: the acts before it stand; acts is not written. */
 ipcz_status ipcz_cell_acts(ipcz_cell *cell, uint64_t limit, uint64_t *acts);
 
@@ -243,6 +244,20 @@ ipcz_status ipcz_cell_acts(ipcz_cell *cell, uint64_t limit, uint64_t *acts);
  * node hasn't taken what this one has sent, also when ipcz_cell_acts finds nothing to do: whoever waits for it takes turns of the others,
  * too. Another node may send something meanwhile. */
 bool ipcz_cell_quiet(ipcz_cell *cell);
+
+/* What ipcz_cell_retry found. */
+#define IPCZ_NONE_WAITS 0u
+#define IPCZ_NO_SLOT 1u
+#define IPCZ_AGAIN 2u
+
+/* Lets a portal's former router ask again for the shorter way that it makes, if it was told that there is no link word for that and one is to
+ * be had now. It doesn't ask again by itself, and until then the pair's parcels go the longer way. In a table of ipcz_cells_create_lasting
+ * whose slots are all in use at times, call it now and then, and take turns of the nodes behind it.
+ *   IPCZ_NONE_WAITS  no router of the node was told so, or the handle has no cell
+ *   IPCZ_NO_SLOT     one was, and no slot, or no number, is left for it
+ *   IPCZ_AGAIN       one was, and asks again at the next turns of the node; others may wait behind it
+ * Where no router of the node waits it looks at nothing; else at the routers, until it finds one, and at each slot, until it finds one. */
+uint32_t ipcz_cell_retry(ipcz_cell *cell);
 
 /* How many link words of the table were used, when their count was read; later they may be more. */
 uint32_t ipcz_cell_claimed(ipcz_cell *cell);
@@ -270,8 +285,9 @@ bool ipcz_cell_node(ipcz_cell *cell, uint8_t *node);
  * to node for ever. Three puts are enough, on three nodes each of which sends its portal to one neighbour to the other one:
  *     put 0>1 [0>2], put 1>2 [1>0], put 2>0 [2>1]      (i>j is what ipcz_first(i, j, 3) names)
  * Then the nodes never come to rest, nothing of these pairs can be got, and link words are taken until none is left, so that each later
- * open is IPCZ_NO_WORD. To close all portals doesn't end it; to destroy the world does. It is seen by ipcz_settle, which isn't quiet
- * however high its limit. A program avoids it if each portal travels only through pairs of a lower number than its own (pair of
+ * open is IPCZ_NO_WORD (in a table of ipcz_cells_create_lasting they come back as they are let go). To close all portals doesn't end it; to
+ * destroy the world does, or all cells. It is seen by ipcz_settle, which isn't quiet however high its limit, and by ipcz_cell_acts, which takes
+ * as many acts as it may time and again while nothing comes. A program avoids it if each portal travels only through pairs of a lower number than its own (pair of
  * ipcz_portal): then there is no circle. */
 static inline ipcz_status ipcz_put(ipcz_world *world, uint8_t node, ipcz_portal at, const void *bytes, size_t size,
                                    const ipcz_portal *portals, size_t count, uint64_t *number) {

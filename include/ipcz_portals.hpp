@@ -155,6 +155,9 @@ class World {
     mutable ::ipcz_world world_ = IPCZ_WORLD_INIT;
 };
 
+// What Cell::retry found.
+enum class Retry : std::uint32_t { none_waits = IPCZ_NONE_WAITS, no_slot = IPCZ_NO_SLOT, again = IPCZ_AGAIN };
+
 // A node's cell, which is freed with it. A thread that has it calls it without a lock. It can be moved, also to another thread, and a cell
 // that was moved from refuses each call.
 class Cell {
@@ -228,6 +231,9 @@ class Cell {
 
     // Whether the node has nothing to do, nothing of it waits to be taken by another node, and no message to it was found.
     bool quiet() const { return ::ipcz_cell_quiet(&cell_); }
+
+    // Lets a router that was told that there is no slot for its shorter way ask again, if one is to be had now: see ipcz_cell_retry.
+    Retry retry() { return static_cast<Retry>(::ipcz_cell_retry(&cell_)); }
 
     std::uint32_t claimed() const { return ::ipcz_cell_claimed(&cell_); }
 

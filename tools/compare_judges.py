@@ -7,6 +7,7 @@ log are changed in one place each: a line lost, doubled, or swapped with the nex
 spoiled. The program must say of each what tools/judge.py says, with its status. With `--folder` the logs and what is to be written are put
 there, for `rt try --cases FOLDER`, and no program is run.
 """
+import argparse
 import collections
 import json
 import pathlib
@@ -76,11 +77,17 @@ def logs_of(seed: int) -> list[bytes]:
 
 def main() -> int:
     parser = asked.parser(__doc__)
-    parser.add_argument("program", type=pathlib.Path)
+    parser.add_argument("program")
     parser.add_argument("count", type=int, nargs="?", default=200)
     parser.add_argument("first", type=int, nargs="?", default=0)
     parser.add_argument("--folder", type=pathlib.Path)
     arguments = parser.parse_args()
+    program = None
+    if not arguments.folder:
+        try:
+            program = asked.program(arguments.program)
+        except argparse.ArgumentTypeError as why:
+            parser.error(str(why))
     wrong = 0
     said: collections.Counter[str] = collections.Counter()
     for seed in range(arguments.first, arguments.first + arguments.count):
@@ -94,7 +101,7 @@ def main() -> int:
                 (arguments.folder / f"{seed}.{number}").write_bytes(log)
                 (arguments.folder / f"{seed}.{number}.stdout").write_text(wanted + "\n")
                 continue
-            done = subprocess.run([asked.program(arguments.program)], input=log, capture_output=True)
+            done = subprocess.run([program], input=log, capture_output=True)
             if (done.stdout.decode(), done.returncode) != (wanted + "\n", 0 if wanted == "allowed" else 2):
                 print(f"{seed}.{number}: the program says {done.stdout.decode()!r}, status {done.returncode}; tools/judge.py {wanted!r}")
                 wrong += 1

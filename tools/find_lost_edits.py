@@ -3,7 +3,7 @@
     python3 tools/find_lost_edits.py    prints each, and fails if there is one
 
 It looks at the folders `must-fail`, `edits` and `harmless-edits` of all crates and at the turns of `tools/turn_definitions.py`. The gate fails
-for an edit that it can't make, but late, and not with each kit for one of `must-fail`; the turns are tried by hand.
+for an edit that it can't make, but late, and not with each kit for one of `must-fail`; and it tries a third of the turns.
 """
 import sys
 from collections.abc import Iterator

@@ -31,7 +31,7 @@ HEADER = TOP / "include/ipcz_portals.h"
 LOOP = TOP / "include/ipcz_loop.h"
 # Where a call is looked for that may stand as an example: what a reader may take over comes first.
 CALLERS = ("ipcz_example", "ipcz_example_threads", "ipcz_promise_tests", "ipcz_world_tests", "ipcz_fabric_tests", "ipcz_faults", "ipcz_threads", "ipcz_bench", "ipcz_bench_threads", "ipcz_fabric")
-C_CALLERS = ("hello.c", "travels.c", "own_nodes.c", "cells.c", "sleeping.c", "two_threads.c", "loop_hello.c", "loop_request.c", "loop_poll.c", "loop_stress.c", "loops.c")
+C_CALLERS = ("hello.c", "travels.c", "own_nodes.c", "cells.c", "sleeping.c", "two_threads.c", "requests.c", "loop_hello.c", "loop_request.c", "loop_poll.c", "loop_stress.c", "loops.c")
 FUNCTION = re.compile(r"^(?P<indent> *)pub fn (?P<name>\w+)", re.MULTILINE)
 BLOCK = re.compile(r"^impl(?:<[^>]*>)? (?P<type>\w+)(?:<[^>]*>)? \{", re.MULTILINE)
 C_CALL = re.compile(r"/\* (?P<comment>(?:(?!\*/).)*?)\*/\n(?P<head>(?:static inline |IPCZ_LOOP_API )?\w[\w *]*?\b(?P<name>ipcz_\w+)\([^;{]*\))(?: \{|;)", re.DOTALL)
@@ -68,7 +68,8 @@ PAGES = [
         Section("Calls", "", "", ["ipcz_promise/src/calls.rt"], r"", "ipcz_promise"),
     ]),
     Page("WORLD", "A world", "All nodes behind one value, for one thread. `ipcz_world`, with the types of `ipcz_node` and `ipcz_base`.", [
-        Section("World", "", "World", ["ipcz_world/src/world.rt"], r"\bworld"),
+        Section("World", "A step is `Step::Open(node)`, `Put { node, at, bytes, ends }`, `PutWide` with the same, `Get { node, at }`, `Close { node, at }` or `Turn(node)`. Its reply is `Reply::Opened(end, end)`, "
+                "`Put(number)`, `Got(number, parcel)`, `Closed(number)`, `Turned(what happened)` or `Refused(why)`.", "World", ["ipcz_world/src/world.rt"], r"\bworld"),
     ]),
     Page("CELLS", "Cells", "A node for each thread, without locks, over one shared table. `ipcz_cell`. [THREADS.md](../THREADS.md) says how they are used.", [
         Section("Making a table, and ending it", "", "", ["ipcz_cell/src/making.rt", "ipcz_cell/src/ending.rt"], r""),
@@ -79,7 +80,7 @@ PAGES = [
     Page("HUBS", "Hubs and portals", "Nodes that threads share, with a lock round each. `ipcz_fabric`. [THREADS.md](../THREADS.md) says how they are used.", [
         Section("Hub", "", "Hub", ["ipcz_fabric/src/hub.rt"], r"\bhub"),
         Section("Workers", "", "", ["ipcz_fabric/src/workers.rt"], r""),
-        Section("Portal", "", "Portal", ["ipcz_fabric/src/portal.rt"], r"\b\w+"),
+        Section("Portal", "", "Portal", ["ipcz_fabric/src/portal.rt"], r"\b(?:at|portal|only|peer)"),
         Section("Portals", "The portals that a parcel brought.", "Portals", ["ipcz_fabric/src/portals.rt"], r"\bportals"),
     ]),
 ]
@@ -163,7 +164,9 @@ def call_lines(section: Section, path: pathlib.Path, text: str, found: re.Match[
     key = section.key(found["name"])
     lines = [f"### {key}", "", "```rust", *kept, "```", "", doc_above(text, found.start()), *when_refused(key)]
     called = rf"(?:{section.receiver}\.|\b{section.owner}(?:::<[^>]*>)?::)" if section.owner else r"(?<![\w.])"
-    pattern = rf"{called}{found['name']}(?:::<[^>]*>+)?\("
+    # (a call that waits is given the handle for that, by which it is told from another one of its name)
+    handle = r"(?=\s*&?(?:self\.)?rt\b)" if re.search(r"\brt: &R\b", head) else ""
+    pattern = rf"{called}{found['name']}(?:::<[^>]*>+)?\({handle}"
     if one := example(pattern, rattle_callers(path.relative_to(TOP / 'crates').parts[0])):
         lines += ["", f"As in [{one[1].relative_to(TOP / 'crates')}](../../{one[1].relative_to(TOP)}):", "", "```rust", one[0], "```"]
     shown = ", ".join(f"`{it}`" for it in dict.fromkeys(re.findall(r"ensures (\w+) \{", head)))

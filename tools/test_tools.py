@@ -1,6 +1,6 @@
 """Tests the tools themselves: what they say to whoever calls them wrongly, and that the model writes the stored transcript. And whether each
-link of a page, and each part of a page that a page or a comment names, is there; what a page shows as out of a file stands in it; and the
-scripts that a page shows print, by the model, what stands beneath them, and those of docs/TOUR.md what a turned model prints; docs/reference
+link of a page, and each part of a page that a page or a comment names, is there; no page is too long to be read in one go; what a page shows as out of a file stands in
+it; and the scripts that a page shows print, by the model, what stands beneath them, and those of docs/TOUR.md what a turned model prints; docs/reference
 and docs/theorem.html are what the sources say, and docs/SIZES.md is so nearly; the table of what is
 taken as given counts docs/trusted.txt, and no crate has an axiom of its own.
 
@@ -31,11 +31,15 @@ HERE = pathlib.Path(__file__).resolve().parent
 SHARED = ("asked", "peers")
 # A page and the title of a part of it, as pages and comments name it, there perhaps over the end of a line.
 NAMED = re.compile(r'([A-Z_]+)\.md\)?,\s+(?:(?://[/!]?|--|#)\s+)?"([^"]+)"(?: and "([^"]+)")?')
+# A part that a page names in brackets by itself: it is one of the same page.
+OWN = re.compile(r'(?<!\.md\)) ?\("([A-Z][^"]+)"(?:(?: and|,) "([^"]+)")?\)')
+# No page has more words than this, but the rules of the protocol and what is looked up in docs/reference.
+MOST_WORDS = 6000
 # What a page shows as out of a file.
 QUOTED = re.compile(r"^<!-- out of (\S+) -->\n```\w*\n(.*?)^```$", re.MULTILINE | re.DOTALL)
 # Tools that run a program which is given to them.
-OF_A_PROGRAM = ("benchmark", "compare_with_model", "refuse_growth", "soak", "try_pages")
-# What the model answers of bytes that are no script, or barely one, by docs/PROTOCOL.md, "The script".
+OF_A_PROGRAM = ("benchmark", "compare_judges", "compare_with_model", "refuse_growth", "soak", "try_pages")
+# What the model answers of bytes that are no script, or barely one, by docs/SCRIPTS.md, "The script".
 SCRIPT = b'{"nodes":1,"words":1,"commands":[["put","x",%s]]}'
 TEXTS = {
     b"": "NotJson", b"[]": "BadShape 0", b"\xef\xbb\xbf" + SCRIPT % b'""': "NotJson", b" " * 1048577: "TooLong", b" " * 1048576: "NotJson",
@@ -102,10 +106,16 @@ def faults_of_the_model() -> list[str]:
 
 
 def faults_of_readme() -> list[str]:
-    """README shows the example of the library, but for its main."""
-    shown = re.search(r"^```rust\n(.*?)^```$", (TOP / "README.md").read_text(), re.M | re.S)
+    """README shows the example of the library, but for its main; and a script with what it prints, each line with a remark behind it."""
+    text = (TOP / "README.md").read_text()
+    shown = re.search(r"^```rust\n(.*?)^```$", text, re.M | re.S)
     source = (TOP / "crates/ipcz_example/src/main.rt").read_text()
-    return [] if shown and shown[1].strip() == source.partition("fn main(")[0].strip() else ["README.md doesn't show crates/ipcz_example but for its main"]
+    faults = [] if shown and shown[1].strip() == source.partition("fn main(")[0].strip() else ["README.md doesn't show crates/ipcz_example but for its main"]
+    script = re.search(r'^```\n(\{"nodes"[^\n]*)\n```\n.*?^```\n(.*?)^```$', text, re.M | re.S)
+    printed = [re.sub(r" {3,}.*", "", line) for line in script[2].splitlines()] if script else []
+    if not script or printed != model.answer(script[1].encode())[0].splitlines():
+        faults.append("README.md doesn't show a script with what it prints")
+    return faults
 
 
 def faults_of_cases() -> list[str]:
@@ -135,9 +145,9 @@ def titles(page: pathlib.Path) -> list[str]:
 
 
 def faults_of_links() -> list[str]:
-    pages = [*sorted(TOP.glob("*.md")), *sorted((TOP / "docs").rglob("*.md"))]
+    pages = [*sorted(TOP.glob("*.md")), *sorted((TOP / "docs").rglob("*.md")), *sorted((TOP / "crates").glob("*/README.md"))]
     code = [path for folder in ("crates", "callers", "include", "tools") for path in (TOP / folder).rglob("*") if "out" not in path.parts and path.is_file()]
-    named = {page.stem: titles(page) for page in pages}
+    named = {page.stem: titles(page) for page in pages if page.parent.parent != TOP / "crates"}
     faults = []
     for page in pages:
         for target, part in re.findall(r"\]\((?!https?:)([^)#]*)#?([^)]*)\)", page.read_text()):
@@ -150,12 +160,27 @@ def faults_of_links() -> list[str]:
     return faults
 
 
+def faults_of_pages() -> list[str]:
+    """A page that is too long, a part that a page says that it has, and a script of the tutorial without a picture."""
+    pages = [*sorted(TOP.glob("*.md")), *sorted((TOP / "docs").glob("*.md"))]
+    faults = [f"{it.name} has more than {MOST_WORDS} words" for it in pages if it.stem != "PROTOCOL" and len(it.read_text().split()) > MOST_WORDS]
+    faults += [f"TUTORIAL.md, script {it.number}, has no picture" for it in try_pages.every_script() if it.page == "TUTORIAL" and not it.picture]
+    for page in pages:
+        faults += [f"{page.name} has no part {it!r}" for named in OWN.findall(page.read_text()) for it in named if it and it not in titles(page)]
+    return faults
+
+
 def faults_of_quotes() -> list[str]:
+    """What a page shows as out of a file and isn't; and code of a page that isn't out of one, but for the example that README shows in part."""
     faults = []
-    for page in [TOP / "README.md", *sorted((TOP / "docs").glob("*.md"))]:
-        for name, shown in QUOTED.findall(page.read_text()):
+    for page in [TOP / "README.md", *sorted((TOP / "docs").glob("*.md")), *sorted((TOP / "callers").glob("*/README.md"))]:
+        text = page.read_text()
+        for name, shown in QUOTED.findall(text):
             if not (TOP / name).is_file() or f"\n{shown}" not in "\n" + (TOP / name).read_text():
-                faults.append(f"{page.name}: what it shows as out of {name} doesn't stand there: {shown.splitlines()[0]}")
+                faults.append(f"{page.relative_to(TOP)}: what it shows as out of {name} doesn't stand there: {shown.splitlines()[0]}")
+        blocks = [it for it in re.finditer(r"^```(?:rust|c|cpp|go|python)$", text, re.MULTILINE) if not text[:it.start()].endswith(" -->\n")]
+        if len(blocks) > (page == TOP / "README.md"):
+            faults.append(f"{page.relative_to(TOP)} shows code that is out of no file")
     return faults
 
 
@@ -164,7 +189,7 @@ def main() -> None:
     tools = sorted(path.stem for path in HERE.glob("*.py") if path.stem not in SHARED)
     faults = [fault for tool in tools for fault in faults_of(tool)]
     faults += faults_of_a_missing_program() + faults_of_ready() + faults_of_the_model()
-    faults += faults_of_readme() + faults_of_links() + faults_of_quotes() + faults_of_cases()
+    faults += faults_of_readme() + faults_of_links() + faults_of_pages() + faults_of_quotes() + faults_of_cases()
     faults += try_pages.faults(try_pages.by_model) + tour.faults() + make_reference.faults() + make_theorem.faults() + count_sizes.faults() + trusted.faults()
     if faults:
         sys.exit("\n".join(faults))

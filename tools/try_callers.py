@@ -9,8 +9,8 @@ from there, by the flags that pkg-config tells; one in C by CMake, too, which fi
 valgrind, which must find no error, and no memory that isn't freed, and one with a mutex under helgrind, which must find no race (it takes no
 account of atomic steps, and only these order the calls on two cells). The tests of `callers/rust`, `callers/go` and `callers/python` are run, and so is what
 stands in `callers/rust/examples` and `callers/python/examples`. A caller whose
-compiler isn't on the machine is left out. The statuses of the header must be those of `Refusal`, the crate and CHANGELOG.md must have the header's version, and docs/C.md and README must
-show these callers.
+compiler isn't on the machine is left out. The statuses of the header must be those of `Refusal`, the crate and CHANGELOG.md must have the header's version. (That the pages
+show these callers word for word tools/test_tools.py tests.)
 """
 import argparse
 import os
@@ -198,21 +198,6 @@ class Callers:
             if f"\n{line}" not in (TOP / path).read_text():
                 self.wrong.append(f"{path} has no line {line.strip()}, which the version of include/ipcz_portals.h wants")
 
-    def shown(self) -> None:
-        """Compares what docs/C.md, README and those of the callers show with the programs that are run."""
-        page = (TOP / "docs/C.md").read_text()
-        programs = re.findall(r"^```c\n(.*?)^```$", page, re.M | re.S)
-        sources = [(CALLERS / "c" / name).read_text() for name in ("hello.c", "own_nodes.c", "loop_hello.c", "loop_poll.c")]
-        if len(programs) != 4 or any(shown not in source for shown, source in zip(programs, sources)) or programs[::2] != sources[::2]:
-            self.wrong.append("docs/C.md doesn't show callers/c/hello.c and loop_hello.c, and parts of own_nodes.c and loop_poll.c")
-        part = re.search(r"^```c\n(.*?)^```$", (TOP / "README.md").read_text(), re.M | re.S)
-        if not part or part[1] not in sources[0]:
-            self.wrong.append("README.md doesn't show a part of callers/c/hello.c")
-        for page in sorted(CALLERS.glob("*/README.md")):
-            quoted = re.findall(r"^<!-- out of (\S+) -->\n```\w+\n(.*?)^```$", page.read_text(), re.M | re.S)
-            if not quoted or any(shown not in (TOP / name).read_text() for name, shown in quoted):
-                self.wrong.append(f"{page.relative_to(TOP)} shows what stands in no caller")
-
 
 def main() -> None:
     given = argparse.ArgumentParser(description=__doc__, formatter_class=argparse.RawDescriptionHelpFormatter)
@@ -228,7 +213,6 @@ def main() -> None:
         callers.prefix.symlink_to(first.rename(pathlib.Path(room, "moved")))
         callers.statuses()
         callers.versions()
-        callers.shown()
         callers.compiled("cc", "gnu11", "c", ".c")
         callers.compiled("c++", "c++11", "cpp", ".cc")
         callers.cmake()

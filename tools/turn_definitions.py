@@ -9,7 +9,7 @@ Each turn is made on a copy of its own, of the crates that the law stands on. Wh
 what a turn doesn't touch isn't proved again: prove the crates up to `ipcz_world` before. `--room` keeps the copies in a folder, from which
 the next try of the same turn goes on, each with what the law's check said in `crates/law.txt`. `--below` checks only the crates below the
 law, for who writes a turn. Names joined by `+` are turned at once, which saves time if each fails at a lemma of its own. Two calls may run
-side by side.
+side by side. The gate asks the law alone, of a third of the turns (`try_turns.py`).
 
 If a proof says a definition a second time, the turn may change that text too. A turn counts as refused only if a lemma fails that says that
 the law holds: one whose statement ends in a group of the invariant or in a fact that is kept beside it, or one in the folder of
@@ -525,6 +525,11 @@ def verdict(crates: str, edits: list[Edit], only_below: bool) -> str:
     done, text = check(world)
     with open(f"{crates}/law.txt", "w") as file:
         file.write(text)
+    return of_law(crates, done, text)
+
+
+def of_law(crates: str, done: bool, text: str) -> str:
+    """Returns what a check of the law comes to, that said this."""
     if done:
         return "NOT REFUSED"
     found = failures(crates, text)

@@ -101,6 +101,20 @@ func (c *Cell) Quiet() bool {
 	return bool(C.ipcz_cell_quiet(c.c()))
 }
 
+// What Retry found.
+const (
+	NoneWaits = C.IPCZ_NONE_WAITS // no router of the node was told that there is no slot
+	NoSlot    = C.IPCZ_NO_SLOT    // one was, and no slot, or no number, is left for it
+	Again     = C.IPCZ_AGAIN      // one was, and asks again at the next turns of the node; others may wait behind it
+)
+
+// Retry lets a router that was told that there is no slot for its shorter way ask again, if one is to be had now: NoneWaits, NoSlot or Again. It
+// doesn't ask again by itself, and until then parcels go the longer way. In a table of NewLastingCells whose slots are all in use at times, call
+// it now and then, and take turns of the nodes behind it.
+func (c *Cell) Retry() uint32 {
+	return uint32(C.ipcz_cell_retry(c.c()))
+}
+
 // Claimed tells how many link words of the table were used, when their count was read.
 func (c *Cell) Claimed() uint32 {
 	return uint32(C.ipcz_cell_claimed(c.c()))

@@ -24,6 +24,8 @@ const Slots = 4096
 const (
 	mostTurns = 1 << 10
 	mostLooks = 1 << 14
+	// After so many rounds of turns a node's routers may ask again for a slot.
+	retryAfter = 256
 )
 
 // A Loop is a number of nodes.
@@ -39,6 +41,8 @@ type Node struct {
 	lock    sync.Mutex
 	cell    *portals.Cell
 	waiting []*waiter
+	// How often it was asked to take turns.
+	served uint32
 	// Why a turn of some node was refused, if one was since this node took turns.
 	refused error
 	stopped bool
@@ -173,7 +177,7 @@ func (n *Node) turns(called bool) bool {
 		acts, err := n.cell.Acts(mostTurns)
 		// (of acts that were refused those before stand)
 		had = had || acts > 0 || err != nil && err != portals.NotCreated
-		if err == portals.Raced || acts == mostTurns {
+		if err == portals.Raced || acts == mostTurns || err == nil && n.retries() {
 			continue
 		}
 		n.refused = err
@@ -184,6 +188,12 @@ func (n *Node) turns(called bool) bool {
 			return had
 		}
 	}
+}
+
+// Now and then: lets a router that was told that there is no slot for its shorter way ask again; whether one does.
+func (n *Node) retries() bool {
+	n.served++
+	return n.served%retryAfter == 0 && n.cell.Retry() == portals.Again
 }
 
 // Makes a call, and takes the turns that follow it.

@@ -34,6 +34,17 @@ fn cells_by(
 }
 
 // SAFETY, of each call below: as for `World`.
+/// What [`Cell::retry`] found.
+#[derive(Clone, Copy, Debug, PartialEq, Eq)]
+pub enum Retry {
+    /// No router of the node was told that there is no slot.
+    NoneWaits,
+    /// One was, and no slot, or no number, is left for it.
+    NoSlot,
+    /// One was, and asks again at the next turns of the node; others may wait behind it.
+    Again,
+}
+
 impl Cell {
     /// Opens a pair, whose portals are both the node's at first. It is tried again if another thread came between. `NoWord`, `NumbersEnd`,
     /// `OutOfMemory`.
@@ -117,6 +128,17 @@ impl Cell {
     /// Whether the node has nothing to do, nothing of it waits to be taken by another node, and no message to it was found.
     pub fn quiet(&mut self) -> bool {
         unsafe { raw::ipcz_cell_quiet(&mut self.0) }
+    }
+
+    /// Lets a router that was told that there is no slot for its shorter way ask again, if one is to be had now. It doesn't ask again by itself,
+    /// and until then parcels go the longer way. In a table of [`lasting_cells`] whose slots are all in use at times, call it now and then, and
+    /// take turns of the nodes behind it.
+    pub fn retry(&mut self) -> Retry {
+        match unsafe { raw::ipcz_cell_retry(&mut self.0) } {
+            0 => Retry::NoneWaits,
+            1 => Retry::NoSlot,
+            _ => Retry::Again,
+        }
     }
 
     /// How many link words of the table were used, when their count was read.

@@ -17,7 +17,7 @@ mod table;
 
 use std::fmt;
 
-pub use cells::{cells, lasting_cells, Cell};
+pub use cells::{cells, lasting_cells, Cell, Retry};
 pub use raw::Portal;
 
 const MAX_PRINTED_BYTES: usize = 256;

@@ -139,6 +139,7 @@ unsafe extern "C" {
     pub fn ipcz_cell_close(cell: *mut CellHandle, at: Portal) -> u32;
     pub fn ipcz_cell_acts(cell: *mut CellHandle, limit: u64, acts: *mut u64) -> u32;
     pub fn ipcz_cell_quiet(cell: *mut CellHandle) -> bool;
+    pub fn ipcz_cell_retry(cell: *mut CellHandle) -> u32;
     pub fn ipcz_cell_claimed(cell: *mut CellHandle) -> u32;
     pub fn ipcz_cell_word(cell: *mut CellHandle, i: u32, word: *mut u64) -> bool;
     pub fn ipcz_cell_holds(cell: *mut CellHandle, portal: Portal) -> bool;

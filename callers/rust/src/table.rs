@@ -10,7 +10,7 @@
 //! **No thread sleeps on.** A parcel comes to a portal only by a call or a turn that is made under the node's lock. Who wants to wait looks under this lock,
 //! finds nothing, and gives it back only by falling asleep, in the list of the node; whoever makes a later call or turn there gets the parcel for it
 //! (`State::hand_out`). A task is woken by each later turn, and looks again itself.
-use crate::{lasting_cells, Cell, Parcel, Portal as Name, Refused};
+use crate::{lasting_cells, Cell, Parcel, Portal as Name, Refused, Retry};
 use std::sync::{Arc, Condvar, Mutex, MutexGuard, PoisonError};
 use std::task::Waker;
 use std::time::{Duration, Instant};
@@ -18,6 +18,8 @@ use std::time::{Duration, Instant};
 const TURNS: u64 = 1 << 10;
 // A call takes no more looks at nodes than this: portals that chase each other in a circle don't hold it for ever.
 const LOOKS: usize = 1 << 14;
+// After so many rounds of turns a node's routers may ask again for a slot.
+const RETRY: u32 = 256;
 
 /// What a receive came to: at which place of the list of portals, and the parcel, or why none comes there; or why no portal has anything.
 pub type Answer = Result<(usize, Result<Parcel, Refused>), Refused>;
@@ -38,6 +40,8 @@ pub struct State {
     // Tasks to wake once the lock is given back, since nobody knows what a waker does.
     due: Vec<Waker>,
     next_id: u64,
+    // How often it was asked to take turns.
+    served: u32,
     // Why a turn of some node was refused, if one was since this node took turns.
     refused: Option<Refused>,
     is_stopped: bool,
@@ -91,11 +95,18 @@ impl State {
             let acts = self.cell.acts(TURNS);
             // (of acts that were refused those before stand)
             had_turn = had_turn || acts != Ok(0);
-            if !matches!(acts, Err(Refused::Raced) | Ok(TURNS)) {
-                self.refused = acts.err();
-                return had_turn;
+            if matches!(acts, Err(Refused::Raced) | Ok(TURNS)) || acts.is_ok() && self.retries() {
+                continue;
             }
+            self.refused = acts.err();
+            return had_turn;
         }
+    }
+
+    /// Now and then: lets a router that was told that there is no slot for its shorter way ask again; whether one does.
+    fn retries(&mut self) -> bool {
+        self.served = self.served.wrapping_add(1);
+        self.served % RETRY == 0 && self.cell.retry() == Retry::Again
     }
 
     /// The same, and hands out what has come.
@@ -130,6 +141,7 @@ impl Table {
                 tasks: Vec::new(),
                 due: Vec::new(),
                 next_id: 0,
+                    served: 0,
                 refused: None,
                 is_stopped: false,
             })

@@ -12,6 +12,9 @@ use Rattle.ipcz_cell.specs.CellStates.{CellState}
 use Rattle.ipcz_cell.specs.Making.{AreFirst}
 use Rattle.ipcz_cell.specs.Opens.{OpensPair, ShowsWord}
 use Rattle.ipcz_cell.specs.TableNames.{TableName}
+use Rattle.ipcz_cell.specs.Retries.{Retries}
+use Rattle.ipcz_cell.specs.declared.retry.Retry.{Retry}
+use Rattle.ipcz_cell.specs.declared.retry.Retry.TheVariants as retries
 use Rattle.ipcz_cell.specs.TurnChains.{RunsTurns}
 use Rattle.ipcz_c.specs.declared.cell_handle.CellHandle.{CellHandle}
 use Rattle.ipcz_c.specs.declared.portal.Portal.{Portal}
@@ -68,6 +71,16 @@ CellCloses old at status new =
 abbrev pub CellActs : ℕ → Option HeldCell → ℕ → ℕ → ℕ → Option HeldCell → Type 0
 CellActs limit old status old_acts acts new =
     (answer : Result ℕ Refusal) × Moves (λ t c d. RunsTurns t limit c answer d) old new × IsNumbered answer status old_acts acts
+
+-- the number that tells what became of a proxy that may ask again for its slot
+abbrev pub retry_code : Retry → ℕ
+retry_code retries.NoneWaits = 0
+retry_code retries.NoSlot = 1
+retry_code (retries.Again serial) = 2
+
+-- a proxy that asks again
+abbrev pub CellRetries : Option HeldCell → ℕ → Option HeldCell → Type 0
+CellRetries old status new = (answer : Retry) × Moves (λ t c d. Retries t c answer d) old new × (status ≡ retry_code answer)
 
 -- what is read of a link word, which is written if there is one
 abbrev pub CellReads : ℕ → Option HeldCell → Bool → ℕ → ℕ → Option HeldCell → Type 0

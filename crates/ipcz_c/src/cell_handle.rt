@@ -4,6 +4,7 @@ ghost use Rattle.std.specs.Option.{is_some};
 ghost use Rattle.ipcz_base.specs.Items.{sizes_of};
 ghost use Rattle.ipcz_node.specs.Node.{holds_end};
 ghost use Rattle.ipcz_cell.specs.Opens.{OpensPair, FindsQuiet, ShowsWord};
+ghost use Rattle.ipcz_cell.specs.Retries.{Retries};
 ghost use Rattle.ipcz_cell.specs.TurnChains.{RunsTurns};
 ghost use Rattle.ipcz_c.specs.CellSteps.{PutsAt, GetsAt, ClosesAt, CountsClaimed};
 ghost use Rattle.ipcz_c.specs.HeldCells.{HeldCell, IsOnly, table_of, Moves, cell_sizes};
@@ -12,7 +13,7 @@ use crate::cell_pointer::CellPointer;
 use crate::member::Member;
 use crate::parts::Parts;
 use ipcz_base::{Bytes, End, Ends, Parcel, Profile, Refusal, Sizes};
-use ipcz_cell::FabricName;
+use ipcz_cell::{FabricName, Retry};
 use std::alloc::Global;
 use std::mem;
 
@@ -176,6 +177,18 @@ impl CellHandle {
     {
         let mut member = self.take::<F>(alloc);
         let answer = member.quiet();
+        self.give(member);
+        answer
+    }
+
+    pub(crate) fn retry<F: FabricName>(&mut self, alloc: Global) -> Retry
+        requires held { IsSome self.old.held.cell }
+        requires named { table_of self.old.held.cell ≡ F.table }
+        requires only { IsOnly F }
+        ensures { Moves (λ t c d. Retries t c result d) self.old.held.cell self.new.held.cell }
+    {
+        let mut member = self.take::<F>(alloc);
+        let answer = member.retry();
         self.give(member);
         answer
     }

@@ -13,14 +13,14 @@ ghost use Rattle.ipcz_c.specs.Told.{room_of, fits};
 ghost use Rattle.ipcz_c.specs.Calls.{IsRefused, is_within, has_slots, LacksRoom};
 ghost use Rattle.ipcz_c.specs.CellSteps.{CountsClaimed};
 ghost use Rattle.ipcz_c.specs.HeldCells.{HeldCell, Moves, cell_sizes};
-ghost use Rattle.ipcz_c.specs.CellCalls.{CellOpens, CellPuts, CellGets, CellCloses, CellActs, CellReads, are_vacant, CellsAreMade, CellsLast};
+ghost use Rattle.ipcz_c.specs.CellCalls.{CellOpens, CellPuts, CellGets, CellCloses, CellActs, CellRetries, CellReads, are_vacant, CellsAreMade, CellsLast};
 
 use crate::cell_handle::CellHandle;
 use crate::cell_making::{are_vacant, seat};
 use crate::making::{are_within, have_slots, lists_of};
 use crate::portal::Portal;
 use crate::status::{ALREADY_CREATED, NOT_CREATED, TOO_SMALL, refused, status};
-use crate::tell::{got, lacking, outcome, tell_ends, tell_got, tell_number};
+use crate::tell::{got, lacking, outcome, retried, tell_ends, tell_got, tell_number};
 use ipcz_base::{Profile, Refusal};
 use ipcz_cell::{start, start_lasting};
 use std::alloc::Global;
@@ -268,6 +268,20 @@ pub extern "C" fn ipcz_cell_quiet(alloc: Global, of: &mut CellHandle) -> bool
         return false;
     }
     of.quiet::<Brand>(alloc)
+}
+
+/// Lets a proxy of the node ask again for the slot of its bypass: 0 if none waits for one, 1 if one waits and no slot is to be had, and 2 if
+/// it asks again.
+#[unsafe(no_mangle)]
+#[tactic(auto, using(crate::proofs::SameOwner::brand_only))]
+pub extern "C" fn ipcz_cell_retry(alloc: Global, of: &mut CellHandle) -> u32
+    ensures did { IsSome of.old.held.cell → CellRetries of.old.held.cell result of.new.held.cell }
+    ensures none { IsNone of.old.held.cell → (result ≡ 0) × (of.new.held.cell ≡ of.old.held.cell) }
+{
+    if !of.has_cell {
+        return 0;
+    }
+    retried(of.retry::<Brand>(alloc))
 }
 
 /// How many link words of the table were claimed, when their count was loaded.

@@ -4,11 +4,12 @@ ghost use Rattle.ipcz_base.specs.Items.{sizes_of};
 ghost use Rattle.ipcz_node.specs.Calls.{next_sizes};
 ghost use Rattle.ipcz_node.specs.Node.{holds_end};
 ghost use Rattle.ipcz_cell.specs.Opens.{OpensPair, FindsQuiet, ShowsWord};
+ghost use Rattle.ipcz_cell.specs.Retries.{Retries};
 ghost use Rattle.ipcz_cell.specs.TurnChains.{RunsTurns};
 ghost use Rattle.ipcz_c.specs.CellSteps.{PutsAt, GetsAt, ClosesAt, CountsClaimed};
 
 use ipcz_base::{Bytes, End, Ends, Parcel, Profile, Refusal, Sizes};
-use ipcz_cell::{Fabric, FabricName, NodeCell};
+use ipcz_cell::{Fabric, FabricName, NodeCell, Retry};
 use std::alloc::Global;
 use std::marker::Model;
 use std::sync::Arc;
@@ -90,6 +91,12 @@ impl<F: FabricName> Member<F> {
         ensures { FindsQuiet F.table self.old result self.new }
     {
         self.cell.quiet(&self.fabric)
+    }
+
+    pub(crate) fn retry(&mut self) -> Retry
+        ensures { Retries F.table self.old result self.new }
+    {
+        self.cell.retry(&self.fabric)
     }
 
     pub(crate) fn claimed(&mut self) -> u32

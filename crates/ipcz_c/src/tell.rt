@@ -1,12 +1,13 @@
 //! What a reply tells C beside its status, written to the places that C gave for it.
 ghost use Rattle.std.specs.Prelude.{◌≡◌, ◌≤◌, true, false, Some, IfSome, IfNone, length};
 ghost use Rattle.ipcz_world.specs.Steps.{sizes_given};
-ghost use Rattle.ipcz_c.specs.CellCalls.{outcome_of, IsNumbered, AreEnds, get_answer};
+ghost use Rattle.ipcz_c.specs.CellCalls.{outcome_of, IsNumbered, AreEnds, get_answer, retry_code};
 ghost use Rattle.ipcz_c.specs.Told.{room_of, fits, AreOpened, IsPut, AreAtFront, AreNamedAtFront, IsGot, IsSettled};
 
 use crate::portal::{Portal, portal_of};
 use crate::status::refused;
 use ipcz_base::{End, Parcel, Refusal, Sizes};
+use ipcz_cell::Retry;
 use ipcz_world::{Reply, Settled};
 
 // The portals that were opened.
@@ -162,5 +163,16 @@ pub(crate) fn got(answer: Result<(u64, Parcel), Refusal>) -> Reply
     match answer {
         Ok((number, parcel)) => Reply::Got(number, parcel),
         Err(why) => Reply::Refused(why),
+    }
+}
+
+// What became of a proxy that may ask again for its slot.
+pub(crate) fn retried(answer: Retry) -> u32
+    ensures { result ≡ retry_code answer }
+{
+    match answer {
+        Retry::NoneWaits => 0,
+        Retry::NoSlot => 1,
+        Retry::Again(_) => 2,
     }
 }

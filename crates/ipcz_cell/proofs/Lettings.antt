@@ -31,7 +31,7 @@ use Rattle.ipcz_cell.specs.Seats.{mine_of, sizes_of}
 use Rattle.ipcz_cell.specs.TableNames.{TableName, IsLaidOut}
 use Rattle.ipcz_cell.specs.declared.letting.GivenUp.TheVariants as given
 use Rattle.ipcz_cell.proofs.Forms.{actor}
-use Rattle.ipcz_cell.proofs.GivenUps.{routers_end, routers_both}
+use Rattle.ipcz_cell.proofs.GivenUps.{there_gives, routers_end, routers_both}
 use Rattle.ipcz_cell.proofs.Slotting.{are_sizes}
 
 -- by the bit of the side
@@ -61,7 +61,7 @@ may_let_go t id m (acts.Router serial deed) i side told laid picked whole touch 
   where
     by_router : (reuses : Bool) (x : Node) (serial : ℕ) (deed : RouterAct) (i : ℕ) (side : Side) → GivesUp reuses x (acts.Router serial deed) (given.End i side) → (r : Router) → router_in x serial ≡ Some r →
         RouterGives r deed (given.End i side)
-    by_router true x serial deed i side h = h
+    by_router true x serial deed i side h = λ r at. there_gives x serial deed (given.End i side) r h at
     by_router false x serial deed i side h = absurd (cc)
 may_let_go t id m other i side told laid picked whole touch may serials gives = let e = (routers_end t.reuses (part_in m.0.view).state other i side gives).is in absurd (cc)
 
@@ -96,6 +96,6 @@ may_leave t id m (acts.Router serial deed) i j side told laid picked whole touch
   where
     by_router : (reuses : Bool) (x : Node) (serial : ℕ) (deed : RouterAct) (i : ℕ) (side : Side) (j : ℕ) → GivesUp reuses x (acts.Router serial deed) (given.EndAndSpare i side j) → (r : Router) → router_in x serial ≡ Some r →
         RouterGives r deed (given.EndAndSpare i side j)
-    by_router true x serial deed i side j h = h
+    by_router true x serial deed i side j h = λ r at. there_gives x serial deed (given.EndAndSpare i side j) r h at
     by_router false x serial deed i side j h = absurd (cc)
 may_leave t id m other i j side told laid picked whole touch may serials gives = let e = (routers_both t.reuses (part_in m.0.view).state other i side j gives).is in absurd (cc)

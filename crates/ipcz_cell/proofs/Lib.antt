@@ -30,3 +30,4 @@ pub mod GivenUps
 pub mod Lettings
 pub mod Unfolding
 pub mod NumberClaims
+pub mod Retrying

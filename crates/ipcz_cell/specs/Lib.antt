@@ -17,3 +17,4 @@ pub mod Turns
 pub mod TurnEnds
 pub mod TurnChains
 pub mod Opens
+pub mod Retries

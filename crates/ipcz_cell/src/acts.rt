@@ -43,7 +43,7 @@ impl<F: FabricName> NodeCell<F> {
     {
         match self.hand_alone::<R>(fabric, from) {
             Ok(true) => Ok(()),
-            Ok(false) => untold(self.handle_by::<R>(fabric, from)),
+            Ok(false) => untold(self.handle_by::<R>(fabric, from, true)),
             Err(why) => Err(why),
         }
     }
@@ -139,6 +139,10 @@ impl<F: FabricName> NodeCell<F> {
     /// before the idle one. It tells nothing of them.
     ///
     /// It ends at the first turn that is refused, with that refusal. What the turns before have done stays; how many they were isn't told.
+    ///
+    /// Refused as the first turn that is refused ([`NodeCell::turn`]).
+    ///
+    /// Where nothing waits, `cell.acts(&fabric, 100)` is `Ok(0)`.
     pub fn acts(&mut self, fabric: &Fabric<F>, limit: u64) -> Result<u64, Refusal>
         ensures { RunsTurns F.table limit self.old result self.new }
     {
@@ -146,6 +150,8 @@ impl<F: FabricName> NodeCell<F> {
     }
 
     /// The same, but it wakes no thread that sleeps for a node of the table: where none does, as in a library for C, which may not wake one.
+    ///
+    /// Refused as [`NodeCell::acts`]. Where nothing waits, `cell.acts_unheard(&fabric, 100)` is `Ok(0)`.
     pub fn acts_unheard(&mut self, fabric: &Fabric<F>, limit: u64) -> Result<u64, Refusal>
         ensures { RunsTurns F.table limit self.old result self.new }
     {

@@ -1,5 +1,5 @@
 //! Bells, one a node: a thread that waits for a node sleeps on its bell, and one that may have brought the node something rings it. They are
-//! no part of the table, and no clause speaks of them: docs/THREADS.md says why no wake is lost.
+//! no part of the table, and no clause speaks of them: docs/TABLE.md says why no wake is lost.
 use std::alloc::{AllocError, Global};
 use std::sync::Wait;
 use std::sync::atomic::{AtomicU64, Ordering};

@@ -228,7 +228,35 @@ fn plain_here<F: FabricName, X: Outcome, T: Told>(
 }
 
 impl<F: FabricName> NodeCell<F> {
-    /// Puts a parcel of printed bytes at an end that callers of this node hold, as `NodeState::put`.
+    /// Puts a parcel at an end that callers of this node hold, and answers its number: how many were put there before. It has 0 to 65,536 bytes
+    /// of any value, and 0 to 8 ends, which the callers don't hold any more. Its lists aren't copied.
+    ///
+    /// Refused as [`NodeCell::put_as`] of `Profile::Wide`, and so never `BadData`. A refused put changes nothing, and gives both lists back.
+    ///
+    /// At an end at which nothing was put yet, `cell.put_wide(fabric, at, bytes, ends)` is `Ok(0)`.
+    pub fn put_wide(
+        &mut self,
+        fabric: &Fabric<F>,
+        at: End,
+        bytes: Bytes,
+        ends: Ends,
+    ) -> Result<u64, PutRefused>
+        ensures allowed { OnOk result (put_refusal Profile.Wide self.old.part.state at bytes ends ≡ None) }
+        ensures number { IfOk result (λ n. n ≡ put_number self.old.part.state at) }
+        ensures ok { OnOk result (self.new.part ≡ put_part at bytes ends self.old.part) }
+        ensures why { IfErr result (λ e. e.why ≡ unwrap_or (put_refusal Profile.Wide self.old.part.state at bytes ends) Refusal.OutOfMemory) }
+        ensures err { IfErr result (λ e. (e.bytes ≡ bytes) × (e.ends ≡ ends) × (self.new.part ≡ self.old.part)) }
+        ensures seen { self.new.seen ≡ self.old.seen }
+    {
+        self.put_as(fabric, Profile::Wide, at, bytes, ends)
+    }
+
+    /// Puts a parcel as [`NodeCell::put_wide`] does, but a printed one, as scripts put: it has 0 to 256 bytes, each from 32 to 126.
+    ///
+    /// Refused as [`NodeCell::put_as`] of `Profile::Printed`, and so `TooMany` from 257 bytes on and `BadData` for any other byte. A refused
+    /// put changes nothing, and gives both lists back.
+    ///
+    /// Of the byte 7, `cell.put(fabric, at, bytes, ends)` is refused `BadData`, where a `put_wide` takes it.
     pub fn put(
         &mut self,
         fabric: &Fabric<F>,
@@ -246,7 +274,16 @@ impl<F: FabricName> NodeCell<F> {
         self.put_as(fabric, Profile::Printed, at, bytes, ends)
     }
 
-    /// Puts a parcel at an end that callers of this node hold, as `NodeState::put_as`.
+    /// Puts a parcel of a profile at an end that callers of this node hold, and answers its number.
+    ///
+    /// Refused by the first of these that holds: `Stranger` if the node's callers don't hold the end; `TooMany` if the parcel has more than 8
+    /// ends, or more than 256 bytes, or, of `Profile::Wide`, more than 65,536; `BadData` if it is of `Profile::Printed` and a byte isn't from
+    /// 32 to 126; `SelfAttach` if it carries the end at which it is put; `PeerAttach` if it carries the peer of that end; `Stranger` if it
+    /// carries an end that the callers don't hold, or one twice; `PeerClosed` if the node has heard that the peer is closed; `NumbersEnd`
+    /// if no number is left for a parcel at this end, after 2^64 - 3 of them; and `OutOfMemory` if the terminal's queue has to grow and
+    /// finds no memory. A refused put changes nothing, and gives both lists back.
+    ///
+    /// At an end at which one parcel was put, `cell.put_as(fabric, Profile::Wide, at, bytes, ends)` is `Ok(1)`.
     pub fn put_as(
         &mut self,
         fabric: &Fabric<F>,
@@ -273,7 +310,13 @@ impl<F: FabricName> NodeCell<F> {
         )
     }
 
-    /// Takes the next parcel at an end that callers of this node hold, as `NodeState::get`. It takes no memory.
+    /// Takes the next parcel at an end that callers of this node hold, and gives its number and the parcel, whose ends the callers then hold. It
+    /// takes no memory.
+    ///
+    /// Refused `Stranger` if the node's callers don't hold the end, `Empty` if the next parcel hasn't come, as it can't before the nodes have
+    /// acted, and `PeerClosed` if the peer is closed and all that was put there was got. A refusal changes nothing.
+    ///
+    /// Where the first parcel has come, `cell.get(fabric, at)` is `Ok((0, parcel))`.
     pub fn get(&mut self, fabric: &Fabric<F>, at: End) -> Result<(u64, Parcel), Refusal>
         ensures allowed { OnOk result (get_refusal self.old.part.state at ≡ None) }
         ensures parcel { IfOk result (λ g. got_at self.old.part.state at ≡ Some g) }
@@ -285,7 +328,13 @@ impl<F: FabricName> NodeCell<F> {
         get_here::<F, Brand>(&mut self.state, &mut self.seat, fabric, at)
     }
 
-    /// Closes an end that callers of this node hold, as `NodeState::close`.
+    /// Closes an end that callers of this node hold for good, and answers how many parcels were put there. Its peer still gets those, and then
+    /// `PeerClosed`.
+    ///
+    /// Refused `Stranger` if the node's callers don't hold the end, and `OutOfMemory` if the terminal's queue has to grow and finds no memory. A
+    /// refusal changes nothing.
+    ///
+    /// At an end at which one parcel was put, `cell.close(fabric, at)` is `Ok(1)`.
     pub fn close(&mut self, fabric: &Fabric<F>, at: End) -> Result<u64, Refusal>
         ensures allowed { OnOk result (close_refusal self.old.part.state at ≡ None) }
         ensures number { IfOk result (λ n. n ≡ put_number self.old.part.state at) }
@@ -297,7 +346,12 @@ impl<F: FabricName> NodeCell<F> {
         close_here::<F, Brand>(&mut self.state, &mut self.seat, fabric, at)
     }
 
-    /// Makes all the room that an act wants, as `NodeState::prepare`.
+    /// Makes all the room that an act wants, so that it can be done without a refusal.
+    ///
+    /// Refused `NumbersEnd` if the act would make more routers than there are serials left at the node, and `OutOfMemory` if it wants memory and
+    /// finds none. Nothing but room has changed either way.
+    ///
+    /// So `cell.prepare(&act)?` stands before `cell.touch_act(fabric, act)`, where `act` is what `cell.act(fabric)` gave.
     pub fn prepare(&mut self, act: &Act) -> Result<(), Refusal>
         ensures part { self.new.part ≡ self.old.part }
         ensures seen { self.new.seen ≡ self.old.seen }
@@ -310,7 +364,10 @@ impl<F: FabricName> NodeCell<F> {
         self.state.prepare(act)
     }
 
-    /// Does a possible act that touches no word and no mailbox, for which `prepare` made room. It takes no memory.
+    /// Does a possible act that touches no word and no mailbox, for which `prepare` made room, and tells what it did. It takes no memory, and
+    /// is never refused.
+    ///
+    /// So a close that is pending, `Act::Close(end)`, is done by `cell.touch_act(fabric, act)`.
     pub fn touch_act(&mut self, fabric: &Fabric<F>, act: Act) -> Happened
         requires touch { is_touch_act act ≡ true }
         requires possible { IsPossibleAct self.old.part.state act }

@@ -362,6 +362,8 @@ fn close(
 /// Refused `NoWord` if the table's slots are used again, since it has no words any more of the links that were let go; `Stranger` if the
 /// cells' nodes aren't 0, 1, and so on to the last, in order; else `OutOfMemory`. A refusal gives the fabric and the cells back, as they
 /// were.
+///
+/// Of the fabric and the cells that `name` gave of `start(alloc, 2, 8)?` it gives the world of `World::new(alloc, 2, 8)`.
 pub fn finish<F: FabricName>(
     fabric: Fabric<F>,
     cells: Vec<NodeCell<F>>,

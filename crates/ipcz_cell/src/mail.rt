@@ -236,7 +236,10 @@ impl<F: FabricName> NodeCell<F> {
         self.load_at(fabric, fabric.slots, place)
     }
 
-    /// Takes the empty mailbox to a node, or has it already. It answers false only if the mailbox was found at another value than 0.
+    /// Takes the empty mailbox to a node, or has it already. It answers false only if the mailbox was found at another value than 0. It takes
+    /// no memory, and is never refused.
+    ///
+    /// Where a message waits for node 1, and the mailbox to it is empty, `cell.mail_probe(&fabric, 1)` is true.
     #[inline(always)]
     pub fn mail_probe(&mut self, fabric: &Fabric<F>, to: u8) -> bool
         requires { to < F.table.count }
@@ -253,7 +256,10 @@ impl<F: FabricName> NodeCell<F> {
         true
     }
 
-    /// Posts the first message for a node into its mailbox, which was taken by a probe. It takes no memory.
+    /// Posts the first message for a node into its mailbox, which was taken by a probe. It takes no memory, and is never
+    /// refused.
+    ///
+    /// So `cell.mail_post(&fabric, 1)` stands behind a `mail_probe` of node 1 that answered true, if a message waits for that node.
     #[inline(always)]
     pub fn mail_post(&mut self, fabric: &Fabric<F>, to: u8)
         requires to { to < F.table.count }
@@ -289,6 +295,10 @@ impl<F: FabricName> NodeCell<F> {
 
     /// Takes the message of a full mailbox into the hand. It answers false only if the mailbox was found at another value than 1. It
     /// takes no memory.
+    ///
+    /// It is never refused.
+    ///
+    /// Where node 0 has posted a message, `cell.mail_look(&fabric, 0)` is true.
     #[inline(always)]
     pub fn mail_look(&mut self, fabric: &Fabric<F>, from: u8) -> bool
         requires from { from < F.table.count }
@@ -422,13 +432,15 @@ impl<F: FabricName> NodeCell<F> {
         }
     }
 
-    // Handles the message in hand, for which the source is known.
+    // Handles the message in hand, for which the source is known. An item is first asked for whether it can be taken where it stands, unless
+    // that was asked already.
     #[tactic(auto, unfolding(ipcz_node::specs::Events::hand_event, ipcz_node::specs::Events::kind_of, ipcz_node::specs::Hands::link_asked))]
     fn handle(
         &mut self,
         fabric: &Fabric<F>,
         from: u8,
         source: Option<u8>,
+        asked: bool,
     ) -> Result<Happened, Refusal>
         requires hand { self.old.part.state.hand ≡ Some from }
         requires known { (x : MessageData) → self.old.part.message ≡ Some x → IsKnown F.table.size from x source }
@@ -440,7 +452,9 @@ impl<F: FabricName> NodeCell<F> {
         ensures err { OnErr result (self.new.part ≡ self.old.part) }
         ensures seen { self.new.seen ≡ self.old.seen }
     {
-        if let Some(Message::Item { link, n, .. }) = &self.message {
+        if let Some(Message::Item { link, n, .. }) = &self.message
+            && !asked
+        {
             let event = Happened::Hand {
                 kind: Handed::Item(*n),
                 link: *link,
@@ -454,26 +468,31 @@ impl<F: FabricName> NodeCell<F> {
     }
 
     /// Handles the message in hand. An AcceptBypass is taken only if the word of the old link names its sender as the source: one load
-    /// of that word tells it. A refused message stays in hand. It answers `NumbersEnd` if the message fits and would make more routers
-    /// than serials are left for, and otherwise `OutOfMemory`.
+    /// of that word tells it.
+    ///
+    /// Refused `NumbersEnd` if the message fits and would make more routers than serials are left for, and `OutOfMemory` if it wants memory and
+    /// finds none. A refused message stays in hand, and nothing but what was seen has changed.
+    ///
+    /// So `cell.mail_handle(&fabric, 0)` stands behind a `mail_look` of node 0 that answered true.
     pub fn mail_handle(&mut self, fabric: &Fabric<F>, from: u8) -> Result<Happened, Refusal>
         requires { self.old.part.state.hand ≡ Some from }
         ensures { Handles F.table.size from self.old result self.new }
     {
-        self.handle_by::<Waking>(fabric, from)
+        self.handle_by::<Waking>(fabric, from, false)
     }
 
-    // Handles, and rings as R does.
+    // Handles, and rings as R does. It is said whether `hand_alone` was asked already.
     pub(crate) fn handle_by<R: Ringer>(
         &mut self,
         fabric: &Fabric<F>,
         from: u8,
+        asked: bool,
     ) -> Result<Happened, Refusal>
         requires { self.old.part.state.hand ≡ Some from }
         ensures { Handles F.table.size from self.old result self.new }
     {
         let source = self.load_source(fabric, from);
-        let handled = self.handle(fabric, from, source);
+        let handled = self.handle(fabric, from, source, asked);
         if handled.is_ok() {
             R::ring(&fabric.bells, from);
             R::ring(&fabric.news, self.state.number());

@@ -57,6 +57,8 @@ impl Model for Blank {
 ///
 /// `nodes` is 1 to 8; `words` is from the number of first pairs, `nodes * (nodes - 1) / 2`, to 2^32 - 1. The table holds all of them from
 /// the start, 16 bytes each. Its only refusal is `OutOfMemory`.
+///
+/// `start(alloc, 2, 8)?.name::<F>()` gives the fabric and the two cells of such a table.
 pub fn start(alloc: Global, nodes: u8, words: u32) -> Result<Blank, Refusal>
     requires limits { IsWithinLimits nodes words }
     ensures size { IfOk result (λ b. (b.count ≡ nodes) × (b.size ≡ words) × (b.slots ≡ words) × (b.reuses ≡ false)) }
@@ -93,6 +95,8 @@ pub fn start(alloc: Global, nodes: u8, words: u32) -> Result<Blank, Refusal>
 ///
 /// `nodes` is 1 to 8; `slots` is from the number of first pairs, `nodes * (nodes - 1) / 2`, and from 1, to `numbers`. Its only refusal is
 /// `OutOfMemory`.
+///
+/// `start_lasting(alloc, 2, 64, u32::MAX)` makes one with 64 slots.
 pub fn start_lasting(alloc: Global, nodes: u8, slots: u32, numbers: u32) -> Result<Blank, Refusal>
     requires limits { IsWithinLimits nodes numbers }
     requires pairs { length (first_pairs nodes) ≤ slots }
@@ -236,6 +240,8 @@ impl Blank {
     /// empty books. F names this table.
     ///
     /// Its only refusal is `OutOfMemory`, and then it gives the table back.
+    ///
+    /// Of `start(alloc, 2, 8)?` it gives two cells.
     pub fn name<F: FabricName>(self) -> Result<(Fabric<F>, Vec<NodeCell<F>>), (Refusal, Blank)>
         requires { self ≡ F.table }
         ensures cells { IfOk result (λ r. AreFirst F.table.count F.table.count r.1.items) }

@@ -29,7 +29,7 @@ fn narrow(claimed: Result<u64, Refusal>) -> Result<u32, Refusal>
 
 impl<F: FabricName> NodeCell<F> {
     // Loads the claim count.
-    fn load_count(&mut self, fabric: &Fabric<F>) -> u64
+    pub(crate) fn load_count(&mut self, fabric: &Fabric<F>) -> u64
         ensures seen { HasSeen F.table.size result self.old self.new }
         ensures most { result ≤ F.table.size }
         ensures reached { AreReached F.table.size self.old.seen result }
@@ -52,6 +52,10 @@ impl<F: FabricName> NodeCell<F> {
 
     /// How many link words were claimed when the count was loaded: as many as at each load and exchange of it before, or more. It takes no
     /// memory.
+    ///
+    /// It is never refused.
+    ///
+    /// In the table of `start(alloc, 3, 8)` it is 3 until a pair is opened or a proxy claims a word.
     pub fn claimed(&mut self, fabric: &Fabric<F>) -> u32
         ensures seen { HasSeen F.table.size result self.old self.new }
         ensures most { result ≤ F.table.size }
@@ -67,6 +71,10 @@ impl<F: FabricName> NodeCell<F> {
     /// A link word as it was loaded, or none for one that wasn't claimed yet by the claim count that was loaded before it: so there is one
     /// if an earlier count was above its number. A table whose slots are used again shows none, since a word is that of one link after
     /// another. It takes no memory.
+    ///
+    /// It is never refused.
+    ///
+    /// In the table of `start(alloc, 2, 8)`, at its start, `cell.word(&fabric, 0)` is `Some(3)`, stable at both sides, and `cell.word(&fabric, 1)` is none.
     pub fn word(&mut self, fabric: &Fabric<F>, i: u32) -> Option<u64>
         ensures { ShowsWord F.table i self.old result self.new }
     {
@@ -118,6 +126,8 @@ impl<F: FabricName> NodeCell<F> {
     /// It loads the claim count, and exchanges it for the next. It answers `NoWord` if the load found that each word was claimed, or, where
     /// slots are used again, if each slot was looked at and none was to be had; a proxy is dry then, and its act is done. It answers `Raced`
     /// only if the exchange found another count than the load; then nothing but what was seen has changed. It takes no memory.
+    ///
+    /// In the table of `start(alloc, 2, 8)` the first `cell.word_claim(&fabric, None)` is `Ok(1)`.
     pub fn word_claim(&mut self, fabric: &Fabric<F>, serial: Option<u64>) -> Result<u32, Refusal>
         requires { MayClaim self.old.part.state serial }
         ensures { ClaimsWord F.table serial self.old self.new result }
@@ -133,6 +143,10 @@ impl<F: FabricName> NodeCell<F> {
 
     /// Makes room for a pair, as `NodeState::open_prepare`. It answers `NumbersEnd` if too few serials are left for two routers, and
     /// otherwise `OutOfMemory`.
+    ///
+    /// Nothing but room has changed either way.
+    ///
+    /// So `cell.open_prepare()?` stands before `cell.word_open(&fabric)`.
     pub fn open_prepare(&mut self) -> Result<(), Refusal>
         ensures part { self.new.part ≡ self.old.part }
         ensures seen { self.new.seen ≡ self.old.seen }
@@ -153,6 +167,8 @@ impl<F: FabricName> NodeCell<F> {
 
     /// Opens the pair on the word of the open that is under way, for which `open_prepare` made room: its ends of sides A and B, both held
     /// here. It takes no memory.
+    ///
+    /// It is never refused. Behind a `word_claim(&fabric, None)` that was answered `Ok(1)`, and `open_prepare`, it gives the two ends of pair 1.
     pub fn word_open(&mut self, fabric: &Fabric<F>) -> (End, End)
         requires under_way { is_some self.old.part.state.opening ≡ true }
         requires ready { CanOpen (roomy self.old) }
@@ -172,6 +188,8 @@ impl<F: FabricName> NodeCell<F> {
     /// It answers, the first of these: `NoWord` if no open is under way and each link word was claimed, `NumbersEnd` if too few
     /// serials are left for two routers, `OutOfMemory`, `NoWord` if slots are used again and none is to be had, and `Raced` if another
     /// node has claimed a word meanwhile; the caller may try again. A refused open changes nothing but what was seen and looked at.
+    ///
+    /// In the table of `start(alloc, 2, 8)` the first `cell.open_pair(&fabric)` gives the two ends of pair 1.
     pub fn open_pair(&mut self, fabric: &Fabric<F>) -> Result<(End, End), Refusal>
         ensures { OpensPair F.table self.old self.new result }
     {

@@ -37,6 +37,10 @@ impl<F: FabricName> NodeCell<F> {
 
     /// Whether the node has nothing to do: by itself, as `NodeState::quiet`, and since each mailbox to it was loaded and no message was
     /// found in it. Another node may post meanwhile: of the table it says only what the loads have found. It takes no memory.
+    ///
+    /// It is never refused.
+    ///
+    /// In a table at its start `cell.quiet(&fabric)` is true, and after a put at the cell it is false.
     pub fn quiet(&mut self, fabric: &Fabric<F>) -> bool
         ensures { FindsQuiet F.table self.old result self.new }
     {

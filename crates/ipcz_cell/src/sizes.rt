@@ -8,6 +8,10 @@ use ipcz_base::{End, Sizes};
 
 impl<F: FabricName> NodeCell<F> {
     /// How many bytes and ends the parcel has that a get at this end would give; none if it would be refused. It takes no memory.
+    ///
+    /// It is never refused.
+    ///
+    /// Where a parcel of five bytes and no end has come, `cell.next_sizes(at)` is `Some(Sizes { bytes: 5, ends: 0 })`.
     pub fn next_sizes(&self, at: End) -> Option<Sizes>
         ensures { result ≡ next_sizes self.now.part.state at }
     {

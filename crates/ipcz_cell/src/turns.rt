@@ -91,6 +91,10 @@ impl<F: FabricName> NodeCell<F> {
 
     /// The act that a turn would take, for the mailboxes as it finds them: the first of those in docs/PROTOCOL.md, "Turns". A mailbox that
     /// was probed counts as empty. It takes no memory.
+    ///
+    /// It is never refused.
+    ///
+    /// In a table at its start `cell.act(&fabric)` is `Act::Idle`.
     #[inline(always)]
     pub fn act(&mut self, fabric: &Fabric<F>) -> Act
         ensures first { Chooses F.table self.old result self.new }
@@ -271,6 +275,8 @@ impl<F: FabricName> NodeCell<F> {
     /// It is refused `NumbersEnd` if the act wants more serials than are left, `OutOfMemory` if it wants memory and none is found,
     /// and `Raced` if another thread came between the load of a word and its exchange: then the turn may be taken again. A begin or a
     /// retire for which no memory is found is done as an unlock. A refused turn changes nothing. A claim that finds no word is an act done.
+    ///
+    /// In a table at its start `cell.turn(&fabric)` is `Ok(Happened::Idle)`.
     pub fn turn(&mut self, fabric: &Fabric<F>) -> Result<Happened, Refusal>
         ensures { Turns F.table self.old result self.new }
     {

@@ -17,6 +17,8 @@ impl<F: FabricName> NodeCell<F> {
     ///
     /// It answers true only if the node's first act was `Idle` for the mailboxes as it found them. It answers false only if it was
     /// another, which a turn would take, and then it didn't sleep. It takes no memory, and nothing but `seen` changes.
+    ///
+    /// It is never refused. So a thread that serves a node goes round: `if cell.acts(&fabric, 64)? == 0 { cell.wait(rt, &fabric, limit); }`.
     pub fn wait<R: Wait>(&mut self, rt: &R, fabric: &Fabric<F>, limit: Duration) -> bool
         ensures idle { result ≡ true → Chooses F.table self.old Act.Idle self.new }
         ensures busy { result ≡ false → (act : Act) × (act ≢ Act.Idle) × Chooses F.table self.old act self.new }
@@ -27,6 +29,9 @@ impl<F: FabricName> NodeCell<F> {
 
     /// Waits, as `wait`, with a ticket that the caller has taken by `fabric.bells().watch(cell.node())`: the sleep ends at once if the bell
     /// was rung since. So a flag can be looked at behind `watch`, whose setter calls `Fabric::notify_all` behind it, and isn't missed.
+    ///
+    /// It is never refused. So `let ticket = fabric.bells().watch(cell.node());` stands before the look at the flag, and
+    /// `cell.wait_since(rt, &fabric, ticket, limit)` behind it.
     pub fn wait_since<R: Wait>(
         &mut self,
         rt: &R,

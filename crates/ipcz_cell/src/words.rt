@@ -275,6 +275,8 @@ impl<F: FabricName> NodeCell<F> {
     /// Tries for the lock of the word of a router's outward primary link: one load, and one exchange unless the load found that the lock is
     /// refused. The lock names the node inward of the router: its AcceptBypass is taken only from there. It answers `Raced` only
     /// if the exchange found another word than the load; then nothing but what was seen has changed. It takes no memory.
+    ///
+    /// Where the word is 3, stable at both sides and free, it answers a `LockPlan::Lock`.
     pub fn word_try_lock(&mut self, fabric: &Fabric<F>, serial: u64) -> Result<LockPlan, Refusal>
         requires { IsPossibleAct self.old.part.state (Act.Router serial RouterAct.Lock) }
         ensures { TriesLock F.table.size serial self.old result self.new }
@@ -284,6 +286,10 @@ impl<F: FabricName> NodeCell<F> {
     }
 
     /// Marks a router's side of the word of its outward primary link stable, and answers the word after. It takes no memory.
+    ///
+    /// It is never refused.
+    ///
+    /// Where the word is 0, the mark of side A answers 1.
     pub fn word_mark(&mut self, fabric: &Fabric<F>, serial: u64) -> u64
         requires { IsPossibleAct self.old.part.state (Act.Router serial RouterAct.Mark) }
         ensures { ActsOnWord serial RouterAct.Mark self.old result self.new }
@@ -297,6 +303,8 @@ impl<F: FabricName> NodeCell<F> {
 
     /// Gives back the lock of the word of a router's outward primary link, which then names no source, and answers the word after. It takes
     /// no memory.
+    ///
+    /// It is never refused. Of a word that is stable at both sides and has nobody waiting it answers 3.
     pub fn word_unlock(&mut self, fabric: &Fabric<F>, serial: u64) -> u64
         requires { IsPossibleAct self.old.part.state (Act.Router serial RouterAct.Unlock) }
         ensures { ActsOnWord serial RouterAct.Unlock self.old result self.new }
@@ -310,6 +318,8 @@ impl<F: FabricName> NodeCell<F> {
 
     /// Takes away the waiting bit of the side across a router's outward primary link, for which `prepare` made room, and answers the word
     /// after. It takes no memory.
+    ///
+    /// It is never refused. Of a word that is stable at both sides and free, with the side across waiting, it answers 3.
     pub fn word_take_waiting(&mut self, fabric: &Fabric<F>, serial: u64) -> u64
         requires possible { IsPossibleAct self.old.part.state (Act.Router serial RouterAct.Wake) }
         requires serials { act_lacks_serials self.old.part.state (Act.Router serial RouterAct.Wake) ≡ false }

@@ -15,7 +15,7 @@ fn talk(alloc: Global) -> Result<Reply, Refusal> {
     let mut world = World::new(alloc, 2, 1 << 24)?;
     let bytes = Vec::from_slice(alloc, b"hello")?;
     let ends = Vec::new(alloc);
-    world.put(0, left, Sequence::from_vec(bytes), Sequence::from_vec(ends))?;
+    world.put_wide(0, left, Sequence::from_vec(bytes), Sequence::from_vec(ends))?;
     world.settle(100)?;
     Ok(world.step(&Step::Get { node: 1, at: right }))
 }

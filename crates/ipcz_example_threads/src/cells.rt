@@ -32,7 +32,7 @@ fn put<F: FabricName>(
 ) -> Result<(), Refusal> {
     let bytes = Sequence::from_vec(Vec::from_slice(alloc, text)?);
     let ends = Sequence::from_vec(Vec::from_slice(alloc, ends)?);
-    match cell.put(fabric, at, bytes, ends) {
+    match cell.put_wide(fabric, at, bytes, ends) {
         Ok(_number) => Ok(()),
         Err(refused) => Err(refused.why),
     }

@@ -17,7 +17,7 @@ fn put<F: FabricName, R: Wait>(
     text: Vec<u8>,
     portals: Vec<Portal<F>>,
 ) -> Result<(), Refusal> {
-    match at.put(rt, hub, text, portals) {
+    match at.put_wide(rt, hub, text, portals) {
         Ok(_number) => Ok(()),
         Err(refused) => Err(refused.why),
     }

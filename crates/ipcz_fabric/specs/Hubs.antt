@@ -16,6 +16,8 @@ use Rattle.ipcz_fabric.specs.Places.{CellWhere}
 use Rattle.ipcz_fabric.specs.Portals.{PortalValue, portal_at, portals_at}
 use Rattle.ipcz_cell.specs.TurnChains.{RunsTurns}
 use Rattle.ipcz_cell.specs.TurnEnds.{Turns}
+use Rattle.ipcz_cell.specs.Retries.{Retries}
+use Rattle.ipcz_cell.specs.declared.retry.Retry.{Retry}
 
 -- these are the ends that callers of a node hold whose terminals have a serial from this one on, by rising serials; a serial is below
 -- 2 ^ 64
@@ -53,6 +55,14 @@ IsTurnAnswer t node answer = CellWhere t node (λ old. (new : CellState) × Turn
 -- turns of a node, one after the other and at most so many, answer this
 abbrev pub AreTurnAnswers : TableName → ℕ → ℕ → Result ℕ Refusal → Type 0
 AreTurnAnswers t node limit answer = CellWhere t node (λ old. (new : CellState) × RunsTurns t limit old answer new)
+
+-- a turn of a cell answers this and leaves the cell, in which a proxy may have been let ask again
+abbrev pub TurnsAsking : TableName → CellState → Result Happened Refusal → CellState → Type 0
+TurnsAsking t old answer new = (turned : CellState) × Turns t old answer turned × ((new ≡ turned) ⊎ ((found : Retry) × Retries t turned found new))
+
+-- a proxy of a node that asks again is answered this
+abbrev pub IsRetryAnswer : TableName → ℕ → Result Retry Refusal → Type 0
+IsRetryAnswer t node answer = CellWhere t node (λ old. (found : Retry) × (new : CellState) × Retries t old found new × (answer ≡ Ok found))
 
 -- portals of both sides of a pair, at a node: the pair is that of a link word
 pub record ArePair (size node : ℕ) (portals : PortalValue × PortalValue) : Type 0 where

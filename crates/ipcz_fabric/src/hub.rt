@@ -4,13 +4,14 @@ ghost use Rattle.std.specs.Sync.Mutex.{mutex_guard_value};
 ghost use Rattle.ipcz_cell.specs.Ending.{FinishRefuses, is_in_order};
 ghost use Rattle.ipcz_cell.specs.TurnChains.{RunsTurns};
 ghost use Rattle.ipcz_cell.specs.TurnEnds.{Turns};
+ghost use Rattle.ipcz_cell.specs.Retries.{Retries};
 ghost use Rattle.ipcz_fabric.specs.Places.{IsCellOf};
 ghost use Rattle.ipcz_fabric.specs.Hubs.{AddsFirst, AddsHeld, AreFirstPortals, ArePair, OpensPortals};
-ghost use Rattle.ipcz_fabric.specs.Hubs.{AreTurnAnswers, IsOpenAnswer, IsOpenRefusal, IsTurnAnswer, IsTurnRefusal};
+ghost use Rattle.ipcz_fabric.specs.Hubs.{AreTurnAnswers, IsOpenAnswer, IsOpenRefusal, IsRetryAnswer, IsTurnAnswer, IsTurnRefusal, TurnsAsking};
 
 use crate::portal::Portal;
 use ipcz_base::Refusal;
-use ipcz_cell::{Fabric, FabricName, NodeCell};
+use ipcz_cell::{Fabric, FabricName, NodeCell, Retry};
 use ipcz_node::Happened;
 use std::alloc::{AllocError, Global};
 use std::collections::VecDeque;
@@ -148,6 +149,31 @@ fn turn_here<F: FabricName>(cell: &mut NodeCell<F>, fabric: &Fabric<F>) -> Resul
     cell.turn(fabric)
 }
 
+// Whether a turn found nothing to do.
+fn is_idle(answer: &Result<Happened, Refusal>) -> bool {
+    matches!(answer, Ok(Happened::Idle))
+}
+
+// Whether a proxy asks again.
+fn is_again(found: Retry) -> bool {
+    matches!(found, Retry::Again(_))
+}
+
+// Takes one turn of a cell's node. Behind an idle one it lets a proxy that waits for a slot ask again, and tells whether one does.
+fn turn_asking_here<F: FabricName>(
+    cell: &mut NodeCell<F>,
+    fabric: &Fabric<F>,
+) -> (Result<Happened, Refusal>, bool)
+    ensures { TurnsAsking F.table cell.old result.0 cell.new }
+{
+    let answer = cell.turn(fabric);
+    if is_idle(&answer) {
+        let found = cell.retry(fabric);
+        return (answer, is_again(found));
+    }
+    (answer, false)
+}
+
 // Takes turns of a cell's node, one after the other.
 fn acts_here<F: FabricName>(
     cell: &mut NodeCell<F>,
@@ -157,6 +183,13 @@ fn acts_here<F: FabricName>(
     ensures { RunsTurns F.table limit cell.old result cell.new }
 {
     cell.acts(fabric, limit)
+}
+
+// Lets a proxy of a cell's node ask again for its slot.
+fn retry_here<F: FabricName>(cell: &mut NodeCell<F>, fabric: &Fabric<F>) -> Retry
+    ensures { Retries F.table cell.old result cell.new }
+{
+    cell.retry(fabric)
 }
 
 // Opens a pair at a cell's node, and gives its portals, of side A and of side B.
@@ -178,8 +211,10 @@ impl<F: FabricName> Hub<F> {
     /// A hub of a table's cells, and a portal for each end that callers of their nodes hold: by node, and then by the serial of the end's
     /// terminal.
     ///
-    /// Refused `Stranger` if the cells' nodes aren't 0, 1, and so on to the last, in order; else `OutOfMemory`. A refusal gives the
-    /// fabric and the cells back, as they were.
+    /// Refused `Stranger` if the cells' nodes aren't 0, 1, and so on to the last, in order; else `OutOfMemory` if there is no memory for the
+    /// locks and the portals. A refusal gives the fabric and the cells back, as they were.
+    ///
+    /// Of a table of two nodes at its start it gives two portals: that of side A of pair 0 at node 0, and that of side B at node 1.
     pub fn new(
         fabric: Fabric<F>,
         cells: Vec<NodeCell<F>>,
@@ -236,8 +271,11 @@ impl<F: FabricName> Hub<F> {
     /// Opens a pair at a node, under that node's lock, and gives its portals, of side A and of side B. What else holds of it is what
     /// `NodeCell::open_pair` says, of the cell as the call found it: it has no name here, so `answer` says that there is such a cell.
     ///
-    /// It answers `Stranger` if there is no node of that number; else `NoWord`, `NumbersEnd`, `OutOfMemory` or `Raced`, as
-    /// `NodeCell::open_pair`.
+    /// Refused by the first of these that holds: `Stranger` if there is no node of that number; `NoWord` if no open is under way there and each
+    /// link word was claimed; `NumbersEnd` if too few serials are left at the node for two routers; `OutOfMemory` if there is no memory for
+    /// them; `NoWord` if slots are used again and none is to be had; and `Raced` if another node has claimed a word meanwhile: call again.
+    ///
+    /// So `let (a, b) = hub.open_pair(rt, 0)?;` gives two portals of node 0, each other's peers.
     pub fn open_pair<R: Wait>(&self, rt: &R, node: u8) -> Result<(Portal<F>, Portal<F>), Refusal>
         ensures here { IfOk result (λ p. (p.0.node ≡ node) × (p.1.node ≡ node)) }
         ensures pair { IfOk result (ArePair F.table.size node) }
@@ -254,7 +292,11 @@ impl<F: FabricName> Hub<F> {
     /// Takes one turn of a node, under that node's lock, and tells what it did. What else holds of it is what `NodeCell::turn` says, of the
     /// cell as the call found it: it has no name here, so `answer` says that there is such a cell.
     ///
-    /// It answers `Stranger` if there is no node of that number; else `NumbersEnd`, `OutOfMemory` or `Raced`, as `NodeCell::turn`.
+    /// Refused `Stranger` if there is no node of that number; `NumbersEnd` if the act would make more routers than there are serials left;
+    /// `OutOfMemory` if the act wants memory and finds none, but a begin and a retire give their lock back instead; and `Raced` if another
+    /// thread came between the load of a word and its exchange: call again. A refused turn changes nothing.
+    ///
+    /// Where nothing waits, `hub.turn(rt, 0)` is `Ok(Happened::Idle)`.
     pub fn turn<R: Wait>(&self, rt: &R, node: u8) -> Result<Happened, Refusal>
         ensures stranger { F.table.count ≤ node → result ≡ Err Refusal.Stranger }
         ensures why { node < F.table.count → IfErr result IsTurnRefusal }
@@ -266,12 +308,26 @@ impl<F: FabricName> Hub<F> {
         Err(Refusal::Stranger)
     }
 
+    // Takes one turn of a node, as `turn`; behind an idle one a proxy that waits for a slot asks again, as `retry`, under the same hold of the lock.
+    // Whether one does.
+    pub(crate) fn turn_asking<R: Wait>(&self, rt: &R, node: u8) -> (Result<Happened, Refusal>, bool)
+        ensures stranger { F.table.count ≤ node → result.0 ≡ Err Refusal.Stranger }
+        ensures answer { node < F.table.count → IsTurnAnswer F.table node result.0 }
+    {
+        if node >= self.fabric.nodes() {
+            return (Err(Refusal::Stranger), false);
+        }
+        turn_asking_here(&mut self.lock(rt, node), &self.fabric)
+    }
+
     /// Takes turns of a node one after the other, under one hold of that node's lock, until one is idle, but no more than `limit`, and answers
     /// how many it has taken before the idle one. Callers of the node wait meanwhile. What else holds of it is what `NodeCell::acts` says, of
     /// the cell as the call found it: it has no name here, so `answer` says that there is such a cell.
     ///
-    /// It answers `Stranger` if there is no node of that number; else `NumbersEnd`, `OutOfMemory` or `Raced`, as the first turn that is
-    /// refused. What the turns before have done stays.
+    /// Refused `Stranger` if there is no node of that number; else `NumbersEnd`, `OutOfMemory` or `Raced`, as the first turn that is refused
+    /// ([`Hub::turn`] says when). What the turns before have done stays.
+    ///
+    /// Where nothing waits, `hub.acts(rt, 0, 100)` is `Ok(0)`.
     pub fn acts<R: Wait>(&self, rt: &R, node: u8, limit: u64) -> Result<u64, Refusal>
         ensures stranger { F.table.count ≤ node → result ≡ Err Refusal.Stranger }
         ensures few { IfOk result (λ n. n ≤ limit) }
@@ -284,10 +340,31 @@ impl<F: FabricName> Hub<F> {
         acts_here(&mut self.lock(rt, node), &self.fabric, limit)
     }
 
+    /// Lets a proxy of a node ask again for the slot of its bypass, if it was told that there is none and one is to be had now, under that
+    /// node's lock. What else holds of it is what `NodeCell::retry` says, of the cell as the call found it: it has no name here, so `answer`
+    /// says that there is such a cell. Workers do this by themselves ([`crate::work`]).
+    ///
+    /// Refused `Stranger` if there is no node of that number, and nothing else.
+    ///
+    /// Where no router of node 0 was told that there is no slot, `hub.retry(rt, 0)` is `Ok(Retry::NoneWaits)`.
+    pub fn retry<R: Wait>(&self, rt: &R, node: u8) -> Result<Retry, Refusal>
+        ensures stranger { F.table.count ≤ node → result ≡ Err Refusal.Stranger }
+        ensures answer { node < F.table.count → IsRetryAnswer F.table node result }
+    {
+        if node >= self.fabric.nodes() {
+            return Err(Refusal::Stranger);
+        }
+        Ok(retry_here(&mut self.lock(rt, node), &self.fabric))
+    }
+
     /// Takes one turn of a node, as `turn`, and sleeps if it was idle: until a message is posted to the node, a message of it is handled,
     /// a portal of it puts or closes, `notify_all` is called for it, or `limit` has passed. A sleep may also end for no reason. `Idle` says
     /// that the last turn found nothing to do, so that another call may follow. Where a loop looks at something else besides, as a flag that
-    /// ends it, call `work_waiting`, whose gate looks at it.
+    /// ends it, call `work_waiting`, whose gate looks at it. `Duration::MAX` is without end.
+    ///
+    /// Refused as [`Hub::turn`], and then it doesn't sleep.
+    ///
+    /// So `hub.turn_or_wait(rt, 0, Duration::from_millis(10))` takes an act of node 0, or sleeps for ten milliseconds at most.
     pub fn turn_or_wait<R: Wait>(
         &self,
         rt: &R,
@@ -312,7 +389,9 @@ impl<F: FabricName> Hub<F> {
     }
 
     /// Wakes all that sleep for a node: `turn_or_wait` and `work_waiting`, which then asks its gate again, and `Portal::get_timeout`, which
-    /// looks again. Where none sleeps it costs two loads.
+    /// looks again. Where none sleeps it costs two loads. It is never refused, and does nothing for a node that isn't there.
+    ///
+    /// So a thread that sets a flag calls `hub.notify_all(0)` behind it, for the workers of node 0 to look at it.
     pub fn notify_all(&self, node: u8) {
         self.fabric.notify_all(node);
     }
@@ -326,8 +405,11 @@ impl<F: FabricName> Hub<F> {
 
     /// Takes the cells out of their locks, and gives the table and the cells of all its nodes, in order. It waits for nothing.
     ///
-    /// It is refused `OutOfMemory`, and then gives the hub back. A type doesn't say at which place a cell stands, so the cells are asked; were
-    /// they others than those of all nodes in order, it would be refused `Stranger`.
+    /// Refused `OutOfMemory` if there is no memory for the two lists, and then it gives the hub back. A type doesn't say at which place a cell
+    /// stands, so the cells are asked; were they others than those of all nodes in order, it would be refused `Stranger`, and give the hub
+    /// back, too.
+    ///
+    /// So `finish(fabric, cells)` may follow on `hub.into_cells()`, to have all nodes as one world.
     pub fn into_cells(self) -> Result<(Fabric<F>, Vec<NodeCell<F>>), (Refusal, Hub<F>)>
         ensures all { IfOk result (λ r. is_in_order F.table.count 0 r.1.items ≡ true) }
         ensures many { IfOk result (λ r. vec_len r.1 ≡ self) }

@@ -10,7 +10,7 @@ mod workers;
 
 pub use hub::Hub;
 pub use ipcz_cell::{
-    Bells, Blank, Fabric, FabricName, NodeCell, Ticket, finish, start, start_lasting,
+    Bells, Blank, Fabric, FabricName, NodeCell, Retry, Ticket, finish, start, start_lasting,
 };
 pub use portal::{Got, Portal, PortalPutRefused};
 pub use portals::{Arrival, Portals};

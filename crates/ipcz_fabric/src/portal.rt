@@ -133,14 +133,18 @@ impl<F: FabricName> Portal<F> {
         }
     }
 
-    /// The number of the node whose callers hold the end.
+    /// The number of the node whose callers hold the end. It is below the number of nodes, and is never refused.
+    ///
+    /// Of the first portal that `Hub::new` gives, `portal.node()` is 0.
     pub fn node(&self) -> u8
         ensures { result ≡ self.now.node }
     {
         self.node
     }
 
-    /// The end.
+    /// The end: its pair and its side, a name that may be copied and compared. It is never refused.
+    ///
+    /// Of the first portal that `Hub::new` gives of two nodes, `portal.end()` is side A of pair 0.
     pub fn end(&self) -> End
         ensures { result ≡ self.now.end }
     {
@@ -231,7 +235,35 @@ impl<F: FabricName> Portal<F> {
         }
     }
 
-    /// Puts a parcel of printed bytes, as [`Portal::put_as`] does of `Profile::Printed`.
+    /// Puts a parcel, under the lock of the portal's node, and answers its number: how many were put at this portal before. It has 0 to 65,536
+    /// bytes of any value, and 0 to 8 portals, which are used up.
+    ///
+    /// Refused as [`Portal::put_as`] of `Profile::Wide`, and so never `BadData`. A refused put gives bytes and portals back.
+    ///
+    /// At a portal at which nothing was put yet, `portal.put_wide(rt, hub, bytes, portals)` is `Ok(0)`.
+    pub fn put_wide<R: Wait>(
+        &self,
+        rt: &R,
+        hub: &Hub<F>,
+        bytes: Vec<u8>,
+        portals: Vec<Portal<F>>,
+    ) -> Result<u64, PortalPutRefused<F>>
+        ensures number { IfOk result (IsPut Profile.Wide F.table self.now.node self.now.end bytes.items (ends_of portals.items)) }
+        ensures fits { OnOk result (parcel_refusal Profile.Wide self.now.end bytes.items (ends_of portals.items) ≡ None) }
+        ensures why { IfErr result (λ e. IsPutRefusal Profile.Wide self.now.end bytes.items (ends_of portals.items) e.why) }
+        ensures refused { IfErr result
+            (λ e. IsRefusedPut Profile.Wide F.table self.now.node self.now.end bytes.items (ends_of portals.items) e.why) }
+        ensures back { IfErr result (λ e. (e.bytes.items ≡ bytes.items) × (e.portals.items ≡ portals.items)) }
+    {
+        self.put_as(rt, hub, Profile::Wide, bytes, portals)
+    }
+
+    /// Puts a parcel as [`Portal::put_wide`] does, but a printed one, as scripts put: it has 0 to 256 bytes, each from 32 to 126.
+    ///
+    /// Refused as [`Portal::put_as`] of `Profile::Printed`, and so `TooMany` from 257 bytes on and `BadData` for any other byte. A refused put
+    /// gives bytes and portals back.
+    ///
+    /// Of the byte 7, `portal.put(rt, hub, bytes, portals)` is refused `BadData`, where a `put_wide` takes it.
     pub fn put<R: Wait>(
         &self,
         rt: &R,
@@ -249,11 +281,18 @@ impl<F: FabricName> Portal<F> {
         self.put_as(rt, hub, Profile::Printed, bytes, portals)
     }
 
-    /// Puts a parcel, under the lock of the portal's node, and answers its number: its bytes, and portals, which are used up. What else
-    /// holds of it is what `NodeCell::put` says, of the cell as the call found it.
+    /// Puts a parcel of a profile, under the lock of the portal's node, and answers its number: its bytes, and portals, which are used up. What
+    /// else holds of it is what `NodeCell::put_as` says, of the cell as the call found it.
     ///
-    /// A refused put gives bytes and portals back. Room for the list of ends is taken first, so `OutOfMemory` comes before all else; then
-    /// the refusals are those of `NodeState::put_as`, in their order. A portal of another node is a `Stranger`.
+    /// Refused by the first of these that holds: `OutOfMemory` if the list of its portals' ends finds no memory; `Stranger` if the node's callers
+    /// don't hold this portal's end; `TooMany` if the parcel has more than 8 portals, or more than 256 bytes, or, of `Profile::Wide`, more
+    /// than 65,536; `BadData` if it is of `Profile::Printed` and a byte isn't from 32 to 126; `SelfAttach` if it carries a portal of this
+    /// portal's end; `PeerAttach` if it carries the peer of this portal; `Stranger` if it carries a portal whose end the node's callers don't
+    /// hold, as one of another node, or one end twice; `PeerClosed` if the node has heard that the peer is closed; `NumbersEnd` if no
+    /// number is left for a parcel at this portal, after 2^64 - 3 of them; and `OutOfMemory` if the queue has to grow and finds no
+    /// memory. A refused put gives bytes and portals back.
+    ///
+    /// At a portal at which one parcel was put, `portal.put_as(rt, hub, Profile::Wide, bytes, portals)` is `Ok(1)`.
     pub fn put_as<R: Wait>(
         &self,
         rt: &R,
@@ -277,8 +316,11 @@ impl<F: FabricName> Portal<F> {
     /// Takes the next parcel, under the lock of the portal's node. What else holds of it is what `NodeCell::get` says, of the cell as the
     /// call found it.
     ///
-    /// If the parcel has portals room for them is taken first, so that no parcel is lost: `OutOfMemory` is answered only then. Else the
-    /// refusals are those of `NodeState::get`: `Stranger`, `Empty`, `PeerClosed`; such a get takes no memory.
+    /// If the parcel has portals room for them is taken first, so that no parcel is lost: `OutOfMemory` is answered only if there is none for
+    /// them. Else it is refused `Stranger` if the node's callers don't hold the portal's end, `Empty` if the next parcel hasn't come, and
+    /// `PeerClosed` if the peer is closed and all that was put there was got; such a get takes no memory.
+    ///
+    /// Where the first parcel has come, `portal.get(rt, hub)` is `Ok(got)`, and `got.n` is 0.
     pub fn get<R: Wait>(&self, rt: &R, hub: &Hub<F>) -> Result<Got<F>, Refusal>
         ensures got { IfOk result (λ g. IsGot F.table self.now.node self.now.end g.n g.bytes.items g.portals.items) }
         ensures here { IfOk result (λ g. All (λ p. p.node ≡ self.now.node) g.portals.items) }
@@ -329,8 +371,11 @@ impl<F: FabricName> Portal<F> {
     /// Takes the next parcel, as `get`, and sleeps while there is none, for no longer than `limit` in all; `Duration::MAX` is without end.
     /// Workers have to take the turns of the nodes meanwhile.
     ///
-    /// It takes no memory, and is never refused `OutOfMemory`: its portals are made as they are taken out. Its other refusals are those of
-    /// `get`. It answers `Empty` only if a last try, at the end of its time, has found none. A clock that can't be read ends the wait.
+    /// It takes no memory, and is never refused `OutOfMemory`: its portals are made as they are taken out. Refused `Stranger` if the node's
+    /// callers don't hold the portal's end, `PeerClosed` if the peer is closed and all that was put there was got, and `Empty` if a last
+    /// try, at the end of its time, has found no parcel. A clock that can't be read ends the wait.
+    ///
+    /// So `portal.get_timeout(rt, hub, Duration::from_secs(1))` waits for a second at most.
     pub fn get_timeout<R: Wait + Clock>(
         &self,
         rt: &R,
@@ -352,8 +397,10 @@ impl<F: FabricName> Portal<F> {
 
     /// Closes the end, under the lock of the portal's node, and answers the number of the mark that its peer is to get.
     ///
-    /// A refused close gives the portal back. It answers `Stranger` if callers of the node don't hold the end any more, else
-    /// `OutOfMemory`.
+    /// Refused `Stranger` if callers of the node don't hold the end any more, and `OutOfMemory` if the queue has to grow and finds no memory. A
+    /// refused close gives the portal back.
+    ///
+    /// At a portal at which one parcel was put, `portal.close(rt, hub)` is `Ok(1)`.
     pub fn close<R: Wait>(self, rt: &R, hub: &Hub<F>) -> Result<u64, (Refusal, Portal<F>)>
         ensures number { IfOk result (IsClosed F.table self.node self.end) }
         ensures back { IfErr result (λ e. e.1 ≡ self) }

@@ -61,21 +61,27 @@ pub(crate) fn arrival_of<F: FabricName>(node: u8, n: u64, parcel: Parcel) -> Arr
 }
 
 impl<F: FabricName> Portals<F> {
-    /// How many there are: at most eight, less those that were taken out.
+    /// How many there are: at most eight, less those that were taken out. It is never refused.
+    ///
+    /// Of a parcel that was put with two portals, `arrival.portals.len()` is 2.
     pub fn len(&self) -> usize
         ensures { result ≡ length self.now }
     {
         self.ends.len()
     }
 
-    /// Whether there is none.
+    /// Whether there is none. It is never refused.
+    ///
+    /// Of a parcel that was put without portals, `arrival.portals.is_empty()` is true.
     pub fn is_empty(&self) -> bool
         ensures { result ≡ (length self.now == 0) }
     {
         self.ends.is_empty()
     }
 
-    /// Takes the last one out.
+    /// Takes the last one out, or tells that there is none. It takes no memory, and is never refused.
+    ///
+    /// Of a parcel that was put with one portal, `arrival.portals.pop()` is that portal, of the node where the parcel was got.
     pub fn pop(&mut self) -> Option<Portal<F>>
         ensures { MatchOption result ((self.old ≡ []) × (self.new ≡ [])) (λ p. self.old ≡ self.new ++ p ∷ []) }
     {
@@ -85,7 +91,9 @@ impl<F: FabricName> Portals<F> {
         }
     }
 
-    /// Makes a list of them, for which it takes memory. A refusal gives them back.
+    /// Makes a list of them, in their order. If there is no memory for the list, it gives them back.
+    ///
+    /// So `let list = arrival.portals.into_vec(alloc)` has them as `Got` of [`Portal::get`] has.
     pub fn into_vec(self, alloc: Global) -> Result<Vec<Portal<F>>, Portals<F>>
         ensures ok { IfOk result (λ portals. portals.items ≡ self) }
         ensures back { IfErr result (λ portals. portals ≡ self) }

@@ -133,8 +133,8 @@ impl<'a, R: Wait, F: FabricName, G: Gate> Worker for HubWorker<'a, R, F, G> {
     }
 
     fn turn(&mut self) -> Result<Happened, Refusal> {
-        let answer = self.hub.turn(self.rt, self.node);
-        self.idle = matches!(&answer, Ok(Happened::Idle));
+        let (answer, asks_again) = self.hub.turn_asking(self.rt, self.node);
+        self.idle = matches!(&answer, Ok(Happened::Idle)) && !asks_again;
         if self.idle {
             sleep(self.rt, self.hub, self.node, self.ticket, self.limit);
         }
@@ -178,7 +178,9 @@ fn take_turns<R: Wait, F: FabricName, G: Gate>(
 ///
 /// Before each turn it asks the gate, without any lock, and ends if that answers false; it ends after `limit` turns, and at a turn that
 /// is refused `OutOfMemory` or `NumbersEnd`, which isn't counted. One that is refused `Raced` is counted, and it goes on. For a node that
-/// isn't below the number of nodes it gives 0 and asks nothing.
+/// isn't below the number of nodes it gives 0 and asks nothing. It is never refused itself.
+///
+/// So `work(rt, &hub, 0, &mut gate, 100)` takes a hundred turns of node 0 at most.
 pub fn work<R: Wait, F: FabricName, G: Gate>(
     rt: &R,
     hub: &Hub<F>,
@@ -195,7 +197,9 @@ pub fn work<R: Wait, F: FabricName, G: Gate>(
 
 /// Takes turns of a node of a hub, as `work`, and sleeps if two in a row are idle, as `Hub::turn_or_wait`, for no longer than
 /// `limit_of_sleep`; `Duration::MAX` is without end. So the gate is asked at least that often, and `Hub::notify_all` has it asked again:
-/// what the gate looks at is to be changed before that is called.
+/// what the gate looks at is to be changed before that is called. It is never refused itself.
+///
+/// So `work_waiting(rt, &hub, 0, &mut gate, u64::MAX, Duration::MAX)` serves node 0 until the gate answers false.
 pub fn work_waiting<R: Wait, F: FabricName, G: Gate>(
     rt: &R,
     hub: &Hub<F>,

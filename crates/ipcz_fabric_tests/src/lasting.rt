@@ -27,18 +27,20 @@ const LAPS: u32 = 50_000;
 
 const PASSES: u64 = 1000;
 
-const LEFT: End = End {
+/// The end of the first pair at the first node.
+pub(crate) const LEFT: End = End {
     pair: 0,
     side: Side::A,
 };
 
-const RIGHT: End = End {
+/// The end of the first pair at the second node.
+pub(crate) const RIGHT: End = End {
     pair: 0,
     side: Side::B,
 };
 
-// Whether both come to rest.
-fn come_to_rest<F: FabricName>(
+/// Whether both come to rest.
+pub(crate) fn come_to_rest<F: FabricName>(
     fabric: &Fabric<F>,
     left: &mut NodeCell<F>,
     right: &mut NodeCell<F>,

@@ -32,3 +32,7 @@ mod owned;
 mod portals;
 #[cfg(test)]
 mod race;
+#[cfg(test)]
+mod retries;
+#[cfg(test)]
+mod wide_cells;

@@ -19,6 +19,7 @@ enum Case {
     EarlyEnd,
     DroppedPortal,
     Arrival,
+    Wide,
 }
 
 // A gate that is open for two turns.
@@ -138,6 +139,48 @@ fn listed<F: FabricName, R: Wait + Clock>(
     }
 }
 
+// Whether so many bytes that don't print are put, and got once the node has acted.
+fn goes_wide<F: FabricName, R: Wait>(
+    rt: &R,
+    hub: &Hub<F>,
+    alloc: Global,
+    at: &Portal<F>,
+    peer: &Portal<F>,
+    count: usize,
+) -> Option<bool> {
+    let bytes = vec![in alloc; 7u8; count].ok()?;
+    let put = at.put_wide(rt, hub, bytes, Vec::new(alloc));
+    hub.acts(rt, 0, 100).ok()?;
+    let got = peer.get(rt, hub).ok()?;
+    let same = got.bytes.len() == count && got.bytes.iter().all(|byte| *byte == 7);
+    Some(matches!(put, Ok(n) if n == got.n) && same)
+}
+
+// Why a put of so many bytes that don't print is refused; none if it isn't.
+fn why_not_wide<F: FabricName, R: Wait>(
+    rt: &R,
+    hub: &Hub<F>,
+    alloc: Global,
+    at: &Portal<F>,
+    count: usize,
+) -> Option<Refusal> {
+    let bytes = vec![in alloc; 7u8; count].ok()?;
+    match at.put_wide(rt, hub, bytes, Vec::new(alloc)) {
+        Ok(_) => None,
+        Err(refused) => Some(refused.why),
+    }
+}
+
+// Whether a parcel of none, one and the most bytes goes through, and one of a byte more is too much.
+fn is_wide<F: FabricName, R: Wait>(rt: &R, hub: &Hub<F>, alloc: Global) -> Option<bool> {
+    let (a, b) = hub.open_pair(rt, 0).ok()?;
+    let none = goes_wide(rt, hub, alloc, &a, &b, 0)?;
+    let one = goes_wide(rt, hub, alloc, &a, &b, 1)?;
+    let most = goes_wide(rt, hub, alloc, &a, &b, 65_536)?;
+    let more = why_not_wide(rt, hub, alloc, &a, 65_537)?;
+    Some(none && one && most && more == Refusal::TooMany)
+}
+
 // Sends a portal, takes it out of what is got, and sends it again; the end of what is got then.
 fn goes_twice<F: FabricName, R: Wait + Clock>(
     rt: &R,
@@ -178,6 +221,7 @@ fn looks<F: FabricName, R: Wait + Clock>(
         Case::EarlyEnd => Some(work(rt, hub, 0, &mut Twice, 10) == 2),
         Case::DroppedPortal => is_open(rt, hub),
         Case::Arrival => arrives(rt, hub, alloc),
+        Case::Wide => is_wide(rt, hub, alloc),
     }
 }
 
@@ -228,6 +272,11 @@ fn work_that_ends_early_tells_the_turns_taken(rt: HostRuntime) {
 #[test]
 fn a_portal_that_is_dropped_leaves_its_end_open(rt: HostRuntime) {
     assert_eq!(rt; holds(&rt, rt.alloc(), Case::DroppedPortal), Some(true));
+}
+
+#[test]
+fn a_portal_takes_up_to_65536_bytes_of_any_value(rt: HostRuntime) {
+    assert_eq!(rt; holds(&rt, rt.alloc(), Case::Wide), Some(true));
 }
 
 #[test]

@@ -1,4 +1,4 @@
-//! The lines of a transcript: what each says (docs/PROTOCOL.md, "The transcript" and "Events").
+//! The lines of a transcript: what each says (docs/SCRIPTS.md, "The transcript" and "Events").
 //!
 //! A line refers to the bytes that it was read from for names, lists and data. Every number in it is one of 64 bits at most,
 //! as all of a run are.

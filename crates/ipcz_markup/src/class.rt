@@ -47,9 +47,10 @@ pub enum Class {
     ItemDot,
     RestDot,
     DiscLetter,
-    /// A call of a caller, at the router of its portal.
+    /// A call of a caller, at the router of its portal, and one that was refused.
     CallDot,
     CallNote,
+    RefusedCall,
     /// The link words.
     WordHeading,
     WordName,
@@ -108,6 +109,7 @@ impl Class {
             Class::DiscLetter => b"t10 onf b m",
             Class::CallDot => b"f-call",
             Class::CallNote => b"t9 f-call h halo",
+            Class::RefusedCall => b"p s-bad w2",
             Class::WordHeading => b"t13 f-word b",
             Class::WordName => b"t9 f-word e",
             Class::CellNone => b"k0",

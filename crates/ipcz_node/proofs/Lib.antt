@@ -25,3 +25,4 @@ pub mod Standings
 pub mod Telling
 pub mod Turns
 pub mod Written
+pub mod Dryness

@@ -26,7 +26,7 @@ use Rattle.std.specs.Prelude.{option_map}
 use Rattle.ipcz_base.specs.Links.{central_end}
 use Rattle.ipcz_edge.specs.Edge.{Edge, finish}
 use Rattle.ipcz_router.specs.Bypass.{bypass_peer}
-use Rattle.ipcz_router.specs.ActEffects.{apply, finish_in, begin_bypass}
+use Rattle.ipcz_router.specs.ActEffects.{apply, finish_in, begin_bypass, rewet}
 use Rattle.ipcz_router.specs.declared.act.RouterAct.{RouterAct}
 use Rattle.ipcz_router.specs.declared.act.RouterAct.TheVariants.{FinishOut, FinishIn, Leave, Mark, Claim}
 use Rattle.ipcz_router.specs.declared.act.RouterAct.TheVariants.{Lock, Begin}
@@ -440,6 +440,9 @@ pub accept_stays : (r : Router) (from_outward : Bool) (n : ℕ) (item : Item) �
 unfolding accept
 accept_stays r true n item = refl
 accept_stays r false n item = refl
+
+pub rewet_stays : (r : Router) → StaysFiled r (rewet r)
+rewet_stays r = refl
 
 -- as with each act that keeps its links
 pub act_stays : (r : Router) (act : RouterAct) (answer : Answer) → keeps_links act ≡ true → StaysFiled r (apply r act answer)

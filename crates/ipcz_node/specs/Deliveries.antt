@@ -8,19 +8,8 @@ use Rattle.ipcz_node.specs.Hands.{fits, message_lacks_serials, message_grows}
 use Rattle.ipcz_node.specs.RoomyNodes.{RoomyNode}
 use Rattle.ipcz_node.specs.Telling.{HasRoomFor}
 
--- a node took a message from a sender, and is as it is then, or the message is handed back and the node is as it was: only for want of
--- serials, or if there was no room for what the message makes grow
-pub record IsDelivered {A : Type 0} (old : RoomyNode) (sender : ℕ) (m : Message) (source : Option ℕ) (after : Node)
-    (result : Result A (Refusal × Message)) (new : RoomyNode) : Type 0 where
-  pub ok : OnOk result (new.node ≡ after)
-  pub allowed : OnOk result (message_lacks_serials old.node sender m source ≡ false)
-  pub why : IfErr result (λ e. e.0 ≡ (if message_lacks_serials old.node sender m source then NumbersEnd else OutOfMemory))
-  pub grows : message_grows old.node sender m source ≡ false → IsOk result
-  pub full : fits old.node sender m source ≡ true → HasRoomFor old m → message_lacks_serials old.node sender m source ≡ false → IsOk result
-  pub stray : fits old.node sender m source ≡ false → 0 < old.room.strays → IsOk result
-  pub err : IfErr result (λ e. (e.1 ≡ m) × (new.node ≡ old.node))
-
--- the same of a message that lies where its owner keeps it: it is left as it is if it is refused, and counts for nothing if it is taken
+-- A message lies where its owner keeps it. A node took it from a sender, and is as it is then, and what is left of the message counts for
+-- nothing; or message and node are as they were: only for want of serials, or if there was no room for what the message makes grow
 pub record IsDeliveredInPlace {A : Type 0} (old : RoomyNode) (sender : ℕ) (m left : Message) (source : Option ℕ) (after : Node)
     (result : Result A Refusal) (new : RoomyNode) : Type 0 where
   pub ok : OnOk result (new.node ≡ after)

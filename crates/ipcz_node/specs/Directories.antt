@@ -1,6 +1,6 @@
 -- Where the routers of a node are found: by the links that they have, by the ends whose open terminals they are, and by their flags.
 -- (ipcz: a node link finds a router by its sublink. The other two are this project's own.)
-use Rattle.std.specs.Prelude.{◌≡◌, ◌==◌, ℕ, ◌+◌, ◌≤◌, ◌<◌, ◌&&◌, Bool, true, false, if◌then◌else◌, List, length}
+use Rattle.std.specs.Prelude.{◌≡◌, ◌==◌, ℕ, ◌+◌, ◌≤◌, ◌<◌, ◌&&◌, Bool, true, false, if◌then◌else◌, Some, List, length}
 use Rattle.std.specs.Option.{option_map_or}
 use Rattle.std.specs.Ordering.{nat_cmp}
 use Rattle.std.specs.FinMap.{FinMap, get}
@@ -57,6 +57,10 @@ ends_inside r = total (λ n item. length (ends_in item)) r.in_queue.items
 pub record CanHold (m : FinMap nat_cmp Router) (ends more in_held : ℕ) : Type 0 where
   pub counted : total (λ serial r. ends_inside r) m ≤ ends
   pub room : ends + more ≤ in_held
+
+-- no router was told that no word is left, unless some may have been
+abbrev pub MayBeDry : Bool → FinMap nat_cmp Router → Type 0
+MayBeDry some_dry m = some_dry ≡ false → (serial : ℕ) (r : Router) → get m serial ≡ Some r → r.dry ≡ false
 
 -- how many ends come into the in queue with an item, if it comes from outward and has its place
 abbrev pub ends_brought : Router → Bool → ℕ → Item → ℕ

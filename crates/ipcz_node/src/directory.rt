@@ -22,6 +22,7 @@ ghost use Rattle.ipcz_node.specs.Serials.{map_by, AreRising};
 
 mod calls;
 mod carrying;
+mod dry;
 mod filing;
 mod hearing;
 mod passing;
@@ -45,7 +46,7 @@ use std::marker::Model;
 /// is, and by its flag; and the ends that callers hold (docs/PROTOCOL.md, "Nodes").
 ///
 /// It has room to hold each end that waits in the in queue of a router, so that a get takes no memory, and the end of each
-/// router that there is room for: `ends` is no less than how many wait in the queues.
+/// router that there is room for: `ends` is no less than how many wait in the queues. It knows when none of its routers is dry.
 #[derive(Drop)]
 pub struct Directory {
     routers: Routers,
@@ -54,6 +55,7 @@ pub struct Directory {
     room: usize,
     more: usize,
     ends: usize,
+    some_dry: bool,
 }
 
 impl Model for Directory {
@@ -61,7 +63,7 @@ impl Model for Directory {
     ghost use Rattle.std.specs.FinMap.{code};
     ghost use Rattle.std.specs.Coded.{codes};
     ghost use Rattle.ipcz_node.specs.Rooms.{RoomyDirectory};
-    ghost use Rattle.ipcz_node.specs.Directories.{AreFiled, HaveRoom, CanHold};
+    ghost use Rattle.ipcz_node.specs.Directories.{AreFiled, HaveRoom, CanHold, MayBeDry};
 
     ghost Value = { RoomyDirectory };
 
@@ -83,7 +85,7 @@ impl Model for Directory {
 
     ghost invariant = { λ a. (AreFiled a.routers.routers a.files.links.members a.files.terminals.members a.files.flagged.members ×
         HaveRoom a.routers.routers a.room a.more a.routers.room a.files.links.room a.files.terminals.room a.files.flagged.room)
-        × CanHold a.routers.routers a.ends a.room a.held.room };
+        × CanHold a.routers.routers a.ends a.room a.held.room × MayBeDry a.some_dry a.routers.routers };
 }
 
 impl Directory {
@@ -105,6 +107,7 @@ impl Directory {
             room: 0,
             more: 0,
             ends: 0,
+            some_dry: false,
         }
     }
 
@@ -403,6 +406,7 @@ impl Directory {
         let was = router.is_flagged();
         let applied = router.apply(act, answer);
         let is = router.is_flagged();
+        self.some_dry = router.is_dry() | self.some_dry;
         follow(&mut self.files.flagged, serial, was, is);
         let taken = ends_taken(act, &applied);
         self.ends = self.ends.saturating_sub(taken);
@@ -425,6 +429,7 @@ impl Directory {
         let was = router.filing();
         let applied = router.apply(act, answer);
         let is = router.filing();
+        self.some_dry = router.is_dry() | self.some_dry;
         self.files.refile(serial, &was, &is);
         self.ends = self.ends.saturating_sub(ends_taken(act, &applied));
         applied

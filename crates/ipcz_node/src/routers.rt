@@ -148,6 +148,13 @@ impl Routers {
         first_in(&entries[place..], from, ends)
     }
 
+    /// The dry router of the lowest serial: its serial and its end.
+    pub fn first_dry(&self) -> Option<(u64, End)>
+        ensures { IsNext (get self.now.routers) (λ r. r.dry) 0 result }
+    {
+        dry_in(self.entries.as_slice())
+    }
+
     /// How many routers there are.
     pub fn len(&self) -> usize
         ensures count { result ≡ len self.now.routers }
@@ -259,6 +266,23 @@ fn first_in(entries: &[(u64, Router)], from: u64, ends: &HeldEnds) -> Option<(u6
                 Some((entry.0, end))
             } else {
                 first_in(rest, from, ends)
+            }
+        }
+    }
+}
+
+// The first entry whose router is dry: its serial and its end.
+fn dry_in(entries: &[(u64, Router)]) -> Option<(u64, End)>
+    requires { (first : ℕ) × (next : ℕ) × AreRising first next entries.now }
+    ensures { IsNext (λ s. find nat_cmp s (entries_by (λ x. x.router) entries.now)) (λ r. r.dry) 0 result }
+{
+    match entries {
+        [] => None,
+        [entry, rest @ ..] => {
+            if entry.1.is_dry() {
+                Some((entry.0, entry.1.end()))
+            } else {
+                dry_in(rest)
             }
         }
     }

@@ -1,9 +1,11 @@
 -- What stands in rows.
 use Rattle.std.specs.Prelude.{ℕ, ◌≡◌, ◌+◌, ◌*◌, ◌%◌, ◌<◌, ◌≤◌, ◌==◌, Bool, true, false, List, length, codes, Option, Some, None}
-use Rattle.std.specs.List.{AllWithin, HoldsAt}
+use Rattle.std.specs.List.{AllWithin, HoldsAt, slice_get}
 use Rattle.ipcz_lines.specs.declared.line.Line.{Line}
 use Rattle.ipcz_lines.specs.declared.line.Line.TheVariants as lines
 use Rattle.ipcz_lines.specs.declared.line.Event.TheVariants as events
+use Rattle.ipcz_lines.specs.declared.line.parts.Answer.TheVariants as answers
+use Rattle.ipcz_lines.specs.declared.line.parts.Refusal.TheVariants as refusals
 use Rattle.ipcz_lines.specs.declared.line.RouterEvent.TheVariants as acts
 use Rattle.ipcz_lines.specs.declared.line.ReadLine.{ReadLine}
 
@@ -50,8 +52,34 @@ has_marks lines.Settled = true
 has_marks lines.Unsettled = true
 has_marks other = false
 
--- what a call is: a put, a close or a get
-abbrev pub call_verb : Line → List ℕ
-call_verb (lines.Put name answer) = codes "put"
-call_verb (lines.Close name answer) = codes "close"
-call_verb other = codes "get"
+-- whether a line is a retire, which makes Gone
+abbrev pub is_retire : Line → Bool
+is_retire (lines.Turn node (events.Router serial (acts.Retire number link))) = true
+is_retire other = false
+
+-- whether there is a line, and it is a retire
+abbrev pub is_retire_read : Option ReadLine → Bool
+is_retire_read None = false
+is_retire_read (Some x) = is_retire x.line
+
+-- whether the line at which a message was made is known, and is a retire
+abbrev pub is_retire_at : List ReadLine → Option ℕ → Bool
+is_retire_at read None = false
+is_retire_at read (Some line) = is_retire_read (slice_get read line)
+
+-- whether a call was refused
+abbrev pub is_refused : Line → Bool
+is_refused (lines.Put name (answers.Refused refusal)) = true
+is_refused (lines.Close name (answers.Refused refusal)) = true
+is_refused (lines.Missed name refusal) = true
+is_refused other = false
+
+-- what a call is, a put, a close or a get, and whether it was refused; a get that finds no parcel yet is empty
+abbrev pub call_note : Line → List ℕ
+call_note (lines.Put name (answers.Number number)) = codes "put"
+call_note (lines.Put name (answers.Refused refusal)) = codes "put refused"
+call_note (lines.Close name (answers.Number number)) = codes "close"
+call_note (lines.Close name (answers.Refused refusal)) = codes "close refused"
+call_note (lines.Missed name refusals.Empty) = codes "get: empty"
+call_note (lines.Missed name other) = codes "get refused"
+call_note other = codes "get"

@@ -1,9 +1,10 @@
 //! What the title and the label of a message say.
 
-ghost use Rattle.std.specs.Prelude.{◌+◌, ◌*◌, ◌≤◌, length};
+ghost use Rattle.std.specs.Prelude.{◌≡◌, ◌+◌, ◌*◌, ◌≤◌, length};
 ghost use Rattle.ipcz_markup.specs.Markup.{Grows, Keeps};
+ghost use Rattle.ipcz_picture.specs.Marks.{is_retire, is_retire_at};
 
-use ipcz_lines::{Kind, Link};
+use ipcz_lines::{Event, Kind, Line, Link, ReadLine, RouterEvent};
 use ipcz_markup::{Look, Stroke, Tag, Writer};
 use ipcz_messages::messages::Message;
 use ipcz_messages::routers::Router;
@@ -41,6 +42,45 @@ fn front(text: &[u8], room: usize) -> &[u8]
     ensures few { length result.now ≤ room }
 {
     &text[..text.len().min(room)]
+}
+
+// Whether a line is a retire.
+fn is_retire(line: &Line) -> bool
+    ensures { result ≡ is_retire line.now }
+{
+    matches!(
+        line,
+        Line::Turn {
+            event: Event::Router {
+                event: RouterEvent::Retire { .. },
+                ..
+            },
+            ..
+        }
+    )
+}
+
+// Whether a message is Gone: a retire made it, and makes nothing else.
+fn is_gone(lines: &[ReadLine], message: &Message) -> bool
+    ensures { result ≡ is_retire_at lines.now message.now.made }
+{
+    let Some(made) = message.made else {
+        return false;
+    };
+    match lines.get(made) {
+        Some(read) => is_retire(&read.line),
+        None => false,
+    }
+}
+
+// Gone by its name, before its kind.
+fn write_gone(out: &mut Writer, lines: &[ReadLine], message: &Message)
+    ensures keeps { Keeps out.old out.new }
+    ensures few { Grows out.old out.new 40 }
+{
+    if is_gone(lines, message) {
+        out.text(b"Gone ");
+    }
 }
 
 /// A link's name, behind a space.
@@ -117,10 +157,11 @@ fn write_line(out: &mut Writer, words: &[u8], line: Option<usize>)
 }
 
 // What a message is, from which router to which it goes, and at which lines it is seen.
-fn write_history(out: &mut Writer, routers: &[Router], message: &Message)
+fn write_history(out: &mut Writer, lines: &[ReadLine], routers: &[Router], message: &Message)
     ensures keeps { Keeps out.old out.new }
-    ensures few { Grows out.old out.new 1100 }
+    ensures few { Grows out.old out.new 1140 }
 {
+    write_gone(out, lines, message);
     write_kind(out, &message.kind);
     if let Some(link) = &message.link {
         write_link(out, link);
@@ -137,13 +178,13 @@ fn write_history(out: &mut Writer, routers: &[Router], message: &Message)
 }
 
 /// The title of a message.
-pub fn draw_arrow_title(out: &mut Writer, routers: &[Router], message: &Message)
+pub fn draw_arrow_title(out: &mut Writer, lines: &[ReadLine], routers: &[Router], message: &Message)
     ensures keeps { Keeps out.old out.new }
-    ensures few { Grows out.old out.new 1115 }
+    ensures few { Grows out.old out.new 1155 }
 {
     out.open(Tag::Title);
     out.enter();
-    write_history(out, routers, message);
+    write_history(out, lines, routers, message);
     out.close(Tag::Title);
 }
 
@@ -166,12 +207,20 @@ fn write_short_kind(out: &mut Writer, kind: &Option<Kind>)
     }
 }
 
-/// The label of a message: its kind, and the ends that move with it.
-pub fn draw_arrow_label(out: &mut Writer, message: &Message, x: u64, y: u64, is_right: bool)
+/// The label of a message: its kind, of Gone also its name, and the ends that move with it.
+pub fn draw_arrow_label(
+    out: &mut Writer,
+    lines: &[ReadLine],
+    message: &Message,
+    x: u64,
+    y: u64,
+    is_right: bool,
+)
     ensures keeps { Keeps out.old out.new }
     ensures few { Grows out.old out.new 500 }
 {
     out.begin_arrow_label(x, y, look_of(message), number_of(message), is_right);
+    write_gone(out, lines, message);
     write_short_kind(out, &message.kind);
     if !message.moves.is_empty() {
         out.text(b" +");

@@ -120,11 +120,11 @@ fn draw_outbox(
 fn end_titled(out: &mut Writer, scene: &Scene, message: &Message)
     ensures ends { (rows : List Row) (s : List Tag) →
         Stands out.old rows InValue (Tag.Path ∷ s) → Stands out.new rows InText s }
-    ensures few { Grows out.old out.new 1125 }
+    ensures few { Grows out.old out.new 1165 }
 {
     out.end_value();
     out.enter();
-    draw_arrow_title(out, scene.routers, message);
+    draw_arrow_title(out, scene.lines, scene.routers, message);
     out.close(Tag::Path);
 }
 
@@ -258,14 +258,25 @@ fn draw_gained(out: &mut Writer, scene: &Scene, message: &Message, wall: Wall, l
     end_titled(out, scene, message);
 }
 
+// How far down the label of a message stands at a line: above the begin of its way, at its post, and else below its end. Since each way goes
+// down, it goes through no label of its own.
+fn label_height(scene: &Scene, message: &Message, line: usize) -> u64 {
+    let middle = scene.middle_of(line);
+    if message.posted == Some(line) {
+        middle.saturating_sub(3)
+    } else {
+        middle.saturating_add(9)
+    }
+}
+
 // The label of a message at a wall, if a line has a row.
 fn draw_label_at(out: &mut Writer, scene: &Scene, message: &Message, wall: Wall, line: usize)
     ensures keeps { Keeps out.old out.new }
     ensures few { Grows out.old out.new 500 }
 {
     if scene.shows(line) {
-        let y = scene.middle_of(line).saturating_sub(3);
-        draw_arrow_label(out, message, wall.outside(4), y, wall.is_right);
+        let y = label_height(scene, message, line);
+        draw_arrow_label(out, scene.lines, message, wall.outside(4), y, wall.is_right);
     }
 }
 

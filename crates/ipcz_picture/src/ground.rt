@@ -68,6 +68,17 @@ fn draw_settle_ground(out: &mut Writer, scene: &Scene, top: u64, class: Class)
     out.pill(8, top.saturating_add(3), width, 2 * UNIT - 6, 3, class);
 }
 
+// The ground under a line of words: across the whole row, however high it is.
+fn draw_words_ground(out: &mut Writer, scene: &Scene, index: usize)
+    ensures keeps { Keeps out.old out.new }
+    ensures few { Grows out.old out.new 400 }
+{
+    let top = scene.top_of(index);
+    let height = scene.top_of(index.saturating_add(1)).saturating_sub(top);
+    let width = scene.width.saturating_sub(16);
+    out.rect(8, top, width, height, Class::Stripe);
+}
+
 // The ground under a line's row.
 fn draw_line_ground(out: &mut Writer, scene: &Scene, index: usize, line: &Line)
     ensures keeps { Keeps out.old out.new }
@@ -85,6 +96,7 @@ fn draw_line_ground(out: &mut Writer, scene: &Scene, index: usize, line: &Line)
         }
         Line::Settled => draw_settle_ground(out, scene, top, Class::Settle),
         Line::Unsettled => draw_settle_ground(out, scene, top, Class::Fault),
+        Line::Words(_) => draw_words_ground(out, scene, index),
         _ => {}
     }
 }

@@ -99,11 +99,12 @@ fn draw_shape_key(out: &mut Writer, x: u64, size: u64, radius: u64, class: Class
 // What small shapes, grounds and dim words mean.
 fn draw_sign_keys(out: &mut Writer)
     ensures keeps { Keeps out.old out.new }
-    ensures few { Grows out.old out.new 6300 }
+    ensures few { Grows out.old out.new 7000 }
 {
     draw_shape_key(out, 22, 8, 4, Class::ItemDot, b"send");
     draw_shape_key(out, 72, 4, 2, Class::RestDot, b"rest");
     draw_shape_key(out, 122, 8, 1, Class::CallDot, b"call at a portal");
+    draw_shape_key(out, 890, 8, 1, Class::RefusedCall, b"refused call");
     draw_shape_key(out, 242, 13, 0, Class::Turn, b"its turn");
     draw_shape_key(out, 314, 13, 3, Class::Settle, b"settled");
     draw_shape_key(out, 380, 13, 3, Class::Fault, b"unsettled");

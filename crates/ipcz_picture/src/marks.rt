@@ -111,14 +111,14 @@ fn draw_act(out: &mut Writer, x: u64, letter: u8, class: Class, words: &[u8])
     out.label(x.saturating_add(10), BASE, Class::Note, words);
 }
 
-// A discarded item.
+// A discarded item; a router leaves with that of Gone alone.
 fn draw_discard(out: &mut Writer, x: u64, number: u64, leaves: bool)
     ensures keeps { Keeps out.old out.new }
     ensures few { Grows out.old out.new 3000 }
 {
     if leaves {
         out.disc(x, MIDDLE, b'X', Class::BadDisc);
-        draw_note(out, x, b"leaves with item ", number);
+        draw_note(out, x, b"leaves with Gone, item ", number);
     } else {
         out.disc(x, MIDDLE, b'D', Class::DimDisc);
         draw_note(out, x, b"item ", number);

@@ -6,15 +6,16 @@ mod GoingOn
 mod HolderOf
 mod Holders
 mod Inverting
-mod Kept
-mod Parcels
+pub mod Kept
+pub mod Parcels
 mod Pending
 mod PendingSteps
 mod Promised
 mod Refusals
-mod Resting
+pub mod Resting
 mod Start
 mod Tests
+pub mod TurnRuns
 mod WetCalls
 mod WetSteps
 mod WordCount

@@ -2,3 +2,4 @@ pub mod Accounting
 pub mod CallRuns
 pub mod Promise
 pub mod PromiseTests
+pub mod TurnRuns

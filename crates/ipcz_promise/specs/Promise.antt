@@ -229,9 +229,9 @@ MaySettle a limit result c =
 abbrev pub IsInOrder : Account → Type 0
 IsInOrder a = (e : End) → take (length (a.got e)) (a.put (peer e)) ≡ a.got e
 
--- Rest. A settle that answers Settled tells that nothing waits (`ensures quiet`); it stays so while there are only gets. Then, and while words are
--- left (`World::claimed` is below `words`), a get is Empty only if this is so (`ensures delivered`): all that was put at the peer was got, and the
--- peer isn't closed. So at rest gets give all that was put, and then Empty, or PeerClosed if the peer is closed
+-- Rest. A settle that answers Settled tells that nothing waits (`ensures quiet`), and `is_quiet` tells whether it is so; it stays so while there are
+-- only gets. Then, and while words are left (`words_left` isn't 0), a get is Empty only if this is so (`ensures delivered`): all that was put at the
+-- peer was got, and the peer isn't closed. So at rest gets give all that was put, and then Empty, or PeerClosed if the peer is closed
 abbrev pub IsDelivered : Account → End → Type 0
 IsDelivered a at = (a.got at ≡ a.put (peer at)) × (a.closed (peer at) ≡ false)
 

@@ -1,7 +1,7 @@
 //! Calls on a world that carry the promise: `Keeps` ties the world to accounts, and each call hands it on with what the plain machine says of its
 //! reply (specs/Promise).
 
-ghost use Rattle.std.specs.Prelude.{◌≡◌, ◌<◌, ℕ, Ok, IfOk, IfErr};
+ghost use Rattle.std.specs.Prelude.{◌≡◌, ◌<◌, ◌+◌, ℕ, true, false, Ok, IfOk, IfErr};
 ghost use Rattle.ipcz_world.specs.Lawful.{IsWithinLimits};
 ghost use Rattle.ipcz_world.specs.Settling.{IsQuiet};
 ghost use Rattle.ipcz_world.specs.Steps.{put_reply};
@@ -91,8 +91,8 @@ pub fn put_wide(
 /// Gets the next parcel at a portal: the reply is `Got` with its number and the parcel. The caller then holds the portals in it.
 ///
 /// Refused `Stranger` if the node's callers don't hold the portal; `PeerClosed` if the peer is closed and all that it put was got; and `Empty`
-/// if none has come yet. If nothing waits, as after a settle that answered `Settled`, and words are left (`World::claimed` is below the `words` that
-/// the world was made with), `Empty` says that all was got and that the peer isn't closed; and a get leaves it so that nothing waits.
+/// if none has come yet. If nothing waits, as after a settle that answered `Settled` ([`is_quiet`]), and words are left ([`words_left`] isn't 0),
+/// `Empty` says that all was got and that the peer isn't closed; and a get leaves it so that nothing waits.
 ///
 /// After `put(&mut world, 0, left, bytes, ends)` and a settle, `get(&mut world, 1, right)` gives `Got` with number 0 and those lists, if `right` is the
 /// peer of `left`.
@@ -160,6 +160,28 @@ pub fn holder_of(world: &World, portal: End) -> Option<u8>
     ensures promise { (a : Account) → Keeps world.now a → result ≡ a.holder portal }
 {
     world.holder_of(portal)
+}
+
+/// Whether nothing waits: then each node's turn is `Idle`, a settle takes none, and each portal in a parcel that a closed portal never got is
+/// closed.
+///
+/// So it is in a new world and after a settle that answered `Settled`; after a put it is not.
+pub fn is_quiet(world: &World) -> bool
+    ensures quiet { result ≡ true → IsQuiet world.now }
+    ensures busy { result ≡ false → IsQuiet world.now → ⊥ }
+    ensures closes { result ≡ true → (a : Account) → Keeps world.now a → HasClosedDropped a }
+{
+    world.is_quiet()
+}
+
+/// How many words are left of those that the world was made with: each pair takes one, and nodes take more for themselves. If it is 0, an open
+/// is refused `NoWord`.
+///
+/// In the world `new_world(alloc, 2, 8)` it is 7, since one pair is there; and 6 after an open.
+pub fn words_left(world: &World) -> u32
+    ensures promise { (a : Account) → Keeps world.now a → world.now.claimed + result ≡ a.words }
+{
+    world.words_left()
 }
 
 /// Makes a world, as [`new_world`] does, takes these steps in it, as [`run`] does, and gives their replies and the world. Nothing else has to be believed

@@ -3,11 +3,18 @@
 ghost use Rattle.ipcz_promise.specs.Accounting.{StepsKeepThePromise, RestCloses, RestDelivers};
 ghost use Rattle.ipcz_promise.specs.CallRuns.{CallsAreRuns, RunsHaveTheTheorem};
 ghost use Rattle.ipcz_promise.specs.PromiseTests.{PromiseAllows, PromiseRefuses};
+ghost use Rattle.ipcz_promise.specs.TurnRuns.{TurnsKeepThePromise};
 
 /// Each step from a world that keeps accounts gets a reply that the plain machine may give, and leads to a world that keeps the accounts after
 /// it, whichever possible act a turn takes.
 pub fn each_step_keeps_the_promise()
     ensures { StepsKeepThePromise }
+{}
+
+/// Possible acts of nodes, in whatever order, are turns of the plain machine: a world that keeps accounts comes to one that keeps those which the
+/// machine comes to by these turns. So it is if each act is taken by a thread of its own node.
+pub fn turns_keep_the_promise()
+    ensures { TurnsKeepThePromise }
 {}
 
 /// If nothing waits and words are left, a get is `Empty` only if all that the peer has put was got, and the peer isn't closed.

@@ -1,7 +1,8 @@
 use ipcz_base::{Bytes, End, Ends, Refusal, Sequence, Side};
 use ipcz_node::Happened;
 use ipcz_promise::{
-    close, get, holder_of, new_world, open, play, put, put_wide, run, settle, step, turn,
+    close, get, holder_of, is_quiet, new_world, open, play, put, put_wide, run, settle, step, turn,
+    words_left,
 };
 use ipcz_world::{Reply, Settled, Step, World};
 use std::alloc::{AllocError, Global};
@@ -57,7 +58,9 @@ fn is_refused(reply: &Reply, want: Refusal) -> bool {
 // Whether what is put at a portal is got at its peer, after the six acts of a lone parcel; and then a get is Empty, while words are left.
 fn carries(alloc: Global) -> Result<bool, Refusal> {
     let mut world = new_world(alloc, 2, 8)?;
+    let unused = words_left(&world);
     let opened = open(&mut world, 0);
+    let starts_quiet = is_quiet(&world);
     let number = put(
         &mut world,
         0,
@@ -65,6 +68,7 @@ fn carries(alloc: Global) -> Result<bool, Refusal> {
         bytes(alloc, b"hello")?,
         ends(alloc, &[])?,
     )?;
+    let waits = !is_quiet(&world);
     let settled = settle(&mut world, 100)?;
     let got = get(&mut world, 1, RIGHT);
     let empty = get(&mut world, 1, RIGHT);
@@ -72,7 +76,11 @@ fn carries(alloc: Global) -> Result<bool, Refusal> {
         matches!(opened, Reply::Opened(a, b) if a == THIRD && b == FOURTH)
             && number == 0
             && settled == Settled::Settled { after: 6 }
-            && world.claimed() == 2
+            && unused == 7
+            && words_left(&world) == 6
+            && starts_quiet
+            && waits
+            && is_quiet(&world)
             && is_got(&got, 0, b"hello", &[])
             && is_refused(&empty, Refusal::Empty),
     )

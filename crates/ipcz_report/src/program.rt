@@ -116,7 +116,7 @@ fn check_to_status<R: Read, W: Write>(
 }
 
 /// The program but for its arguments and devices, which it is given: it checks the script that the reader gives, and answers
-/// the status (docs/PROTOCOL.md, "The checker").
+/// the status (docs/SCRIPTS.md, "The checker").
 ///
 /// `asked` is what `asked_for` answered. If the help is asked for, it is written, nothing is read, and the status is 0; if the
 /// usage is, its line is written, nothing is read, and the status is 2; and 1 if a write failed. If no memory was found to look at the

@@ -71,6 +71,10 @@ claim_word r i = record r { spare = Some i }
 abbrev pub run_dry : Router → Router
 run_dry r = record r { dry = true }
 
+-- the router may claim again
+abbrev pub rewet : Router → Router
+rewet r = record r { dry = false; flagged = true }
+
 -- the lock is got
 abbrev pub take_lock : Router → Router
 take_lock r = record r { holds = true }

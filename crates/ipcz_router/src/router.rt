@@ -12,6 +12,7 @@ ghost use Rattle.ipcz_router.specs.Calls.{next_number};
 mod bypass;
 mod calls;
 mod carrying;
+mod dry;
 mod hearing;
 mod letting;
 mod outlook;

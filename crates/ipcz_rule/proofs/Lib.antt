@@ -41,3 +41,4 @@ pub mod LastsStart
 pub mod LastsSeats
 pub mod KeptEnds
 pub mod RunningDry
+pub mod Wetting

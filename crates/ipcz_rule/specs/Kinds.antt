@@ -4,7 +4,7 @@
 -- In each the seat is `id`, the table has so many slots, and `i` is the word. What a step tells that may find its word changed is by a test
 -- of the number found: if it fails, the step was a load.
 use Rattle.std.specs.Prelude.{◌≡◌, ◌≤◌, ◌<◌, ◌⊎◌, cond, length, slice_index, ◌+◌, ◌*◌, ◌-◌, ℕ, Bool, true, false, eqb, List, [], ◌∷◌, ◌++◌, Some}
-use Rattle.std.specs.Prelude.{None, MatchBool, bit_and, bit_or}
+use Rattle.std.specs.Prelude.{None, is_some, MatchBool, bit_and, bit_or}
 use prog.Atomic.{either}
 use mathlib.Core.Option.{some}
 use lib.ListN.{get_elem?}
@@ -23,6 +23,7 @@ use Rattle.ipcz_router.specs.declared.act.RouterAct.TheVariants as router_acts
 use Rattle.ipcz_router.specs.declared.act.Answer.TheVariants as answers
 use Rattle.ipcz_node.specs.declared.act.Act.{Act}
 use Rattle.ipcz_node.specs.declared.act.Act.TheVariants as acts
+use Rattle.ipcz_node.specs.Node.{router_in}
 use Rattle.ipcz_node.specs.Acts.{first_of, has_mail_for, post_of, act_lacks_serials}
 use Rattle.ipcz_node.specs.RoomyNodes.{IsPossibleAct}
 use Rattle.ipcz_node.specs.Calls.{put_refusal, get_refusal, got_at, close_refusal, serials_refusal}
@@ -36,7 +37,7 @@ use Rattle.ipcz_world.specs.World.{World}
 use Rattle.ipcz_world.specs.Wordless.{is_wordless}
 use Rattle.ipcz_rule.specs.GivenUp.{GivesEnd}
 use Rattle.ipcz_rule.specs.Rule.{Slot, St, Mine, Rules, has_number, with_part, saw}
-use Rattle.ipcz_rule.specs.Steps.{put_part, get_part, close_part, claimed_part, open_part, act_part, acted_view, CanAct}
+use Rattle.ipcz_rule.specs.Steps.{put_part, get_part, close_part, claimed_part, open_part, wet_part, act_part, acted_view, CanAct}
 use Rattle.ipcz_rule.specs.Steps.{is_touch_act}
 use Rattle.ipcz_rule.specs.Steps.{probe_part, unprobe_part, post_part, look_part, old_word, trusted, hand_part}
 
@@ -190,6 +191,11 @@ Dries F = (count size slots id i : ℕ) (m : Mine) (p : Part) (serial : ℕ) (r 
     CanAct p.state serial r router_acts.Claim →
     F count size slots id m i (λ n. n) (λ n. []) (λ n m'. m' ≡
     (with_part (act_part (acts.Router serial router_acts.Claim) answers.NoWord p) m.0, m.1))
+
+-- touch, of a router: it may claim again
+abbrev pub Wets : Form → Type 0
+Wets F = (count size slots id i : ℕ) (m : Mine) (p : Part) (serial : ℕ) → m.0.parts ≡ p ∷ [] → is_some (router_in p.state serial) ≡ true →
+    F count size slots id m i (λ n. n) (λ n. []) (λ n m'. m' ≡ (with_part (wet_part serial p) m.0, m.1))
 
 -- claim: the count is exchanged for the next, if it is what was found before
 abbrev pub Claims : Form → Type 0

@@ -17,6 +17,7 @@ use Rattle.ipcz_router.specs.declared.act.Answer.TheVariants as answers
 use Rattle.ipcz_node.specs.declared.act.Act.{Act}
 use Rattle.ipcz_node.specs.declared.act.Act.TheVariants as acts
 use Rattle.ipcz_node.specs.Node.{Node, router_in}
+use Rattle.ipcz_node.specs.Finding.{rewet_node}
 use Rattle.ipcz_node.specs.Acts.{commit, act_lacks_serials}
 use Rattle.ipcz_router.specs.Calls.{next_number}
 use Rattle.ipcz_node.specs.Calls.{put_node, put_number, get_node, close_node, open_node}
@@ -86,6 +87,10 @@ claimed_part i p = with_state (record p.state { opening = Some i }) p
 -- the part after an open on a word
 abbrev pub open_part : ℕ → Part → Part
 open_part i p = with_state (open_node p.state i) p
+
+-- the part in which the router of a serial may claim again
+abbrev pub wet_part : ℕ → Part → Part
+wet_part serial p = with_state (rewet_node p.state serial) p
 
 -- the part with the item dropped that the router which stands there is at
 abbrev pub dropped_part : Option Router → Part → Part

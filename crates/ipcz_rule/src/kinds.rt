@@ -5,7 +5,7 @@
 ghost use Rattle.std.specs.Prelude.{true};
 ghost use Rattle.ipcz_rule.specs.Kinds.{Loads, Puts, Gets, Closes, PendingCloses, Touches, TouchActs, Marks, Wakes, Unlocks, TriesLock};
 ghost use Rattle.ipcz_rule.specs.Kinds.{LoadsForLock};
-ghost use Rattle.ipcz_rule.specs.Kinds.{IsKept, IsTurns, LoadsForClaim, Dries, Claims, ClaimsForOpen, Opens, Probes, Unprobes, Posts, Looks, LoadsForHand};
+ghost use Rattle.ipcz_rule.specs.Kinds.{IsKept, IsTurns, LoadsForClaim, Dries, Wets, Claims, ClaimsForOpen, Opens, Probes, Unprobes, Posts, Looks, LoadsForHand};
 ghost use Rattle.ipcz_rule.specs.Kinds.{Hands, GivesBack, JoinsParts};
 
 /// A load of any word changes nothing but what was seen.
@@ -76,6 +76,11 @@ pub fn a_load_for_a_claim_keeps_the_rule()
 /// A claim that is told that no word is left, at any time.
 pub fn a_claim_that_finds_no_slot_keeps_the_rule()
     ensures { Dries (IsKept true) }
+{}
+
+/// A router that was told that no word is left may claim again, at any time.
+pub fn a_router_made_wet_keeps_the_rule()
+    ensures { Wets (IsKept true) }
 {}
 
 /// A claim of a proxy's spare.

@@ -1,7 +1,7 @@
 use crate::text::Text;
 use ipcz_base::Sequence;
 
-/// One command of a script (docs/PROTOCOL.md, "The script").
+/// One command of a script (docs/SCRIPTS.md, "The script").
 ///
 /// A `node` is below the number of nodes, and a name is 1 to 16 bytes.
 #[derive(Debug, Drop)]

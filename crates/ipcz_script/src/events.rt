@@ -1,4 +1,4 @@
-//! How what a turn did prints (docs/PROTOCOL.md, "Events").
+//! How what a turn did prints (docs/SCRIPTS.md, "Events").
 
 ghost use Rattle.std.specs.Prelude.{◌≡◌, ◌++◌, OnOk};
 ghost use Rattle.ipcz_script.specs.EventTexts.{event_text, hand_text, kind_text, link_event, more_ends, moved_text, sent_text, unfit_text};

@@ -10,7 +10,7 @@ use ipcz_base::{End, Ends, Side};
 use std::alloc::{AllocError, Global};
 use std::marker::Model;
 
-/// The ends that the names of a script are bound to, and the names that its ends have (docs/PROTOCOL.md, "The script").
+/// The ends that the names of a script are bound to, and the names that its ends have (docs/SCRIPTS.md, "The script").
 #[derive(Drop)]
 pub struct Labels {
     names: Names,

@@ -1,4 +1,4 @@
-//! What holds of every script, as contracts of functions that do nothing (docs/THEOREM.md, "Of scripts").
+//! What holds of every script, as contracts of functions that do nothing (docs/CONTRACTS.md, "Of scripts").
 //!
 //! A transcript is by its definition the lines of some answers to the commands. These laws are about those answers, and `run_script` is
 //! what writes their lines.

@@ -1,4 +1,4 @@
-//! The lines of the transcript (docs/PROTOCOL.md, "The transcript").
+//! The lines of the transcript (docs/SCRIPTS.md, "The transcript").
 
 ghost use Rattle.std.specs.Prelude.{◌≡◌, ◌++◌, OnOk, codes};
 ghost use Rattle.std.specs.Fmt.{decimal};

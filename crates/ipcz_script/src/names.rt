@@ -6,7 +6,7 @@ use std::alloc::{AllocError, Global};
 use std::collections::BTreeMap;
 use std::marker::Model;
 
-/// Which end each name of a script is bound to (docs/PROTOCOL.md, "The script").
+/// Which end each name of a script is bound to (docs/SCRIPTS.md, "The script").
 ///
 /// Contracts see a finite map from the names' bytes to ends. A name is found in logarithmic time.
 #[derive(Drop)]

@@ -124,7 +124,7 @@ fn script_of(alloc: Global, value: &Value) -> Result<Script, ScriptFault>
     })
 }
 
-/// The script that the bytes are (docs/PROTOCOL.md, "The script").
+/// The script that the bytes are (docs/SCRIPTS.md, "The script").
 ///
 /// The refusals, each before the next: `TooLong` if there are more than 1,048,576 bytes, `NotJson` if the bytes are
 /// no JSON text, `BadShape(0)` if the value isn't an object of exactly the three members, and `BadShape(n)` for the

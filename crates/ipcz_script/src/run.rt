@@ -20,7 +20,7 @@ use std::io::{Read, Write};
 const MOST_READ: usize = 1_048_577;
 
 /// Adds the lines of a command and its answer to a transcript, and says whether the answer is that of a settle that came to its
-/// limit (docs/PROTOCOL.md, "The transcript").
+/// limit (docs/SCRIPTS.md, "The transcript").
 ///
 /// After an `Err` some front of the lines may stand behind what was there.
 #[tactic(auto, unfolding(crate::specs::Transcript::is_unsettled))]
@@ -88,7 +88,7 @@ fn output(alloc: Global, input: &[u8]) -> Result<(Outcome, Vec<u8>), AllocError>
     }
 }
 
-/// The one line for bytes that are no script, and how their run ends (docs/PROTOCOL.md, "The transcript").
+/// The one line for bytes that are no script, and how their run ends (docs/SCRIPTS.md, "The transcript").
 ///
 /// For `ScriptFault::OutOfMemory`, which is no refusal, there is no line.
 pub fn refused_output(alloc: Global, why: ScriptFault) -> Result<(Outcome, Vec<u8>), AllocError>
@@ -102,7 +102,7 @@ pub fn refused_output(alloc: Global, why: ScriptFault) -> Result<(Outcome, Vec<u
 }
 
 /// Reads a script to its end, runs it, and writes its transcript, whole and in one go after the last command
-/// (docs/PROTOCOL.md, "The script" and "The transcript").
+/// (docs/SCRIPTS.md, "The script" and "The transcript").
 ///
 /// At most 1,048,577 bytes are read. Bytes that are no script make one line that says why. `RunFault::Read` and
 /// `RunFault::Write` say that the reader or the writer has failed; `RunFault::OutOfMemory` that no memory was found, in which

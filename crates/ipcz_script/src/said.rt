@@ -1,7 +1,7 @@
 use ipcz_base::{Parcel, Refusal, Sequence};
 use ipcz_world::Reply;
 
-/// What a command is answered (docs/PROTOCOL.md, "The transcript").
+/// What a command is answered (docs/SCRIPTS.md, "The transcript").
 #[derive(Debug, Drop)]
 pub enum Said {
     /// The pair is opened.

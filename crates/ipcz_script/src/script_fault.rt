@@ -1,7 +1,7 @@
 use std::alloc::{AllocError, AllocFailed};
 use thiserror::Error;
 
-/// Why some bytes are no script, or that no memory was found to read them (docs/PROTOCOL.md, "The script").
+/// Why some bytes are no script, or that no memory was found to read them (docs/SCRIPTS.md, "The script").
 ///
 /// `NotJson`: the bytes are no JSON text. `BadShape(0)`: the JSON value is no object of the three members. `BadShape(n)`:
 /// the command with the number `n`, counted from 1, is the first that has none of the shapes. `TooLong`: there are more

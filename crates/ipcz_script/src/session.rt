@@ -18,7 +18,7 @@ use std::alloc::{AllocError, Global};
 use std::marker::Model;
 
 /// The world that a script runs in, with the ends that its names are bound to and the names that its ends have
-/// (docs/PROTOCOL.md, "The script").
+/// (docs/SCRIPTS.md, "The script").
 #[derive(Drop)]
 pub struct Session {
     world: World,

@@ -3,7 +3,7 @@ ghost use Rattle.std.specs.Prelude.{◌≡◌, length, IfOk};
 use std::alloc::{AllocError, Global};
 use std::marker::Model;
 
-/// A text of a script, that is a name or the data of a put (docs/PROTOCOL.md, "The script").
+/// A text of a script, that is a name or the data of a put (docs/SCRIPTS.md, "The script").
 ///
 /// Contracts see the list of its UTF-8 bytes.
 #[derive(Debug, Drop)]

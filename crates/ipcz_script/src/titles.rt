@@ -7,7 +7,7 @@ use std::alloc::{AllocError, Global};
 use std::collections::BTreeMap;
 use std::marker::Model;
 
-/// Which name each end of a script has (docs/PROTOCOL.md, "The script").
+/// Which name each end of a script has (docs/SCRIPTS.md, "The script").
 ///
 /// Contracts see a finite map from ends to the names' bytes. A name is found in logarithmic time.
 #[derive(Drop)]

@@ -104,7 +104,7 @@ fn run_on_threads<T: Threads + Sync, R: Read, W: Write>(
 }
 
 /// The program but for its arguments and devices, which it is given: it runs the script that the reader gives, and answers
-/// the status (docs/PROTOCOL.md, "The program").
+/// the status (docs/SCRIPTS.md, "The program").
 ///
 /// `asked` is what `asked_for` answered. If `threads` is asked for, the settles of the script run on threads
 /// (docs/THREADS.md, "Scripts on threads"). If the help is asked for, it is written, nothing is read, and the status is 0; if the usage

@@ -15,7 +15,7 @@ use std::alloc::{AllocError, Global};
 use std::marker::Model;
 use std::thread::Threads;
 
-/// The workers of a script's nodes, with the ends that its names are bound to (docs/PROTOCOL.md, "The script").
+/// The workers of a script's nodes, with the ends that its names are bound to (docs/SCRIPTS.md, "The script").
 #[derive(Drop)]
 pub(crate) struct Session<'a, F: FabricName, G> {
     pub(crate) workers: Vec<NodeWorker<'a, F, G>>,

@@ -281,9 +281,67 @@ const CALLED: [&str; 5] = [
 fn calls_stand_at_the_routers_of_their_portals(rt: HostRuntime) {
     assert_eq!(rt; first_lacking(rt.alloc(), CALLS, &CALLED), None);
     assert_eq!(rt;
-        first_other(rt.alloc(), None, CALLS, &[(">get</text>", 0)]),
+        first_other(rt.alloc(), None, CALLS, &[(">get refused</text>", 0)]),
         None
     );
+}
+
+const REFUSED_CALLS: &[u8] =
+    b"open x y ok\nput x PeerClosed\nget x Empty\nget x PeerClosed\nclose x Stranger\nput x 0\nclose x 1\nget y 0 [] \"a\"\n";
+
+// The squares of the legend are two more.
+const REFUSED_MARKS: [(&str, usize); 9] = [
+    ("class=\"t9 f-bad h halo\">put refused</text>", 1),
+    ("class=\"t9 f-bad h halo\">get: empty</text>", 1),
+    ("class=\"t9 f-bad h halo\">get refused</text>", 1),
+    ("class=\"t9 f-bad h halo\">close refused</text>", 1),
+    ("class=\"t9 f-call h halo\">put</text>", 1),
+    ("class=\"t9 f-call h halo\">close</text>", 1),
+    ("class=\"t9 f-call h halo\">get</text>", 1),
+    ("class=\"p s-bad w2\"/>", 5),
+    ("class=\"f-call\"/>", 4),
+];
+
+// A call that was refused has a hollow square, and says so.
+#[test]
+fn a_refused_call_looks_unlike_one_that_was_done(rt: HostRuntime) {
+    assert_eq!(rt;
+        first_other(rt.alloc(), None, REFUSED_CALLS, &REFUSED_MARKS),
+        None
+    );
+}
+
+const GONE: [&str; 4] = [
+    "<title>Gone item 1 C0 from n0 r0 to n1",
+    ">Gone item 1</text>",
+    ">leaves with Gone, item 1</text>",
+    ">item 0</text>",
+];
+
+// What a retire sends is Gone, and its title and its label say so; and so does the discard with which a router leaves.
+#[test]
+fn gone_is_called_so(rt: HostRuntime) {
+    let transcript =
+        b"n0: r0 lock C0 19\nn0: r0 retire 1 C0\nn0: post 1\nn1: look 0\nn1: hand item 1 C0\nn1: r1 discard 0\nn1: r1 discard 1 leave\n";
+    assert_eq!(rt; first_lacking(rt.alloc(), transcript, &GONE), None);
+}
+
+const GROUNDS: [(&str, usize); 2] = [
+    (
+        "<rect x=\"8\" y=\"154\" width=\"1094\" height=\"18\" class=\"zb\"/>",
+        1,
+    ),
+    (
+        "<rect x=\"8\" y=\"172\" width=\"1094\" height=\"36\" class=\"zb\"/>",
+        1,
+    ),
+];
+
+// The ground under a line of words goes across its row, also if its words need two lines.
+#[test]
+fn a_line_of_words_has_a_ground_across_its_row(rt: HostRuntime) {
+    let transcript = b"n0: idle\nwords 3 3\nwords 3 3 3 3 3 3 3\n";
+    assert_eq!(rt; first_other(rt.alloc(), None, transcript, &GROUNDS), None);
 }
 
 const BARS: [&str; 3] = [
@@ -404,7 +462,7 @@ const PART: [(&str, usize); 25] = [
     // C1 of line 1, which no line changes again.
     ("y=\"130\" class=\"t9 f-word e\">C1</text>", 1),
     ("y=\"136\" width=\"1\" height=\"92\" class=\"f-word\"/>", 1),
-    // Item 0 between the walls up to its look, and in the hand down to the foot; its label stands at the look.
+    // Item 0 between the walls up to its look, and in the hand down to the foot; its label stands below the look.
     ("M500 136L592 145", 1),
     (
         "made line 2; posted line 3; looked line 5; handled line 12</title>",
@@ -413,7 +471,7 @@ const PART: [(&str, usize); 25] = [
     ("M592 145H604V226\"/>", 1),
     (">item 0</text>", 1),
     (
-        "y=\"142\" data-message=\"3\" class=\"t9 e h halo f-item\">item 0</text>",
+        "y=\"154\" data-message=\"3\" class=\"t9 e h halo f-item\">item 0</text>",
         1,
     ),
     ("data-message=\"3\"", 3),

@@ -11,6 +11,7 @@ pub mod LoneWorlds
 pub mod Marks
 pub mod Passing
 pub mod PassingWithin
+pub mod QuietNodes
 pub mod Regular
 pub mod RouterActs
 pub mod Running

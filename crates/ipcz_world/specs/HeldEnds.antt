@@ -8,7 +8,7 @@ use Rattle.ipcz_base.specs.declared.message.Message.TheVariants as messages
 use Rattle.ipcz_base.specs.Links.{has_link}
 use Rattle.ipcz_base.specs.Sides.{same_side}
 use Rattle.ipcz_router.specs.Router.{Router, router_has}
-use Rattle.ipcz_router.specs.ActEffects.{leaves_by}
+use Rattle.ipcz_router.specs.ActEffects.{leaves_by, rewet}
 use Rattle.ipcz_router.specs.LettingGo.{let_go_end, let_go_spare}
 use Rattle.ipcz_router.specs.declared.act.RouterAct.{RouterAct}
 use Rattle.ipcz_router.specs.declared.act.RouterAct.TheVariants as acts
@@ -58,10 +58,6 @@ abbrev pub DryKeepsLawful : Type 0
 DryKeepsLawful =
     (w : World) (b : Books) (g : Routes) (n serial : ℕ) (r : Router) → Lawful w b g → n < w.count → router_of w n serial ≡ Some r →
     can_take w n (OfRouter serial acts.Claim) ≡ true → Lawful (dry_act w (record { node = n; serial = serial }) r) b g
-
--- the router may claim again
-abbrev pub rewet : Router → Router
-rewet r = record r { dry = false; flagged = true }
 
 -- the world in which a router may claim again
 abbrev pub wet_act : World → Key → Router → World

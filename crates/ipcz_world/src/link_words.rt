@@ -1,4 +1,4 @@
-ghost use Rattle.std.specs.Prelude.{◌≡◌, ◌<◌, ◌≤◌, ◌++◌, ◌-◌, Some, IfSome, IfOk, length, map, replicate, if◌then◌else◌};
+ghost use Rattle.std.specs.Prelude.{◌≡◌, ◌<◌, ◌≤◌, ◌+◌, ◌++◌, ◌-◌, Some, IfSome, IfOk, length, map, replicate, if◌then◌else◌};
 ghost use Rattle.ipcz_word.specs.Layout.{word_of_bits};
 ghost use Rattle.ipcz_word.specs.Laws.{HasNode};
 ghost use Rattle.ipcz_word.specs.Word.{empty_word, open_word};
@@ -70,6 +70,13 @@ impl LinkWords {
         ensures { result ≡ self.now.claimed }
     {
         self.bits.as_slice().len() as u32
+    }
+
+    /// How many words are left to claim.
+    pub(crate) fn left(&self) -> u32
+        ensures { self.now.claimed + result ≡ length self.now.words }
+    {
+        self.size - self.claimed()
     }
 
     /// The number of a claimed word.

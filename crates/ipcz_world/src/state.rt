@@ -1,4 +1,4 @@
-ghost use Rattle.std.specs.Prelude.{◌≡◌, ◌<◌, ◌≤◌, IfOk, IfErr, length, map};
+ghost use Rattle.std.specs.Prelude.{◌≡◌, ◌<◌, ◌≤◌, ◌+◌, IfOk, IfErr, length, map};
 ghost use Rattle.ipcz_word.specs.Layout.{word_of_bits};
 ghost use Rattle.ipcz_world.specs.Coding.{claimed_word, table_of, AreUnclaimedEmpty, IsTable};
 ghost use Rattle.ipcz_world.specs.Holding.{holder_of, routers_at};
@@ -108,6 +108,13 @@ impl State {
         ensures { result ≡ self.now.claimed }
     {
         self.words.claimed()
+    }
+
+    /// How many words are left to claim.
+    pub(crate) fn words_left(&self) -> u32
+        ensures { self.now.claimed + result ≡ self.now.size }
+    {
+        self.words.left()
     }
 
     /// The number of a claimed word.

@@ -1,4 +1,4 @@
-ghost use Rattle.std.specs.Prelude.{◌≡◌, ◌<◌, ◌≤◌, ℕ, IfOk, IfErr, IfSome, OnErr, OnOk, map};
+ghost use Rattle.std.specs.Prelude.{◌≡◌, ◌<◌, ◌≤◌, ◌+◌, ℕ, true, false, IfOk, IfErr, IfSome, OnErr, OnOk, map};
 ghost use Rattle.ipcz_base.specs.declared.link_end.LinkEnd.{LinkEnd};
 ghost use Rattle.ipcz_word.specs.Layout.{word_of_bits};
 ghost use Rattle.ipcz_world.specs.Books.{Books, advance, no_books};
@@ -14,7 +14,7 @@ ghost use Rattle.ipcz_world.specs.Steps.{GivesOrNoMemory, StepFirst, next_sizes,
 ghost use Rattle.ipcz_world.specs.FirstRuns.{AreSteps, KeepsLaw};
 ghost use Rattle.ipcz_world.specs.Turns.{next_at};
 ghost use Rattle.ipcz_world.specs.World.{new_world};
-ghost use Rattle.ipcz_world.specs.Settling.{TakesTurn};
+ghost use Rattle.ipcz_world.specs.Settling.{IsQuiet, TakesTurn};
 ghost use Rattle.ipcz_world.specs.SettleBounds.{CarryNone, IsLawfulSettle, IsLawfulRefusal, plain_limit};
 ghost use Rattle.ipcz_world.specs.SettleLimit.{settle_limit};
 ghost use Rattle.ipcz_world.specs.Tallies.{Tells};
@@ -59,8 +59,9 @@ impl World {
     /// `nodes` is 1 to 8; `words` is from the number of first pairs, `nodes * (nodes - 1) / 2`, to 2^32 - 1. Each open and each bypass
     /// claims a word for good. For each word 8 bytes of address space are reserved here, which are first touched when the word is claimed.
     /// So `World::new(alloc, 2, 1 << 24)` reserves 128 MiB and touches a page of them, and that world answers no `NoWord` before its callers
-    /// and proxies have claimed the other 16,777,215 words. Its only refusal is `OutOfMemory`: also of a system that doesn't reserve more
-    /// than its memory.
+    /// and proxies have claimed the other 16,777,215 words.
+    ///
+    /// Refused `OutOfMemory` if there is no memory for it, and for nothing else: also of a system that doesn't reserve more than its memory.
     pub fn new(alloc: Global, nodes: u8, words: u32) -> Result<World, Refusal>
         requires limits { IsWithinLimits nodes words }
         ensures world { IfOk result (λ w. w ≡ new_world nodes words) }
@@ -72,7 +73,10 @@ impl World {
     }
 
     /// The world of these nodes, mailboxes and link words, each by number, with so many words claimed: what nodes on a table of their own
-    /// come back to. The caller proves that it is lawful with some books and routes, and that the words' numbers are those of link words.
+    /// come back to. The caller proves that it is lawful with some books and routes, and that the words' numbers are those of link words. It is
+    /// never refused, and takes no memory.
+    ///
+    /// So `finish` of `ipcz_cell` gives `World::of_parts(nodes, mail, words, claimed)` of the nodes that it takes out of their cells.
     pub fn of_parts(nodes: Vec<NodeState>, mail: Vec<Mail>, words: Vec<u64>, claimed: u32) -> World
         requires words { IsTable words.items claimed }
         requires lawful { IsLawful (world_of_parts (map (λ k. k.node) nodes.items) mail.items (map word_of_bits words.items) claimed) }
@@ -83,21 +87,48 @@ impl World {
     }
 
     /// What the type keeps: there are books and routes with which the world is lawful (docs/THEOREM.md). It does nothing, and is there for
-    /// what a caller has to prove.
+    /// what a caller has to prove: after `world.keeps_the_law();` the proof of the caller's function has that fact of the world. It is never
+    /// refused.
     pub fn keeps_the_law(&self)
         ensures { IsLawful self.now }
     {
         let _state = &self.state;
     }
 
-    /// How many link words were claimed.
+    /// How many link words were claimed: one for each first pair, one for each open, and one for each link that a proxy claimed to be bypassed by. It is at most as
+    /// many as the world was made with, and is never refused.
+    ///
+    /// In the world `World::new(alloc, 3, 8)` it is 3.
     pub fn claimed(&self) -> u32
         ensures { result ≡ self.now.claimed }
     {
         self.state.claimed()
     }
 
-    /// The number of a link word, below 4096 (docs/PROTOCOL.md, "Link words"); none exactly from the claim count on.
+    /// How many link words are left: those that no open and no bypass has claimed. If it is 0, an open is refused `NoWord`, and a proxy that
+    /// finds no word stays.
+    ///
+    /// `World::new(alloc, 2, 8)` has one first pair, whose word is claimed: it has 7 left, and 6 after an open.
+    pub fn words_left(&self) -> u32
+        ensures { self.now.claimed + result ≡ self.now.size }
+    {
+        self.state.words_left()
+    }
+
+    /// Whether nothing waits: no message is in an outbox, a mailbox or a hand, no close is pending and no router is flagged. Then each node's
+    /// turn is `Idle`, and a settle takes no act; else some node has an act.
+    ///
+    /// So it is in a new world, and after a settle that answered `Settled`; after a put it is not.
+    pub fn is_quiet(&self) -> bool
+        ensures quiet { result ≡ true → IsQuiet self.now }
+        ensures busy { result ≡ false → IsQuiet self.now → ⊥ }
+    {
+        self.state.last_busy(0).is_none()
+    }
+
+    /// The number of a link word, below 4096 (docs/PROTOCOL.md, "Link words"); none exactly from the claim count on. It is never refused.
+    ///
+    /// In the world `World::new(alloc, 2, 8)` `world.word(0)` is `Some(3)`, stable at both sides, and `world.word(1)` is none.
     #[tactic(auto, unfolding(crate::specs::World::word_at))]
     pub fn word(&self, i: u32) -> Option<u64>
         ensures { result ≡ shown_word self.now i }
@@ -105,26 +136,44 @@ impl World {
         self.state.word(i)
     }
 
-    /// The node whose callers hold the end, if some do. In a world of trusted nodes there is one at most.
+    /// The node whose callers hold the end, if some do. In a world of trusted nodes there is one at most. An end that is closed, that travels in
+    /// a parcel, or of a pair that was never opened is held by none. It is never refused.
+    ///
+    /// In the world `World::new(alloc, 2, 8)` the holder of the end of side B of pair 0 is `Some(1)`, and that of an end of pair 1 is none.
     pub fn holder_of(&self, end: End) -> Option<u8>
         ensures { result ≡ holder_of self.now end }
     {
         self.state.holder_of(end)
     }
 
-    /// How many routers a node has; none if it isn't one of the world's.
+    /// How many routers a node has, the terminals of its open ends among them; none if it isn't one of the world's. It is never refused.
+    ///
+    /// In the world `World::new(alloc, 3, 8)` `world.routers(2)` is `Some(2)`, and `world.routers(3)` is none.
     pub fn routers(&self, node: u8) -> Option<usize>
         ensures { result ≡ routers_at self.now node }
     {
         self.state.routers(node)
     }
 
-    /// Takes a step and answers it (docs/PROTOCOL.md, "Turns"). A turn takes the node's first possible act.
+    /// Takes a step and answers it (docs/PROTOCOL.md, "Turns"). A turn takes the node's first possible act. A put by a step copies its lists.
     ///
-    /// Refused `Stranger` if the node isn't one of the world's; a put is refused `OutOfMemory` next, if its lists find no room; then
-    /// as the node refuses the call; an open is refused `NoWord` if each word is claimed, before `NumbersEnd` and `OutOfMemory`. A
-    /// turn is refused `NumbersEnd` or `OutOfMemory`, but a router that finds no memory to begin its bypass, or to retire, gives its lock back
-    /// instead. A refusal changes nothing.
+    /// Each step is refused `Stranger` first, if the node isn't one of the world's. Then:
+    ///
+    /// An open is refused `NoWord` if each link word is claimed, `NumbersEnd` if too few serials are left at the node for two routers, and
+    /// `OutOfMemory`.
+    ///
+    /// A put is refused `OutOfMemory` if the copies of its lists find no memory, and then as [`World::put_as`] says.
+    ///
+    /// A get is refused `Stranger` if the node's callers don't hold the end, `Empty` if the next parcel hasn't come, and `PeerClosed` if the
+    /// peer is closed and all that was put there was got. It takes no memory.
+    ///
+    /// A close is refused `Stranger` if the node's callers don't hold the end, and `OutOfMemory`.
+    ///
+    /// A turn is refused `NumbersEnd` if its act would make more routers than there are serials left at the node, and `OutOfMemory` if its act
+    /// wants memory and finds none; but a router that finds none to begin its bypass, or to retire, gives its lock back instead.
+    ///
+    /// A refusal changes nothing. In the world `World::new(alloc, 2, 8)` the step `Open(0)` is answered `Opened` with the ends of pair 1, and
+    /// `Turn(0)`, where nothing waits, `Turned(Idle)`.
     pub fn step(&mut self, step: &Step) -> Reply
         ensures step { StepFirst self.old step.now result self.new }
         ensures lawful { (b : Books) → (g : Routes) → Lawful self.old b g →
@@ -134,7 +183,39 @@ impl World {
         self.state.step(step)
     }
 
-    /// Puts a parcel of printed bytes, as [`World::put_as`] does of `Profile::Printed`.
+    /// Puts a parcel at an end that the node's callers hold, and answers its number: how many were put there before. It has 0 to 65,536 bytes of
+    /// any value, and 0 to 8 ends, which the callers don't hold any more. Its lists aren't copied.
+    ///
+    /// Refused as [`World::put_as`] of `Profile::Wide`, and so never `BadData`. A refused put changes nothing, and gives both lists back.
+    ///
+    /// Ends that travel in a circle, each through a pair whose end another carries, may travel for ever: see [`World::settle`].
+    ///
+    /// At an end at which nothing was put yet, `world.put_wide(0, at, bytes, ends)` is `Ok(0)`.
+    pub fn put_wide(
+        &mut self,
+        node: u8,
+        at: End,
+        bytes: Bytes,
+        ends: Ends,
+    ) -> Result<u64, PutRefused>
+        ensures step { StepFirst self.old (Step.PutWide node at bytes ends) (put_reply result) self.new }
+        ensures order { GivesOrNoMemory self.old (put_step Profile.Wide self.old node at (record { bytes = bytes; ends = ends })) (put_reply result) self.new }
+        ensures back { IfErr result (λ e. (e.bytes ≡ bytes) × (e.ends ≡ ends)) }
+        ensures lawful { (b : Books) → (g : Routes) → Lawful self.old b g →
+            Lawful self.new (advance self.old b (Step.PutWide node at bytes ends) (put_reply result))
+            (routes_after self.old g (Step.PutWide node at bytes ends) (put_reply result)) }
+        ensures plain { (b : Books) → (g : Routes) → Lawful self.old b g →
+            Plain b (Step.PutWide node at bytes ends) (put_reply result) (advance self.old b (Step.PutWide node at bytes ends) (put_reply result)) }
+    {
+        self.put_as(Profile::Wide, node, at, bytes, ends)
+    }
+
+    /// Puts a parcel as [`World::put_wide`] does, but a printed one, as scripts put: it has 0 to 256 bytes, each from 32 to 126.
+    ///
+    /// Refused as [`World::put_as`] of `Profile::Printed`, and so `TooMany` from 257 bytes on and `BadData` for any other byte. A refused put
+    /// changes nothing, and gives both lists back.
+    ///
+    /// Of the byte 7, `world.put(0, at, bytes, ends)` is refused `BadData`, where a `put_wide` takes it.
     pub fn put(&mut self, node: u8, at: End, bytes: Bytes, ends: Ends) -> Result<u64, PutRefused>
         ensures step { StepFirst self.old (Step.Put node at bytes ends) (put_reply result) self.new }
         ensures order { GivesOrNoMemory self.old (put_step Profile.Printed self.old node at (record { bytes = bytes; ends = ends })) (put_reply result) self.new }
@@ -150,8 +231,14 @@ impl World {
 
     /// Puts a parcel of a profile at an end and answers its number, as the step `Put` does, or `PutWide`, without a copy of its lists.
     ///
-    /// A refused put gives both lists back. Its refusals are those of the step, but `OutOfMemory` is the last of them, answered only if the
-    /// terminal's queue has to grow. A parcel of `Profile::Wide` is never `BadData`.
+    /// Refused by the first of these that holds: `Stranger` if the node isn't one of the world's, or its callers don't hold the end; `TooMany` if
+    /// the parcel has more than 8 ends, or more than 256 bytes, or, of `Profile::Wide`, more than 65,536; `BadData` if it is of
+    /// `Profile::Printed` and a byte isn't from 32 to 126; `SelfAttach` if it carries the end at which it is put; `PeerAttach` if it carries the
+    /// peer of that end; `Stranger` if it carries an end that the callers don't hold, or one twice; `PeerClosed` if the node has heard that the
+    /// peer is closed; `NumbersEnd` if no number is left for a parcel at this end, after 2^64 - 3 of them; and `OutOfMemory` if the terminal's
+    /// queue has to grow and finds no memory. A refused put changes nothing, and gives both lists back.
+    ///
+    /// At an end at which one parcel was put, `world.put_as(Profile::Wide, 0, at, bytes, ends)` is `Ok(1)`.
     pub fn put_as(
         &mut self,
         profile: Profile,
@@ -172,7 +259,13 @@ impl World {
         self.state.put_given(profile, node, at, bytes, ends)
     }
 
-    /// Gets the next parcel at an end, as the step `Get` does.
+    /// Gets the next parcel at an end, as the step `Get` does: the reply is `Got` with its number and the parcel, whose ends the node's callers
+    /// then hold. It takes no memory.
+    ///
+    /// Refused `Stranger` if the node isn't one of the world's, or its callers don't hold the end; `Empty` if the next parcel hasn't come, as it
+    /// can't before the nodes have acted; `PeerClosed` if the peer is closed and all that was put there was got. A refusal changes nothing.
+    ///
+    /// After `world.put_wide(0, left, bytes, ends)` and a settle, `world.get(1, right)` is `Got(0, parcel)`, if `right` is the peer of `left`.
     pub fn get(&mut self, node: u8, at: End) -> Reply
         ensures step { StepFirst self.old (Step.Get node at) result self.new }
         ensures lawful { (b : Books) → (g : Routes) → Lawful self.old b g →
@@ -184,7 +277,9 @@ impl World {
     }
 
     /// How many bytes and ends the parcel has that a get at this end of a node would give; none if the get would be refused. Nothing is
-    /// taken.
+    /// taken. It is never refused, and takes no memory.
+    ///
+    /// Where a parcel of five bytes and no end is the next, `world.next_sizes(1, right)` is `Some(Sizes { bytes: 5, ends: 0 })`.
     pub fn next_sizes(&self, node: u8, at: End) -> Option<Sizes>
         ensures { result ≡ next_sizes self.now node at }
     {
@@ -192,7 +287,9 @@ impl World {
     }
 
     /// Takes each of these steps, in their order, and gives their replies. Refused `OutOfMemory` if there is no room for the replies:
-    /// then no step is taken. A step that is refused is a reply like any other, and the steps after it are taken.
+    /// then no step is taken. A step that is refused, as [`World::step`] says, is a reply like any other, and the steps after it are taken.
+    ///
+    /// So `world.run(alloc, &[Step::Turn(0), Step::Turn(9)])` gives `Turned(Idle)` and `Refused(Stranger)`, where nothing waits.
     pub fn run(&mut self, alloc: Global, steps: &[Step]) -> Result<Vec<Reply>, Refusal>
         ensures run { IfOk result (λ replies. AreSteps self.old steps.now replies.items self.new) }
         ensures lawful { IfOk result (λ replies. KeepsLaw self.old steps.now replies.items self.new) }
@@ -214,7 +311,10 @@ impl World {
     /// were put: its mark's and Gone's.
     ///
     /// A settle with this limit, or a higher one, is settled or refused, unless begins or retires found no memory: each of those takes
-    /// two acts more (docs/THEOREM.md). If parcels carry portals this may be too few. It looks at each router for each router.
+    /// two acts more (docs/THEOREM.md). If parcels carry portals this may be too few. It looks at each router for each router, takes no memory,
+    /// and is never refused.
+    ///
+    /// It is what to settle with: `if let Some(limit) = world.settle_limit() { world.settle(limit)?; }`.
     pub fn settle_limit(&self) -> Option<u64>
         ensures limit { Tells result (settle_limit self.now) }
         ensures enough { IfSome result (λ limit. (b : Books) → (g : Routes) → Lawful self.now b g → CarryNone b → plain_limit b self.now ≤ limit) }
@@ -227,8 +327,14 @@ impl World {
     /// one. A node that is idle takes no turn. A limit of the world's rank, and two more for each begin or retire that finds no
     /// memory, is enough (docs/THEOREM.md). The turns that were taken keep the law, as steps with what each was seen to do.
     ///
-    /// Refused `NumbersEnd` or `OutOfMemory` as the first turn that is refused, of the next node that has an act: the turns before it
-    /// stand, and that one changes nothing.
+    /// If parcels that nobody has got carry each other's portals in a circle, these may follow each other from node to node for ever: then no
+    /// limit is enough. It can't come to that where each portal travels only through pairs of a lower number than its own (docs/C.md, "Circles").
+    ///
+    /// Refused as the first turn that is refused, of the next node that has an act: `NumbersEnd` if its act would make more routers than there
+    /// are serials left at the node, and `OutOfMemory` if its act wants memory and finds none. The turns before it stand, and that one
+    /// changes nothing.
+    ///
+    /// In the world `World::new(alloc, 2, 8)` nothing waits, and `world.settle(0)` is `Ok(Settled { after: 0 })`.
     pub fn settle(&mut self, limit: u64) -> Result<Settled, Refusal>
         ensures settles { IfOk result (λ answer. IsLawfulSettle limit self.old self.new answer) }
         ensures refused { IfErr result (λ why. IsLawfulRefusal limit self.old self.new why) }

@@ -275,11 +275,15 @@ fn settles_a_lone_parcel_after_six_acts(rt: HostRuntime) {
 
 // The sender sends, posts and rests; the receiver looks, hands and rests. In three passes node 0 sends, posts and rests, and node 1 looks
 // and hands.
-static PASSES: [Call; 6] = [
+static PASSES: [Call; 10] = [
+    Call::Quiet(true),
     Call::Put(0, A0, b"a", &[], 0),
+    Call::Quiet(false),
     Call::Settle(5, None),
     Call::Turns(0, &["Idle"]),
+    Call::Quiet(false),
     Call::Turns(1, &["Rest(0)"]),
+    Call::Quiet(true),
     Call::Settle(0, Some(0)),
     Call::Get(1, B0, 0, b"a", &[]),
 ];
@@ -290,8 +294,9 @@ fn settles_two_nodes_in_passes(rt: HostRuntime) {
 }
 
 // Once the second word is claimed, each is.
-static OPENS: [Call; 14] = [
+static OPENS: [Call; 17] = [
     Call::Claimed(1),
+    Call::Left(1),
     Call::Word(0, Some(3)),
     Call::Word(1, None),
     Call::Holder(A0, Some(0)),
@@ -299,6 +304,8 @@ static OPENS: [Call; 14] = [
     Call::Holder(A1, None),
     Call::Open(1, A1, B1),
     Call::Claimed(2),
+    Call::Left(0),
+    Call::Quiet(true),
     Call::Word(1, Some(3)),
     Call::Word(2, None),
     Call::Word(u32::MAX, None),

@@ -8,7 +8,7 @@ ghost use Rattle.ipcz_node.specs.Node.{router_in, link_router, found, add_router
 ghost use Rattle.ipcz_node.specs.RoomyNodes.{AreLow};
 ghost use Rattle.ipcz_node.specs.Hands.{has_moved, is_new_move, fit_moves, fits_from, fits_item, make_terminals, take_in, free_hand, fits, handle};
 ghost use Rattle.ipcz_node.specs.Hands.{deliver, message_lacks_serials, message_grows, grows_where_it_fits, serials_in, is_unfit};
-ghost use Rattle.ipcz_node.specs.Deliveries.{IsDelivered, IsDeliveredInPlace};
+ghost use Rattle.ipcz_node.specs.Deliveries.{IsDeliveredInPlace};
 ghost use Rattle.ipcz_node.specs.Events.{hand_event};
 ghost use Rattle.ipcz_node.specs.Telling.{HasRoomFor, HasRoomForItem, brings_item, is_lone};
 ghost use Rattle.std.specs.Prelude.{◌&&◌, nat_eq, nat_lt};
@@ -352,6 +352,9 @@ impl NodeState {
     /// more routers than serials are left for, and otherwise `OutOfMemory`. A message that makes nothing grow, as a Flush or a
     /// ProxyWillStop that fits, is never refused. No other is refused `OutOfMemory` if it fits and there is room for what it
     /// makes a router take and tell, nor if it doesn't fit and there is room for a stray more.
+    ///
+    /// It doesn't ask `deliver_at_once`, so that a caller who has asked it may go on here.
+    #[inline(never)]
     pub fn deliver(
         &mut self,
         from: u8,
@@ -369,31 +372,6 @@ impl NodeState {
             message_lacks_serials self.old.node from message source ≡ false → IsOk result }
         ensures stray { fits self.old.node from message source ≡ false → 0 < self.old.room.strays → IsOk result }
         ensures err { IfErr result (λ e. (e.1 ≡ message) × (self.new.node ≡ self.old.node)) }
-    {
-        let (kind, link) = (kind_of(&message), link_asked(&message));
-        let mut message = message;
-        match self.deliver_at_once(from, &mut message) {
-            Ok(true) => Ok(Happened::Hand {
-                kind,
-                link,
-                unfit: false,
-            }),
-            Ok(false) => self.deliver_any_told(from, message, source),
-            Err(why) => Err((why, message)),
-        }
-    }
-
-    // The same for each message.
-    #[inline(never)]
-    fn deliver_any_told(
-        &mut self,
-        from: u8,
-        message: Message,
-        source: Option<u8>,
-    ) -> Result<Happened, (Refusal, Message)>
-        requires { from < self.old.node.count }
-        ensures delivered { IsDelivered self.old from message source (deliver self.old.node from message source) result self.new }
-        ensures event { IfOk result (λ h. h ≡ hand_event self.old.node from message source) }
     {
         let mut message = message;
         let has_place = self.fits(from, &message, source);

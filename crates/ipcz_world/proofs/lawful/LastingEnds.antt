@@ -3,8 +3,8 @@ use Rattle.std.specs.Prelude.{◌≡◌, ◌⊎◌, ℕ, true, false, cond, Some
 use Rattle.std.proofs.Common.{sym, ◌∙◌, ap, subst, inl, inr}
 use Rattle.std.proofs.lemmas.Option.{same_Some}
 use Rattle.ipcz_world.proofs.Vocabulary.{Side, Router, World, Key, node_at, mail_at, router_at, messages_in, same_key, set_claimed, set_router, place_at}
-use Rattle.ipcz_router.specs.ActEffects.{run_dry}
-use Rattle.ipcz_world.specs.HeldEnds.{passed_over, grown, rewet, router_holds, IsEndHeld, ByRouter, ByOpen, ByOutbox, ByMailbox}
+use Rattle.ipcz_router.specs.ActEffects.{run_dry, rewet}
+use Rattle.ipcz_world.specs.HeldEnds.{passed_over, grown, router_holds, IsEndHeld, ByRouter, ByOpen, ByOutbox, ByMailbox}
 use Rattle.ipcz_world.specs.Lasting.{HasSameEnds, DeedsKeepEnds}
 use Rattle.ipcz_world.proofs.frames.Frames.{one_or_before, OneOrBefore, same_key_tells}
 use Rattle.ipcz_world.proofs.frames.OneRouter.{SameButRouter, set-router}

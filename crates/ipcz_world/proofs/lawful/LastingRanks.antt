@@ -2,9 +2,9 @@
 use Rattle.std.specs.Prelude.{◌≡◌, ◌≤◌, ℕ, ◌+◌, Bool, true, false, not, ◌&&◌, Some, is_none, refl}
 use Rattle.std.proofs.Common.{arith}
 use Rattle.ipcz_world.proofs.Vocabulary.{Router, World, Key, node_at, router_at, set_claimed, set_router, with_router}
-use Rattle.ipcz_router.specs.ActEffects.{run_dry}
+use Rattle.ipcz_router.specs.ActEffects.{run_dry, rewet}
 use Rattle.ipcz_world.specs.Ranks.{Rates, is_unbegun, router_worth, rank}
-use Rattle.ipcz_world.specs.HeldEnds.{passed_over, grown, rewet}
+use Rattle.ipcz_world.specs.HeldEnds.{passed_over, grown}
 use Rattle.ipcz_world.specs.Lasting.{DeedsKeepRanks}
 use Rattle.ipcz_world.proofs.lawful.RouterWorths.{worth-most}
 use Rattle.ipcz_world.proofs.lawful.NodeWorths.{node-with}

@@ -6,7 +6,7 @@ use Rattle.ipcz_world.proofs.Vocabulary.{is_possible, can_take, has_primary, has
 use Rattle.std.proofs.lemmas.Option.{same_Some}
 use Rattle.ipcz_edge.specs.Edge.{edge_has, no_edge}
 use Rattle.ipcz_world.specs.Books.{is_retired}
-use Rattle.ipcz_router.specs.ActEffects.{run_dry}
+use Rattle.ipcz_router.specs.ActEffects.{run_dry, rewet}
 use Rattle.ipcz_router.specs.ActTable.{is_ready, is_rest, may_take}
 use Rattle.ipcz_router.specs.declared.act.RouterAct.TheVariants as acts
 use Rattle.ipcz_world.specs.Routes.{Routes}
@@ -14,7 +14,7 @@ use Rattle.ipcz_world.specs.Turns.{may_act}
 use Rattle.ipcz_world.specs.Owed.{AreFlagged, FlagsAgree, PrimaryPasses, WaitsForOther, HasWaker, HaveWakers, IsRanked, GoneUnread}
 use Rattle.ipcz_world.specs.Settling.{IsBounded}
 use Rattle.ipcz_world.specs.Lawful.{Lawful}
-use Rattle.ipcz_world.specs.HeldEnds.{rewet, DryKeepsLawful, WetKeepsLawful}
+use Rattle.ipcz_world.specs.HeldEnds.{DryKeepsLawful, WetKeepsLawful}
 use Rattle.ipcz_world.proofs.frames.Frames.{one_or_before, OneOrBefore, same_key_tells, word-set_node}
 use Rattle.ipcz_world.proofs.frames.OneRouter.{SameButRouter, set-router, words-set_router}
 use Rattle.ipcz_world.proofs.frames.GivingUp.{HasSameFlags}

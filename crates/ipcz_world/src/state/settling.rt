@@ -25,7 +25,7 @@ impl State {
         }
     }
 
-    /// The same by a call of its own: it is called once, while `next_busy` is called before each act.
+    /// The same by a call of its own: `next_busy` is called before each act, this one once.
     #[inline(never)]
     pub(crate) fn last_busy(&self, n: u8) -> Option<(u8, Act)>
         requires regular { IsRegular self.now }

@@ -3,7 +3,7 @@
 //! Nothing is promised of what stands here: a test's own proof would else work out the world at each call. So a test is a list of calls.
 
 use super::{get, is_got, is_put, is_refused, put};
-use ipcz_base::{End, Profile, Refusal, Sequence, Sizes};
+use ipcz_base::{End, Refusal, Sequence, Sizes};
 use ipcz_world::{Reply, Settled, Step, World};
 use std::alloc::{AllocError, Global};
 
@@ -42,6 +42,10 @@ pub enum Call {
     Settle(u64, Option<u64>),
     /// How many words are claimed.
     Claimed(u32),
+    /// How many words are left.
+    Left(u32),
+    /// Whether nothing waits.
+    Quiet(bool),
     /// A word, or none if it isn't claimed.
     Word(u32, Option<u64>),
     /// The node that holds an end.
@@ -136,7 +140,7 @@ fn puts_wide(
 ) -> Result<bool, AllocError> {
     let bytes = bytes_of(alloc, value, count)?;
     let ends = Sequence::from_vec(Vec::new(alloc));
-    let answer = world.put_as(Profile::Wide, node, at, bytes, ends);
+    let answer = world.put_wide(node, at, bytes, ends);
     Ok(answer.is_ok_and(|n| n == number))
 }
 
@@ -195,6 +199,8 @@ fn is(world: &World, call: Call) -> bool {
     match call {
         Call::NextSizes(node, at, want) => world.next_sizes(node, at) == want,
         Call::Claimed(count) => world.claimed() == count,
+        Call::Left(count) => world.words_left() == count,
+        Call::Quiet(want) => world.is_quiet() == want,
         Call::Word(i, word) => world.word(i) == word,
         Call::Holder(end, node) => world.holder_of(end) == node,
         Call::Limit(limit) => world.settle_limit() == Some(limit),

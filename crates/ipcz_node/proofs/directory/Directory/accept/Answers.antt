@@ -4,6 +4,7 @@ use Rattle.ipcz_node.specs.Directories.{ends_inside}
 use Rattle.ipcz_router.specs.Router.{outward_has}
 use Rattle.ipcz_node.proofs.Holding.{hold_changed, hold_kept, hold_more, brought_inside}
 use Rattle.ipcz_node.proofs.Refiling.{StaysFiled, flag_was, flag_room, flag_changed, accept_stays, same_stays}
+use Rattle.ipcz_node.proofs.Dryness.{dry_kept, accept_dry}
 use Rattle.ipcz_node.proofs.directory.Directory.accept.Goals as goal
 
 pub follow-requires-clause-was : goal.follow-requires-clause-was
@@ -25,6 +26,7 @@ invariant_of-self c = (
   c.self.invariant.0,
   hold_more _ _ c.self.inside.ends c.self.inside.room c.self.inside.room c.self.inside.held.room _ refl
       (omega (arith, c.self.invariant.1.room, c.make_room.ensures.room)) c.self.invariant.1,
+  c.self.invariant.2,
 )
 
 pub invariant_of-self-in_err-answer : goal.invariant_of-self-in_err-answer
@@ -41,6 +43,7 @@ invariant_of-self-in_err-answer c =
           (omega (arith, c.self.invariant.1.room, c.make_room.ensures.room))
           (hold_kept _ c.args.serial r w c.self.inside.ends c.self.inside.room c.self.inside.held.room here (ap ends_inside same)
           c.self.invariant.1),
+      dry_kept _ _ c.args.serial r w (sym c.router_mut-router.ensures.value) (ap (λ x. x.dry) same) c.self.invariant.2,
     )
 
 pub invariant_of-self-2 : goal.invariant_of-self-2
@@ -60,4 +63,5 @@ invariant_of-self-2 c =
           c.follow.ensures.members c.follow.ensures.room,
       hold_changed _ c.args.serial r w c.self.inside.ends c.in-Some.all c.self.inside.room c.self.inside.held.room _ here
           (omega (arith, more, c.in-Some.ensures.some.0)) c.in-Some.ensures.some.1 c.self.invariant.1,
+      dry_kept _ _ c.args.serial r w (sym c.router_mut-router.ensures.value) (ap (λ x. x.dry) c.in_ok-answer.ensures.ok ∙ accept_dry r from_outward c.args.n c.args.item) c.self.invariant.2,
     )

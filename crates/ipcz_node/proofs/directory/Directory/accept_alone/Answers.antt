@@ -5,6 +5,7 @@ use Rattle.ipcz_router.specs.Router.{outward_has}
 use Rattle.ipcz_node.specs.Directories.{ends_brought, ends_inside}
 use Rattle.ipcz_node.proofs.Holding.{hold_kept, brought_inside}
 use Rattle.ipcz_node.proofs.Refiling.{StaysFiled, flag_room, flag_changed, accept_stays, same_stays}
+use Rattle.ipcz_node.proofs.Dryness.{dry_kept, accept_dry}
 use Rattle.ipcz_node.proofs.directory.Directory.accept_alone.Goals as goal
 
 none_of : (b : Bool) (es : List End) → es ≡ [] → (if b then length es else 0) ≡ 0
@@ -33,4 +34,5 @@ invariant_of-self-2 c =
       flag_changed _ c.args.serial r w stays _ _ _ _ c.self.inside.room c.self.inside.more c.self.inside.routers.room here
           c.self.invariant.0 _ _ c.is_flagged-was.ensures c.is_flagged-is.ensures c.follow.ensures.members c.follow.ensures.room,
       hold_kept _ c.args.serial r w c.self.inside.ends c.self.inside.room c.self.inside.held.room here same c.self.invariant.1,
+      dry_kept _ _ c.args.serial r w (sym c.router_mut-router.ensures.value) (ap (λ x. x.dry) ok ∙ accept_dry r from_outward c.args.n item) c.self.invariant.2,
     )

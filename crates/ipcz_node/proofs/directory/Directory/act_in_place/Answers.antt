@@ -2,6 +2,7 @@ use Rattle.std.proofs.Common.{◌+◌, ◌≤◌, ap, sym, ◌∙◌, subst, ari
 use Rattle.ipcz_node.specs.Directories.{ends_inside, ends_taken}
 use Rattle.ipcz_node.proofs.Holding.{hold_spent, act_inside}
 use Rattle.ipcz_node.proofs.Refiling.{StaysFiled, flag_was, flag_room, flag_changed, act_stays, same_stays}
+use Rattle.ipcz_node.proofs.Dryness.{dry_noted}
 use Rattle.ipcz_node.proofs.directory.Directory.act_in_place.Goals as goal
 
 pub follow-requires-clause-was : goal.follow-requires-clause-was
@@ -38,4 +39,5 @@ invariant_of-self c =
       hold_spent _ c.args.serial r w c.self.inside.ends _ c.ends_taken-taken.result c.self.inside.room c.self.inside.held.room
           c.self.inside.held.room (sym c.router_mut-router.ensures.value) fewer c.saturating_sub-self-inside.ensures (omega arith)
           c.self.invariant.1,
+      dry_noted _ _ _ c.args.serial w c.is_dry.ensures c.self.invariant.2,
     )

@@ -8,6 +8,7 @@ use Rattle.ipcz_node.specs.LinkPlaces.{place_cmp}
 use Rattle.ipcz_node.specs.Directories.{ends_inside}
 use Rattle.ipcz_node.proofs.Holding.{hold_added, fresh_inside}
 use Rattle.ipcz_node.proofs.Directories.{filed_added, room_added}
+use Rattle.ipcz_node.proofs.Dryness.{wet_added}
 use Rattle.ipcz_node.proofs.directory.Directory.add_end.Goals as goal
 
 pub invariant_of-self : goal.invariant_of-self
@@ -33,6 +34,7 @@ invariant_of-self c =
       hold_added _ _ next w c.self.inside.ends c.self.inside.room c.self.inside.held.room c.insert.new.self.room
           c.next_serial-serial.ensures.free added (ap ends_inside c.terminal.ensures ∙ fresh_inside 0)
           some c.insert.ensures.room c.self.invariant.1,
+      wet_added _ _ _ next w added (ap (λ x. x.dry) c.terminal.ensures) c.self.invariant.2,
     )
 
 pub insert-requires : goal.insert-requires

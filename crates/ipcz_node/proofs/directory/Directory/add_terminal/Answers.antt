@@ -7,6 +7,7 @@ use Rattle.ipcz_node.specs.LinkPlaces.{place_cmp}
 use Rattle.ipcz_node.specs.Directories.{ends_inside}
 use Rattle.ipcz_node.proofs.Holding.{hold_added, fresh_inside}
 use Rattle.ipcz_node.proofs.Directories.{filed_added, room_added}
+use Rattle.ipcz_node.proofs.Dryness.{wet_added}
 use Rattle.ipcz_node.proofs.directory.Directory.add_terminal.Goals as goal
 
 pub invariant_of-self : goal.invariant_of-self
@@ -31,4 +32,5 @@ invariant_of-self c =
       hold_added _ _ next w c.self.inside.ends c.self.inside.room c.self.inside.held.room c.self.inside.held.room
           c.next_serial-serial.ensures.free added (ap ends_inside c.from_descriptor.ensures ∙ fresh_inside d.next_in) some (omega arith)
           c.self.invariant.1,
+      wet_added _ _ _ next w added (ap (λ x. x.dry) c.from_descriptor.ensures) c.self.invariant.2,
     )

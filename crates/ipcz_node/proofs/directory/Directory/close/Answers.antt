@@ -6,6 +6,7 @@ use Rattle.ipcz_base.specs.declared.refusal.Refusal.TheVariants.{OutOfMemory}
 use Rattle.ipcz_router.specs.Closing.{close_router}
 use Rattle.ipcz_node.proofs.Standings.{close_standing}
 use Rattle.ipcz_node.proofs.Holding.{hold_kept}
+use Rattle.ipcz_node.proofs.Dryness.{dry_kept}
 use Rattle.ipcz_node.proofs.directory.Directory.close.Goals as goal
 
 pub refile-requires : goal.refile-requires
@@ -35,4 +36,5 @@ invariant_of-self c =
           c.self.invariant.0 c.refile.ensures,
       hold_kept _ c.args.serial r w c.self.inside.ends c.self.inside.room c.self.inside.held.room
           (sym c.router_mut-router.ensures.value) same c.self.invariant.1,
+      dry_kept _ _ c.args.serial r w (sym c.router_mut-router.ensures.value) (after (λ x. x.dry ≡ r.dry) c.close-answer.result r w (close_router r) c.close-answer.ensures.ok left refl refl) c.self.invariant.2,
     )

@@ -2,6 +2,7 @@ use Rattle.std.proofs.Common.{◌<◌, ◌-◌, ap, sym, subst, arith}
 use Rattle.ipcz_node.specs.Directories.{ends_inside}
 use Rattle.ipcz_node.proofs.Holding.{hold_kept}
 use Rattle.ipcz_node.proofs.Refiling.{FilesWithin, can_change, changed, extend_standing}
+use Rattle.ipcz_node.proofs.Dryness.{dry_kept}
 use Rattle.ipcz_node.proofs.directory.Directory.extend.Goals as goal
 
 pub refile-requires : goal.refile-requires
@@ -25,4 +26,5 @@ invariant_of-self c =
           c.self.invariant.0 c.refile.ensures,
       hold_kept _ c.args.serial r w c.self.inside.ends c.self.inside.room c.self.inside.held.room
           (sym c.router_mut-router.ensures.value) (ap ends_inside c.extend_to-descriptor.ensures.router) c.self.invariant.1,
+      dry_kept _ _ c.args.serial r w (sym c.router_mut-router.ensures.value) (ap (λ x. x.dry) c.extend_to-descriptor.ensures.router) c.self.invariant.2,
     )

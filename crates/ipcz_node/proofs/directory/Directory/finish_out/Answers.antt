@@ -1,8 +1,9 @@
-use Rattle.std.proofs.Common.{◌+◌, ◌≤◌, ap, sym, subst, arith}
+use Rattle.std.proofs.Common.{◌+◌, ◌≤◌, ap, sym, ◌∙◌, subst, arith}
 use Rattle.ipcz_router.specs.declared.act.RouterAct.TheVariants.{FinishOut}
 use Rattle.ipcz_node.specs.Directories.{ends_inside, ends_taken}
 use Rattle.ipcz_node.proofs.Holding.{hold_spent, act_inside}
 use Rattle.ipcz_node.proofs.Refiling.{FilesWithin, can_change, changed, act_standing, finished}
+use Rattle.ipcz_node.proofs.Dryness.{dry_kept, finish_dry}
 use Rattle.ipcz_node.proofs.directory.Directory.finish_out.Goals as goal
 
 pub unfile-requires-clause-can : goal.unfile-requires-clause-can
@@ -33,6 +34,7 @@ invariant_of-self c =
       hold_spent _ c.args.serial r w c.self.inside.ends _ c.ends_taken.result c.self.inside.room c.self.inside.held.room
           c.self.inside.held.room (sym c.router_mut-router.ensures.value) fewer c.saturating_sub-self-inside.ensures (omega arith)
           c.self.invariant.1,
+      dry_kept _ _ c.args.serial r w (sym c.router_mut-router.ensures.value) (ap (λ x. x.dry) c.apply-applied.ensures.router ∙ finish_dry r c.args.answer) c.self.invariant.2,
     )
 
 pub unfile-requires-clause-gone : goal.unfile-requires-clause-gone

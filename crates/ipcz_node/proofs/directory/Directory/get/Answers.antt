@@ -4,6 +4,7 @@ use Rattle.ipcz_node.proofs.Refiling.{StaysFiled, flag_was, flag_room, flag_chan
 use Rattle.std.proofs.Common.{subst, ◌≤◌, length}
 use Rattle.ipcz_base.specs.declared.item.Item.TheVariants.{Parcel}
 use Rattle.ipcz_node.proofs.Holding.{hold_kept, hold_spent, inside_one, taken_inside}
+use Rattle.ipcz_node.proofs.Dryness.{dry_kept}
 use Rattle.ipcz_node.proofs.directory.Directory.get.Goals as goal
 
 pub follow-requires-clause-was : goal.follow-requires-clause-was
@@ -31,6 +32,7 @@ invariant_of-self c =
           c.follow.ensures.members c.follow.ensures.room,
       hold_kept _ c.args.serial r w c.self.inside.ends c.self.inside.room c.self.inside.held.room
           (sym c.router_mut-router.ensures.value) (ap ends_inside same) c.self.invariant.1,
+      dry_kept _ _ c.args.serial r w (sym c.router_mut-router.ensures.value) (ap (λ x. x.dry) same) c.self.invariant.2,
     )
 
 pub insert_all-requires : goal.insert_all-requires
@@ -64,4 +66,5 @@ invariant_of-self-2 c =
       hold_spent _ c.args.serial r w c.self.inside.ends _ c.len.result c.self.inside.room c.self.inside.held.room
           c.insert_all.new.self.room (sym c.router_mut-router.ensures.value) fewer c.saturating_sub-self-inside.ensures
           (omega (arith, c.insert_all.ensures.room, ap length c.as_slice.ensures, c.len.ensures)) c.self.invariant.1,
+      dry_kept _ _ c.args.serial r w (sym c.router_mut-router.ensures.value) (ap (λ x. x.dry) c.in_ok-n.ensures.ok) c.self.invariant.2,
     )

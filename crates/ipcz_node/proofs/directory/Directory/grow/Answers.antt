@@ -1,6 +1,7 @@
 use Rattle.std.proofs.Common.{arith}
 use Rattle.ipcz_node.proofs.Directories.{same_filed, room_for_some}
 use Rattle.ipcz_node.proofs.Holding.{hold_more}
+use Rattle.ipcz_node.proofs.Dryness.{dry_same}
 use Rattle.ipcz_node.proofs.directory.Directory.grow.Goals as goal
 
 pub invariant_of-self-2 : goal.invariant_of-self-2
@@ -14,4 +15,5 @@ invariant_of-self-2 c = (
   ),
   hold_more _ _ c.self.inside.ends c.args.routers c.self.inside.room _ _ c.reserve.ensures.routers
       (omega (arith, c.in_ok-reserve-5.ensures.ok, c.in-Some-sum.ensures.some)) c.self.invariant.1,
+  dry_same _ _ _ c.reserve.ensures.routers c.self.invariant.2,
 )

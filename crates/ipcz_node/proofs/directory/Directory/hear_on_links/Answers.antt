@@ -4,6 +4,7 @@ use Rattle.ipcz_node.specs.Directories.{ends_inside}
 use Rattle.ipcz_node.proofs.Holding.{hold_kept}
 use Rattle.ipcz_node.proofs.Refiling.{FilesWithin, can_change, changed}
 use Rattle.ipcz_node.proofs.Standings.{hear_standing, hear_inside}
+use Rattle.ipcz_node.proofs.Dryness.{dry_kept, hear_dry}
 use Rattle.ipcz_node.proofs.directory.Directory.hear_on_links.Goals as goal
 
 pub refile-requires : goal.refile-requires
@@ -31,4 +32,5 @@ invariant_of-self c =
           c.filing-was.ensures c.filing-is.ensures (omega (arith, enough, c.links_brought.ensures.count)) c.self.invariant.0 c.refile.ensures,
       hold_kept _ c.args.serial r w c.self.inside.ends c.self.inside.room c.self.inside.held.room (sym c.router_mut-router.ensures.value)
           (ap ends_inside c.hear-answer.ensures.router ∙ hear_inside r c.args.sender m) c.self.invariant.1,
+      dry_kept _ _ c.args.serial r w (sym c.router_mut-router.ensures.value) (ap (λ x. x.dry) c.hear-answer.ensures.router ∙ hear_dry r c.args.sender m) c.self.invariant.2,
     )

@@ -3,6 +3,7 @@ use Rattle.ipcz_node.specs.Directories.{AreFiled, HaveRoom}
 use Rattle.ipcz_node.proofs.Directories.{can_refile, unfiled}
 use Rattle.ipcz_node.proofs.Holding.{hold_dropped}
 use Rattle.ipcz_node.proofs.Refiling.{nowhere, under_nowhere}
+use Rattle.ipcz_node.proofs.Dryness.{dry_dropped}
 use Rattle.ipcz_node.proofs.directory.Directory.remove.Goals as goal
 
 pub refile-requires : goal.refile-requires
@@ -23,4 +24,5 @@ invariant_of-self c =
           (sym c.remove-router.ensures.routers) held,
       hold_dropped _ _ c.args.serial c.remove-router.result.router c.self.inside.ends c.self.inside.room c.self.inside.held.room
           (sym c.remove-router.ensures.router) c.remove-router.ensures.routers c.self.invariant.1,
+      dry_dropped _ _ _ c.args.serial c.remove-router.ensures.routers c.self.invariant.2,
     )

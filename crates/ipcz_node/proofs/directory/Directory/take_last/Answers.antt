@@ -15,6 +15,7 @@ use Rattle.ipcz_node.specs.contracts.directory.Directory.{the_view}
 use Rattle.ipcz_node.proofs.Written.{insert_same}
 use Rattle.ipcz_node.proofs.Holding.{hold_kept, brought_inside}
 use Rattle.ipcz_node.proofs.Refiling.{StaysFiled, flag_was, flag_room, flag_changed, same_stays}
+use Rattle.ipcz_node.proofs.Dryness.{dry_kept}
 use Rattle.ipcz_node.proofs.directory.Directory.take_last.Goals as goal
 
 none_of : (b : Bool) (es : List End) → es ≡ [] → (if b then length es else 0) ≡ 0
@@ -28,17 +29,19 @@ stands o r link side is at = subst (λ p. IsSomeAnd p (λ x. router_has x link s
 
 -- an item without ends leaves its router filed as it was but for the flag, and no more ends inside it
 stays_with : (A : Type 0) (r w : Router) (link : LinkId) (side : Side) (n : ℕ) (item : Item) (taken : Bool) → ends_in item ≡ [] →
-    (taken ≡ true → TakesLast r link side n item w) → (taken ≡ false → A × (w ≡ r)) → StaysFiled r w × (ends_inside w ≡ ends_inside r)
+    (taken ≡ true → TakesLast r link side n item w) → (taken ≡ false → A × (w ≡ r)) → StaysFiled r w × (ends_inside w ≡ ends_inside r) × (w.dry ≡ r.dry)
 unfolding accept
 stays_with A r w link side n item true none takes kept =
     let t = takes refl in
     let brought : ends_brought r true n item ≡ 0 = none_of _ (ends_in item) none in (
       subst (StaysFiled r) (sym t.after) refl,
       ap ends_inside t.after ∙ brought_inside r true n item t.place ∙ omega (arith, brought),
+      ap (λ x. x.dry) t.after,
     )
 stays_with A r w link side n item false none takes kept = (
   subst (StaysFiled r) (sym (kept refl).1) (same_stays r),
   ap ends_inside (kept refl).1,
+  ap (λ x. x.dry) (kept refl).1,
 )
 
 pub follow-requires-clause-was : goal.follow-requires-clause-was
@@ -67,6 +70,7 @@ invariant_of-self c =
       flag_changed _ c.args.serial r w stays.0 _ _ _ _ c.self.inside.room c.self.inside.more c.self.inside.routers.room here
           c.self.invariant.0 _ _ c.is_flagged-was.ensures c.is_flagged-is.ensures c.follow.ensures.members c.follow.ensures.room,
       hold_kept _ c.args.serial r w c.self.inside.ends c.self.inside.room c.self.inside.held.room here stays.1 c.self.invariant.1,
+      dry_kept _ _ c.args.serial r w here stays.2 c.self.invariant.2,
     )
 
 pub returns-clause-taken : goal.returns-clause-taken

@@ -1,0 +1,24 @@
+use Rattle.std.proofs.Common.{ℕ, Option, subst, sym, ap, ◌∙◌}
+use Rattle.ipcz_base.specs.declared.end.End.{End}
+use Rattle.ipcz_node.specs.Node.{Node, router_in}
+use Rattle.ipcz_node.specs.RoomyNodes.{RoomyNode}
+use Rattle.ipcz_node.specs.Finding.{IsNext}
+use Rattle.ipcz_cell.specs.CellStates.{CellState}
+use Rattle.ipcz_cell.specs.Cells.{IsCell}
+use Rattle.ipcz_cell.specs.Retries.{WaitsFirst}
+use Rattle.ipcz_cell.specs.Seats.{mine_of}
+use Rattle.ipcz_cell.proofs.Retrying.{waits_first}
+use Rattle.ipcz_cell.proofs.cell.NodeCell.first_waiting.Goals as goal
+
+pub invariant_of-self : goal.invariant_of-self
+invariant_of-self g c = (
+  subst (λ (z : Node). IsCell g.F.FabricName.table z c.self.inside.message c.self.inside.probed c.self.inside.seat.table_id (mine_of c.self.inside.seat.me))
+      (sym (ap (λ (v : RoomyNode). v.node) c.first_dry.ensures.stays)) c.self.invariant.0,
+  c.self.invariant.1,
+)
+
+pub returns-clause-waits : goal.returns-clause-waits
+returns-clause-waits g c =
+    let state = sym c.self.invariant.0.seated.state ∙ ap (λ (o : CellState). o.part.state) c.self.view_is in
+    let found = subst (λ (o : Option (ℕ × End)). IsNext (router_in c.self.inside.state.node) (λ r. r.dry) 0 o) c.in-Some.is c.first_dry.ensures.found in
+    subst (λ (x : Node). WaitsFirst x c.in-Some.serial) state (waits_first c.self.inside.state.node _ _ found)

@@ -1,0 +1,35 @@
+use Rattle.std.proofs.Common.{ap, ◌∙◌, sym, subst}
+use Rattle.ipcz_node.specs.Directories.{ends_inside}
+use Rattle.ipcz_node.proofs.Holding.{hold_kept}
+use Rattle.ipcz_node.proofs.Refiling.{StaysFiled, flag_was, flag_room, flag_changed, same_stays, rewet_stays}
+use Rattle.ipcz_node.proofs.Dryness.{wet_written}
+use Rattle.ipcz_node.proofs.directory.Directory.rewet.Goals as goal
+
+pub follow-requires-clause-was : goal.follow-requires-clause-was
+follow-requires-clause-was c =
+    let r = c.router_mut-router.result.now.router in
+    flag_was _ c.args.serial r r (same_stays r) c.self.inside.files.links c.self.inside.files.terminals c.self.inside.files.flagged c.self.inside.files.flagged
+    c.self.inside.room c.self.inside.more c.self.inside.routers.room (sym c.router_mut-router.ensures.value) c.self.invariant.0
+    ∙ sym c.is_flagged-was.ensures
+
+pub follow-requires-clause-room : goal.follow-requires-clause-room
+follow-requires-clause-room c down =
+    let r = c.router_mut-router.result.now.router in
+    flag_room _ c.args.serial r r (same_stays r) c.self.inside.files.links c.self.inside.files.terminals c.self.inside.files.flagged c.self.inside.files.flagged
+    c.self.inside.room c.self.inside.more c.self.inside.routers.room (sym c.router_mut-router.ensures.value) c.self.invariant.0
+    (sym c.is_flagged-was.ensures ∙ down)
+
+pub invariant_of-self : goal.invariant_of-self
+invariant_of-self c =
+    let r = c.router_mut-router.result.now.router in
+    let w = c.rewet.new.self.router in
+    let is = ap (λ x. x.router) c.rewet.ensures in
+    let stays : StaysFiled r w = subst (StaysFiled r) (sym is) (rewet_stays r) in
+    let same = ap ends_inside is in (
+      flag_changed _ c.args.serial r w stays _ _ _ _ c.self.inside.room c.self.inside.more c.self.inside.routers.room
+          (sym c.router_mut-router.ensures.value) c.self.invariant.0 _ _ c.is_flagged-was.ensures c.is_flagged-is.ensures
+          c.follow.ensures.members c.follow.ensures.room,
+      hold_kept _ c.args.serial r w c.self.inside.ends c.self.inside.room c.self.inside.held.room
+          (sym c.router_mut-router.ensures.value) same c.self.invariant.1,
+      wet_written _ _ c.args.serial w (λ _. ap (λ x. x.dry) is) c.self.invariant.2,
+    )

@@ -1,0 +1,21 @@
+//! The laws that lead from cells and hubs to the promise. Each function does nothing: its contract is the law.
+
+ghost use Rattle.ipcz_shown.specs.Shown.{TablesTellAccounts, TableTurnsKeepThePromise, QuietTablesDeliver};
+
+/// A table that keeps its rule tells accounts of the page: who holds which portal by its nodes' parts, and what was put, got and closed by what its
+/// seats have seen. At each portal was got, in order and once each, a first part of what was put at its peer; and nobody holds a closed portal.
+pub fn tables_tell_accounts()
+    ensures { TablesTellAccounts }
+{}
+
+/// Steps of turns, of any seats and in whatever order, are turns of the page's machine: if the world that the table shows keeps accounts, the world
+/// that it shows behind the steps keeps those which the machine comes to by these turns.
+pub fn table_turns_keep_the_promise()
+    ensures { TableTurnsKeepThePromise }
+{}
+
+/// If each node is quiet and no mailbox is full, each portal in a parcel that a closed portal never got is closed; and if words are left, a get at a
+/// cell is `Empty` only if all that the peer has put was got, and the peer isn't closed.
+pub fn quiet_tables_deliver()
+    ensures { QuietTablesDeliver }
+{}
