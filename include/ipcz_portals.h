@@ -76,7 +76,7 @@ typedef struct ipcz_cell {
  * and never comes again. So a portal of one world names a portal of another one, too: a call can't tell that it was given the wrong
  * world's, and uses the portal of that name, if the node has it. */
 typedef struct ipcz_portal {
-    uint32_t pair;
+    uint64_t pair;
     bool side_b;
 } ipcz_portal;
 
@@ -171,10 +171,10 @@ ipcz_status ipcz_turn(ipcz_world *world, uint8_t node);
 ipcz_status ipcz_settle(ipcz_world *world, uint64_t limit, uint64_t *acts, bool *quiet);
 
 /* How many link words were used. */
-uint32_t ipcz_claimed(ipcz_world *world);
+uint64_t ipcz_claimed(ipcz_world *world);
 
 /* Whether link word i was used; then its number is written. For tools: the repository's docs/PROTOCOL.md, "Link words", reads it. */
-bool ipcz_word(ipcz_world *world, uint32_t i, uint64_t *word);
+bool ipcz_word(ipcz_world *world, uint64_t i, uint64_t *word);
 
 /* Whether some node may use a portal now; then that node is written. While a portal travels, and once it is closed, none may. */
 bool ipcz_holder(ipcz_world *world, ipcz_portal portal, uint8_t *node);
@@ -201,8 +201,7 @@ ipcz_status ipcz_cells_create(uint32_t words, ipcz_cell *cells, size_t nodes);
  *          takes one while it is open, and so does each bypass until it is done. If none is to be had, an open is refused IPCZ_NO_WORD and may be
  *          tried again; a node that a portal came through, and finds none, stays in its way until the pair is closed
  *   cells, nodes  as for ipcz_cells_create
- * There can be 4,294,967,295 links in the life of the table: then each open is refused IPCZ_NO_WORD. Each open and each bypass makes one, and
- * some numbers are passed over.
+ * Numbers of links have 64 bits, so the table doesn't end: each open and each bypass takes a number, and some are passed over.
  * IPCZ_ALREADY_CREATED, IPCZ_TOO_MANY, IPCZ_OUT_OF_MEMORY. */
 ipcz_status ipcz_cells_create_lasting(uint32_t slots, ipcz_cell *cells, size_t nodes);
 
@@ -260,10 +259,10 @@ bool ipcz_cell_quiet(ipcz_cell *cell);
 uint32_t ipcz_cell_retry(ipcz_cell *cell);
 
 /* How many link words of the table were used, when their count was read; later they may be more. */
-uint32_t ipcz_cell_claimed(ipcz_cell *cell);
+uint64_t ipcz_cell_claimed(ipcz_cell *cell);
 
 /* Whether link word i was used by then; then its number is written. For tools, as ipcz_word. */
-bool ipcz_cell_word(ipcz_cell *cell, uint32_t i, uint64_t *word);
+bool ipcz_cell_word(ipcz_cell *cell, uint64_t i, uint64_t *word);
 
 /* Whether the node may use a portal now. */
 bool ipcz_cell_holds(ipcz_cell *cell, ipcz_portal portal);

@@ -140,10 +140,10 @@ class World {
     }
 
     // How many link words were used.
-    std::uint32_t claimed() const { return ::ipcz_claimed(&world_); }
+    std::uint64_t claimed() const { return ::ipcz_claimed(&world_); }
 
     // Whether a link word was used; then its number is written.
-    bool word(std::uint32_t i, std::uint64_t &word) const { return ::ipcz_word(&world_, i, &word); }
+    bool word(std::uint64_t i, std::uint64_t &word) const { return ::ipcz_word(&world_, i, &word); }
 
     // Whether some node may use the portal; then it is written.
     bool holder(Portal portal, std::uint8_t &node) const { return ::ipcz_holder(&world_, portal, &node); }
@@ -235,10 +235,10 @@ class Cell {
     // Lets a router that was told that there is no slot for its shorter way ask again, if one is to be had now: see ipcz_cell_retry.
     Retry retry() { return static_cast<Retry>(::ipcz_cell_retry(&cell_)); }
 
-    std::uint32_t claimed() const { return ::ipcz_cell_claimed(&cell_); }
+    std::uint64_t claimed() const { return ::ipcz_cell_claimed(&cell_); }
 
     // Whether a link word was used; then its number is written.
-    bool word(std::uint32_t i, std::uint64_t &word) const { return ::ipcz_cell_word(&cell_, i, &word); }
+    bool word(std::uint64_t i, std::uint64_t &word) const { return ::ipcz_cell_word(&cell_, i, &word); }
 
     bool holds(Portal portal) const { return ::ipcz_cell_holds(&cell_, portal); }
 

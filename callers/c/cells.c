@@ -1,6 +1,7 @@
 /* Each call on cells, on one thread, with the statuses that it may be refused with. */
 #include "ipcz_portals.h"
 
+#include <inttypes.h>
 #include <stdio.h>
 
 static void print(const char *what, ipcz_status status) { printf("%s: %s\n", what, ipcz_status_name(status)); }
@@ -21,7 +22,7 @@ int main(void) {
     uint64_t number, acts, word;
     size_t size, count;
     print("open on a fresh handle", ipcz_cell_open(&fresh, &a, &b));
-    printf("a fresh handle: quiet %d, claimed %u, word %d, holds %d, node %d\n", ipcz_cell_quiet(&fresh), ipcz_cell_claimed(&fresh),
+    printf("a fresh handle: quiet %d, claimed %" PRIu64 ", word %d, holds %d, node %d\n", ipcz_cell_quiet(&fresh), ipcz_cell_claimed(&fresh),
            ipcz_cell_word(&fresh, 0, &word), ipcz_cell_holds(&fresh, left), ipcz_cell_node(&fresh, &node));
     print("create of no node", ipcz_cells_create(1, cells, 0));
     print("create with too few words", ipcz_cells_create(0, cells, 2));
@@ -31,7 +32,7 @@ int main(void) {
     printf("node of the second: %d\n", node);
     print("open", ipcz_cell_open(&cells[0], &a, &b));
     print("open with no word left", ipcz_cell_open(&cells[1], &a, &b));
-    printf("claimed %u, word 1 %d, word 2 %d\n", ipcz_cell_claimed(&cells[0]), ipcz_cell_word(&cells[0], 1, &word), ipcz_cell_word(&cells[0], 2, &word));
+    printf("claimed %" PRIu64 ", word 1 %d, word 2 %d\n", ipcz_cell_claimed(&cells[0]), ipcz_cell_word(&cells[0], 1, &word), ipcz_cell_word(&cells[0], 2, &word));
     print("put by a stranger", ipcz_cell_put(&cells[1], left, "x", 1, NULL, 0, &number));
     print("put of a line feed as printed", ipcz_cell_put_printed(&cells[0], left, "\n", 1, NULL, 0, &number));
     print("put of it", ipcz_cell_put(&cells[0], left, "\n", 1, NULL, 0, &number));

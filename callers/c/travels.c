@@ -42,7 +42,7 @@ static ipcz_status put(ipcz_world *world, uint8_t node, ipcz_portal at, const ch
 }
 
 static void print_portal(const char *name, ipcz_portal portal) {
-    printf("%s %" PRIu32 "%c\n", name, portal.pair, portal.side_b ? 'B' : 'A');
+    printf("%s %" PRIu64 "%c\n", name, portal.pair, portal.side_b ? 'B' : 'A');
 }
 
 static void print_parcel(const parcel *got) {
@@ -177,7 +177,7 @@ int main(void) {
     ipcz_world world = IPCZ_WORLD_INIT;
     if (ipcz_create(2, 8, &world)) return 1;
     bool well = travels(&world) && small_rooms(&world) && parcels_of_any_bytes(&world) && refusals(&world) && handles();
-    printf("%" PRIu32 " words used\n", ipcz_claimed(&world));
+    printf("%" PRIu64 " words used\n", ipcz_claimed(&world));
     ipcz_destroy(&world);
     for (ipcz_status status = 0; status <= 14; status++) printf("%" PRIu32 " %s\n", status, ipcz_status_name(status));
     printf("%s\n", well ? "all as expected" : "failed");

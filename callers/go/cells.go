@@ -21,8 +21,8 @@ func NewCells(nodes int, words uint32) ([]*Cell, error) {
 
 // NewLastingCells makes the cells of a new table whose link words come back, by node: what a program that stays up takes. There is room for so
 // many links at once, at least 1 and one for each two nodes, and at most 1,048,576; else TooMany. A link's slot is used again once both nodes
-// have let it go, as they take turns; if none is to be had, an open is refused NoWord and may be tried again. There can be 4,294,967,295 links
-// in the table's life.
+// have let it go, as they take turns; if none is to be had, an open is refused NoWord and may be tried again. Numbers of links have 64
+// bits.
 func NewLastingCells(nodes int, slots uint32) ([]*Cell, error) {
 	return makeCells(nodes, func(handles *C.ipcz_cell, count C.size_t) C.ipcz_status {
 		return C.ipcz_cells_create_lasting(C.uint32_t(slots), handles, count)
@@ -116,14 +116,14 @@ func (c *Cell) Retry() uint32 {
 }
 
 // Claimed tells how many link words of the table were used, when their count was read.
-func (c *Cell) Claimed() uint32 {
-	return uint32(C.ipcz_cell_claimed(c.c()))
+func (c *Cell) Claimed() uint64 {
+	return uint64(C.ipcz_cell_claimed(c.c()))
 }
 
 // Word tells the number of a link word of the table, and whether it was used.
-func (c *Cell) Word(i uint32) (word uint64, used bool) {
+func (c *Cell) Word(i uint64) (word uint64, used bool) {
 	var number C.uint64_t
-	used = bool(C.ipcz_cell_word(c.c(), C.uint32_t(i), &number))
+	used = bool(C.ipcz_cell_word(c.c(), C.uint64_t(i), &number))
 	return uint64(number), used
 }
 

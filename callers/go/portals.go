@@ -73,16 +73,16 @@ func answer(status C.ipcz_status) error {
 
 // A Portal is an end of a pair, of side A or B. It is a name, and may be copied and compared; which node may use it is kept by the nodes.
 type Portal struct {
-	Pair  uint32
+	Pair  uint64
 	SideB bool
 }
 
 func (p Portal) c() C.ipcz_portal {
-	return C.ipcz_portal{pair: C.uint32_t(p.Pair), side_b: C.bool(p.SideB)}
+	return C.ipcz_portal{pair: C.uint64_t(p.Pair), side_b: C.bool(p.SideB)}
 }
 
 func fromC(p C.ipcz_portal) Portal {
-	return Portal{Pair: uint32(p.pair), SideB: bool(p.side_b)}
+	return Portal{Pair: uint64(p.pair), SideB: bool(p.side_b)}
 }
 
 // First is the portal that a node has from the start of the pair that it shares with another; both are below nodes, and not the same.

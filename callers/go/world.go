@@ -74,14 +74,14 @@ func (w *World) Settle(limit uint64) (acts uint64, quiet bool, err error) {
 }
 
 // Claimed tells how many link words were used.
-func (w *World) Claimed() uint32 {
-	return uint32(C.ipcz_claimed(w.c()))
+func (w *World) Claimed() uint64 {
+	return uint64(C.ipcz_claimed(w.c()))
 }
 
 // Word tells the number of a link word, and whether it was used.
-func (w *World) Word(i uint32) (word uint64, used bool) {
+func (w *World) Word(i uint64) (word uint64, used bool) {
 	var number C.uint64_t
-	used = bool(C.ipcz_word(w.c(), C.uint32_t(i), &number))
+	used = bool(C.ipcz_word(w.c(), C.uint64_t(i), &number))
 	return uint64(number), used
 }
 

@@ -76,7 +76,7 @@ class Stopped(Refused):
 
 
 class _Name(ctypes.Structure):
-    _fields_ = [("pair", ctypes.c_uint32), ("side_b", ctypes.c_bool)]
+    _fields_ = [("pair", ctypes.c_uint64), ("side_b", ctypes.c_bool)]
 
 
 class _Parcel(ctypes.Structure):

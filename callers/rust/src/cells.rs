@@ -17,7 +17,7 @@ pub fn cells(nodes: usize, words: u32) -> Result<Vec<Cell>, Refused> {
 
 /// The cells of a new table whose link words come back, by node: what a program that stays up takes. There is room for `slots` links at once, at
 /// least 1 and one for each two nodes, and at most 1,048,576, else `TooMany`. A link's slot is used again once both nodes have let it go, as they
-/// take turns; if none is to be had, an open is refused `NoWord` and may be tried again. There can be 4,294,967,295 links in the table's life.
+/// take turns; if none is to be had, an open is refused `NoWord` and may be tried again. Numbers of links have 64 bits.
 pub fn lasting_cells(nodes: usize, slots: u32) -> Result<Vec<Cell>, Refused> {
     cells_by(raw::ipcz_cells_create_lasting, nodes, slots)
 }
@@ -142,12 +142,12 @@ impl Cell {
     }
 
     /// How many link words of the table were used, when their count was read.
-    pub fn claimed(&mut self) -> u32 {
+    pub fn claimed(&mut self) -> u64 {
         unsafe { raw::ipcz_cell_claimed(&mut self.0) }
     }
 
     /// The number of link word `i`, if it was used; as of [`crate::World::word`].
-    pub fn word(&mut self, i: u32) -> Option<u64> {
+    pub fn word(&mut self, i: u64) -> Option<u64> {
         let mut word = 0;
         unsafe { raw::ipcz_cell_word(&mut self.0, i, &mut word) }.then_some(word)
     }

@@ -117,9 +117,9 @@ fn answer(status: u32) -> Result<(), Refused> {
 
 /// The portal that a node has from the start of the pair that it shares with another; both are below `nodes`, and not the same.
 pub fn first_portal(node: u8, other: u8, nodes: u8) -> Portal {
-    let (low, high) = (u32::from(node.min(other)), u32::from(node.max(other)));
+    let (low, high) = (u64::from(node.min(other)), u64::from(node.max(other)));
     Portal {
-        pair: low * (2 * u32::from(nodes) - low - 1) / 2 + (high - low - 1),
+        pair: low * (2 * u64::from(nodes) - low - 1) / 2 + (high - low - 1),
         side_b: node > other,
     }
 }
@@ -255,12 +255,12 @@ impl World {
     }
 
     /// How many link words were used.
-    pub fn claimed(&mut self) -> u32 {
+    pub fn claimed(&mut self) -> u64 {
         unsafe { raw::ipcz_claimed(&mut self.0) }
     }
 
     /// The number of link word `i`, if it was used; docs/PROTOCOL.md, "Link words", reads it.
-    pub fn word(&mut self, i: u32) -> Option<u64> {
+    pub fn word(&mut self, i: u64) -> Option<u64> {
         let mut word = 0;
         unsafe { raw::ipcz_word(&mut self.0, i, &mut word) }.then_some(word)
     }

@@ -6,7 +6,7 @@
 #[derive(Clone, Copy, Debug, PartialEq, Eq, Hash)]
 pub struct Portal {
     /// The pair's number, which is below the number of link words, and that no other pair of the world ever has.
-    pub pair: u32,
+    pub pair: u64,
     /// Whether it is the pair's portal of side B.
     pub side_b: bool,
 }
@@ -99,8 +99,8 @@ unsafe extern "C" {
     pub fn ipcz_close(world: *mut Handle, node: u8, at: Portal) -> u32;
     pub fn ipcz_turn(world: *mut Handle, node: u8) -> u32;
     pub fn ipcz_settle(world: *mut Handle, limit: u64, acts: *mut u64, quiet: *mut bool) -> u32;
-    pub fn ipcz_claimed(world: *mut Handle) -> u32;
-    pub fn ipcz_word(world: *mut Handle, i: u32, word: *mut u64) -> bool;
+    pub fn ipcz_claimed(world: *mut Handle) -> u64;
+    pub fn ipcz_word(world: *mut Handle, i: u64, word: *mut u64) -> bool;
     pub fn ipcz_holder(world: *mut Handle, portal: Portal, node: *mut u8) -> bool;
 
     pub fn ipcz_cells_create(words: u32, cells: *mut CellHandle, nodes: usize) -> u32;
@@ -140,8 +140,8 @@ unsafe extern "C" {
     pub fn ipcz_cell_acts(cell: *mut CellHandle, limit: u64, acts: *mut u64) -> u32;
     pub fn ipcz_cell_quiet(cell: *mut CellHandle) -> bool;
     pub fn ipcz_cell_retry(cell: *mut CellHandle) -> u32;
-    pub fn ipcz_cell_claimed(cell: *mut CellHandle) -> u32;
-    pub fn ipcz_cell_word(cell: *mut CellHandle, i: u32, word: *mut u64) -> bool;
+    pub fn ipcz_cell_claimed(cell: *mut CellHandle) -> u64;
+    pub fn ipcz_cell_word(cell: *mut CellHandle, i: u64, word: *mut u64) -> bool;
     pub fn ipcz_cell_holds(cell: *mut CellHandle, portal: Portal) -> bool;
     pub fn ipcz_cell_node(cell: *mut CellHandle, node: *mut u8) -> bool;
 }

@@ -42,7 +42,7 @@ impl Draw {
             _ => Side::B,
         };
         let place = self.below(PAIRS);
-        let pair = if place < PAIRS { place as u32 } else { 0 };
+        let pair = if place < PAIRS { place as u64 } else { 0 };
         Portal {
             node,
             end: End { pair, side },
@@ -136,7 +136,7 @@ impl Drawn {
                 _ => 3,
             };
             let side = if place / 4 % 2 == 0 { Side::A } else { Side::B };
-            let pair = (place / 8) as u32;
+            let pair = (place / 8) as u64;
             self.get(Portal {
                 node,
                 end: End { pair, side },

@@ -64,7 +64,7 @@ abbrev pub most_slots : ℕ
 most_slots = 1048576
 
 abbrev pub all_links : ℕ
-all_links = 4294967295
+all_links = 18446744073709551615
 
 -- whether such a table may have so many nodes and slots
 abbrev pub has_slots : ℕ → ℕ → Bool

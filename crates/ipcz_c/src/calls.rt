@@ -237,7 +237,7 @@ pub extern "C" fn ipcz_settle(
 
 /// How many link words were claimed.
 #[unsafe(no_mangle)]
-pub extern "C" fn ipcz_claimed(alloc: Global, of: &mut Handle) -> u32
+pub extern "C" fn ipcz_claimed(alloc: Global, of: &mut Handle) -> u64
     ensures claimed { result ≡ unwrap_or (option_map (λ w. w.claimed) of.old.held.world) 0 }
     ensures same { of.new.held.world ≡ of.old.held.world }
 {
@@ -252,7 +252,7 @@ pub extern "C" fn ipcz_claimed(alloc: Global, of: &mut Handle) -> u32
 
 /// Whether a link word was claimed; then its number is written.
 #[unsafe(no_mangle)]
-pub extern "C" fn ipcz_word(alloc: Global, of: &mut Handle, i: u32, word: &mut u64) -> bool
+pub extern "C" fn ipcz_word(alloc: Global, of: &mut Handle, i: u64, word: &mut u64) -> bool
     ensures word { written result word.new ≡ read_off of.old.held.world (λ w. shown_word w i) }
     ensures none { result ≡ false → word.new ≡ word.old }
     ensures same { of.new.held.world ≡ of.old.held.world }

@@ -193,7 +193,7 @@ impl CellHandle {
         answer
     }
 
-    pub(crate) fn claimed<F: FabricName>(&mut self, alloc: Global) -> u32
+    pub(crate) fn claimed<F: FabricName>(&mut self, alloc: Global) -> u64
         requires held { IsSome self.old.held.cell }
         requires named { table_of self.old.held.cell ≡ F.table }
         requires only { IsOnly F }
@@ -205,7 +205,7 @@ impl CellHandle {
         answer
     }
 
-    pub(crate) fn word<F: FabricName>(&mut self, alloc: Global, i: u32) -> Option<u64>
+    pub(crate) fn word<F: FabricName>(&mut self, alloc: Global, i: u64) -> Option<u64>
         requires held { IsSome self.old.held.cell }
         requires named { table_of self.old.held.cell ≡ F.table }
         requires only { IsOnly F }

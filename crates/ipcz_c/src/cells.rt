@@ -83,7 +83,7 @@ pub extern "C" fn ipcz_cells_create_lasting(
     if !have_slots(nodes, slots) {
         return refused(Refusal::TooMany);
     }
-    match start_lasting(alloc, nodes, slots, u32::MAX) {
+    match start_lasting(alloc, nodes, slots, u64::MAX) {
         Ok(blank) => outcome(seat::<Brand>(alloc, blank, cells)),
         Err(why) => refused(why),
     }
@@ -287,7 +287,7 @@ pub extern "C" fn ipcz_cell_retry(alloc: Global, of: &mut CellHandle) -> u32
 /// How many link words of the table were claimed, when their count was loaded.
 #[unsafe(no_mangle)]
 #[tactic(auto, using(crate::proofs::SameOwner::brand_only))]
-pub extern "C" fn ipcz_cell_claimed(alloc: Global, of: &mut CellHandle) -> u32
+pub extern "C" fn ipcz_cell_claimed(alloc: Global, of: &mut CellHandle) -> u64
     ensures did { IsSome of.old.held.cell → Moves (λ t c d. CountsClaimed t.size c result d) of.old.held.cell of.new.held.cell }
     ensures none { IsNone of.old.held.cell → (result ≡ 0) × (of.new.held.cell ≡ of.old.held.cell) }
 {
@@ -300,7 +300,7 @@ pub extern "C" fn ipcz_cell_claimed(alloc: Global, of: &mut CellHandle) -> u32
 /// Whether a link word was claimed, when their count was loaded; then its number, as it was loaded, is written.
 #[unsafe(no_mangle)]
 #[tactic(auto, using(crate::proofs::SameOwner::brand_only))]
-pub extern "C" fn ipcz_cell_word(alloc: Global, of: &mut CellHandle, i: u32, word: &mut u64) -> bool
+pub extern "C" fn ipcz_cell_word(alloc: Global, of: &mut CellHandle, i: u64, word: &mut u64) -> bool
     ensures did { IsSome of.old.held.cell → CellReads i of.old.held.cell result word.old word.new of.new.held.cell }
     ensures none { IsNone of.old.held.cell → (result ≡ false) × (word.new ≡ word.old) × (of.new.held.cell ≡ of.old.held.cell) }
 {

@@ -99,13 +99,13 @@ impl<F: FabricName> Member<F> {
         self.cell.retry(&self.fabric)
     }
 
-    pub(crate) fn claimed(&mut self) -> u32
+    pub(crate) fn claimed(&mut self) -> u64
         ensures { CountsClaimed F.table.size self.old result self.new }
     {
         self.cell.claimed(&self.fabric)
     }
 
-    pub(crate) fn word(&mut self, i: u32) -> Option<u64>
+    pub(crate) fn word(&mut self, i: u64) -> Option<u64>
         ensures { ShowsWord F.table i self.old result self.new }
     {
         self.cell.word(&self.fabric, i)

@@ -9,7 +9,7 @@ use std::alloc::{AllocError, Global};
 #[repr(C)]
 #[derive(Clone, Copy)]
 pub struct Portal {
-    pub pair: u32,
+    pub pair: u64,
     pub side_b: bool,
 }
 

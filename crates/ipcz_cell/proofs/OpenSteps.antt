@@ -83,13 +83,6 @@ for_open t c s0 s1 s2 (Err e) few reached load at = ⊎_elim
     (λ none. Slotless c (ap Err none.0) none.1.reuses few (none.1.part ∙ load.part) (none.1.seen ∙ load.seen) (subst (λ (l : List ℕ). FindsNone t c l s2.looked) load.looked none.1.none))
     at
 
--- a claimed number is below the number of words
-pub claim_small : (t : TableName) (serial : ℕ) (old new : CellState) (answer : Result ℕ Refusal) → t.size < 4294967296 → Answered t serial old new answer → IfOk answer (λ n. n < 4294967296)
-claim_small t serial old new answer few (Won c n e number reached part seen) = subst (λ (r : Result ℕ Refusal). IfOk r (λ n. n < 4294967296)) (sym e) (let less = number.below in omega (arith, few, less))
-claim_small t serial old new answer few (Dry e part seen) = subst (λ (r : Result ℕ Refusal). IfOk r (λ n. n < 4294967296)) (sym e) tt
-claim_small t serial old new answer few (Unslotted c e again less part seen none) = subst (λ (r : Result ℕ Refusal). IfOk r (λ n. n < 4294967296)) (sym e) tt
-claim_small t serial old new answer few (Missed n found e other part seen) = subst (λ (r : Result ℕ Refusal). IfOk r (λ n. n < 4294967296)) (sym e) tt
-
 -- a load of one mailbox, and then of the others
 pub one_more : (t : TableName) (from n : ℕ) (s0 s1 s2 : CellState) (rest : Bool) → HasSeen (mail_word t from s0.part.node) n s0 s1 → FindsFree t (from + 1) s1 rest s2 →
     FindsFree t from s0 ((n == 0 || n == 3) && rest) s2

@@ -43,7 +43,7 @@ fn claim_here<F: FabricName, X: Outcome>(
     fabric: &Fabric<F>,
     serial: u64,
     count: u64,
-    number: u32,
+    number: u64,
 ) -> u64
     requires picked { IsPicked X.tells (claimed F.table.size serial count number) }
     requires own { seat.old.table_id ≡ F.table.id }

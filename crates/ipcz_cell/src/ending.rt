@@ -162,7 +162,7 @@ fn join<F: FabricName>(seat: &mut TableSeat, fabric: &Fabric<F>, other: TableSea
 }
 
 // The link words, and their claim count.
-fn read_words(closed: &Closed<Option<Message>, Global>, words: u32, mut bits: Vec<u64>) -> Vec<u64>
+fn read_words(closed: &Closed<Option<Message>, Global>, words: u64, mut bits: Vec<u64>) -> Vec<u64>
     requires full { IsFull closed.now.words }
     requires inside { words < slots_len closed.now.words }
     requires room { words ≤ vec_capacity bits }
@@ -232,7 +232,7 @@ struct Room {
 }
 
 // Takes room for so many nodes and words.
-fn make_room(alloc: Global, nodes: u8, words: u32) -> Result<Room, AllocError>
+fn make_room(alloc: Global, nodes: u8, words: u64) -> Result<Room, AllocError>
     ensures states { IfOk result (λ r. (vec_len r.states ≡ 0) × (nodes ≤ vec_capacity r.states)) }
     ensures hands { IfOk result (λ r. (vec_len r.hands ≡ 0) × (nodes ≤ vec_capacity r.hands)) }
     ensures boxes { IfOk result (λ r. (vec_len r.boxes ≡ 0) × (nodes * nodes ≤ vec_capacity r.boxes)) }
@@ -334,7 +334,7 @@ fn close(
     boxes: Vec<Mail>,
     bits: Vec<u64>,
     nodes: u8,
-    words: u32,
+    words: u64,
 ) -> World
     requires own { seat.table_id ≡ table.shared.table_id }
     requires size { (table.shared.key.nodes ≡ nodes) × (table.shared.key.words ≡ words) × (table.shared.key.slots ≡ words) ×
@@ -350,7 +350,7 @@ fn close(
     let seat = seat;
     let closed = table.close_with(seat);
     let bits = read_words(&closed, words, bits);
-    let claimed = closed.word(words as usize) as u32;
+    let claimed = closed.word(words as usize);
     let first = words as usize + 1 + nodes as usize;
     let boxes = read_boxes(closed, first, nodes, hands, boxes);
     World::of_parts(states, boxes, bits, claimed)

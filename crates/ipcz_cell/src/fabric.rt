@@ -27,7 +27,7 @@ impl FabricName for Brand {
 pub struct Fabric<F: FabricName> {
     pub(crate) table: Table<Option<Message>, Own<View>, Size, FabricLaw, Global>,
     pub(crate) nodes: u8,
-    pub(crate) words: u32,
+    pub(crate) words: u64,
     pub(crate) slots: u32,
     pub(crate) reuses: bool,
     pub(crate) bells: Bells,

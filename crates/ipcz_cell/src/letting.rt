@@ -30,8 +30,8 @@ use std::marker::{Brand, PhantomData};
 #[derive(Clone, Copy, Debug, PartialEq, Eq)]
 pub(crate) enum GivenUp {
     Nothing,
-    End(u32, Side),
-    EndAndSpare(u32, Side, u32),
+    End(u64, Side),
+    EndAndSpare(u64, Side, u64),
 }
 
 // Whether an act may give something up.
@@ -117,7 +117,7 @@ fn side_bit(side: Side) -> u64
 fn let_go_step<F: FabricName, X: Outcome>(
     seat: &mut TableSeat,
     fabric: &Fabric<F>,
-    number: u32,
+    number: u64,
     side: Side,
 )
     requires own { seat.old.table_id ≡ F.table.id }
@@ -139,7 +139,7 @@ fn let_go_step<F: FabricName, X: Outcome>(
 fn leave_step<F: FabricName, X: Outcome, S: SlotName>(
     seat: &mut TableSeat,
     fabric: &Fabric<F>,
-    number: u32,
+    number: u64,
     side: Side,
     slot: u32,
 )

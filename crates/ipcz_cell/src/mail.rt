@@ -150,7 +150,7 @@ fn look_here<F: FabricName, X: Outcome>(
 }
 
 // The word of the old link that the message in hand names, if it is an AcceptBypass.
-fn old_word(message: &Option<Message>) -> Option<u32>
+fn old_word(message: &Option<Message>) -> Option<u64>
     ensures { result ≡ old_named message.now }
 {
     match message {
@@ -171,7 +171,7 @@ fn source_here<F: FabricName, X: Outcome>(
     seat: &mut TableSeat,
     fabric: &Fabric<F>,
     from: u8,
-    old: u32,
+    old: u64,
 ) -> u64
     requires picked { IsPicked X.tells (sourced old from) }
     requires own { seat.old.table_id ≡ F.table.id }

@@ -33,7 +33,7 @@ pub struct Blank {
     table: Table<Option<Message>, Own<View>, Size, FabricLaw, Global>,
     seat: TableSeat,
     nodes: u8,
-    words: u32,
+    words: u64,
     slots: u32,
     reuses: bool,
     alloc: Global,
@@ -70,7 +70,7 @@ pub fn start(alloc: Global, nodes: u8, words: u32) -> Result<Blank, Refusal>
     let boxes = usize::from(nodes) * usize::from(nodes);
     let size = Size {
         nodes,
-        words,
+        words: u64::from(words),
         slots: words,
         reuses: false,
     };
@@ -81,7 +81,7 @@ pub fn start(alloc: Global, nodes: u8, words: u32) -> Result<Blank, Refusal>
         table,
         seat,
         nodes,
-        words,
+        words: u64::from(words),
         slots: words,
         reuses: false,
         alloc,
@@ -96,8 +96,8 @@ pub fn start(alloc: Global, nodes: u8, words: u32) -> Result<Blank, Refusal>
 /// `nodes` is 1 to 8; `slots` is from the number of first pairs, `nodes * (nodes - 1) / 2`, and from 1, to `numbers`. Its only refusal is
 /// `OutOfMemory`.
 ///
-/// `start_lasting(alloc, 2, 64, u32::MAX)` makes one with 64 slots.
-pub fn start_lasting(alloc: Global, nodes: u8, slots: u32, numbers: u32) -> Result<Blank, Refusal>
+/// `start_lasting(alloc, 2, 64, u64::MAX)` makes one with 64 slots.
+pub fn start_lasting(alloc: Global, nodes: u8, slots: u32, numbers: u64) -> Result<Blank, Refusal>
     requires limits { IsWithinLimits nodes numbers }
     requires pairs { length (first_pairs nodes) ≤ slots }
     requires slots { (1 ≤ slots) × (slots ≤ numbers) }

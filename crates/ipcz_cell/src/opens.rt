@@ -15,32 +15,19 @@ use crate::slots::{leave_slot, number_at};
 use ipcz_base::{End, Refusal};
 use std::marker::Brand;
 
-// The same answer, with its number as that of a word.
-fn narrow(claimed: Result<u64, Refusal>) -> Result<u32, Refusal>
-    requires { IfOk claimed (λ n. n < 2 ^ 32) }
-    ensures { result ≡ claimed }
-{
-    let n = claimed?;
-    let Ok(word) = u32::try_from(n) else {
-        unreachable!()
-    };
-    Ok(word)
-}
-
 impl<F: FabricName> NodeCell<F> {
     // Loads the claim count.
     pub(crate) fn load_count(&mut self, fabric: &Fabric<F>) -> u64
         ensures seen { HasSeen F.table.size result self.old self.new }
         ensures most { result ≤ F.table.size }
         ensures reached { AreReached F.table.size self.old.seen result }
-        ensures small { F.table.size < 2 ^ 32 }
     {
         let _words = fabric.words;
         load_step::<F, Brand>(&mut self.seat, fabric, 0)
     }
 
     // Loads a link's word, where each number has its slot.
-    fn load_word(&mut self, fabric: &Fabric<F>, i: u32) -> u64
+    fn load_word(&mut self, fabric: &Fabric<F>, i: u64) -> u64
         requires below { i < F.table.size }
         requires order { F.table.reuses ≡ false }
         ensures seen { HasSeen i result self.old self.new }
@@ -56,16 +43,12 @@ impl<F: FabricName> NodeCell<F> {
     /// It is never refused.
     ///
     /// In the table of `start(alloc, 3, 8)` it is 3 until a pair is opened or a proxy claims a word.
-    pub fn claimed(&mut self, fabric: &Fabric<F>) -> u32
+    pub fn claimed(&mut self, fabric: &Fabric<F>) -> u64
         ensures seen { HasSeen F.table.size result self.old self.new }
         ensures most { result ≤ F.table.size }
         ensures reached { AreReached F.table.size self.old.seen result }
     {
-        let count = self.load_count(fabric);
-        let Ok(words) = u32::try_from(count) else {
-            unreachable!()
-        };
-        words
+        self.load_count(fabric)
     }
 
     /// A link word as it was loaded, or none for one that wasn't claimed yet by the claim count that was loaded before it: so there is one
@@ -75,21 +58,21 @@ impl<F: FabricName> NodeCell<F> {
     /// It is never refused.
     ///
     /// In the table of `start(alloc, 2, 8)`, at its start, `cell.word(&fabric, 0)` is `Some(3)`, stable at both sides, and `cell.word(&fabric, 1)` is none.
-    pub fn word(&mut self, fabric: &Fabric<F>, i: u32) -> Option<u64>
+    pub fn word(&mut self, fabric: &Fabric<F>, i: u64) -> Option<u64>
         ensures { ShowsWord F.table i self.old result self.new }
     {
         if fabric.reuses {
             return None;
         }
         let count = self.load_count(fabric);
-        if count <= u64::from(i) {
+        if count <= i {
             return None;
         }
         Some(self.load_word(fabric, i))
     }
 
     // Exchanges the claim count for the number behind that which is claimed for an open.
-    fn claim_at(&mut self, fabric: &Fabric<F>, count: u64) -> Result<u32, Refusal>
+    fn claim_at(&mut self, fabric: &Fabric<F>, count: u64) -> Result<u64, Refusal>
         requires free { self.old.part.state.opening ≡ None }
         requires few { count < F.table.size }
         ensures claims { ClaimsAt F.table count self.old result self.new }
@@ -109,12 +92,12 @@ impl<F: FabricName> NodeCell<F> {
     }
 
     // Claims a word for an open.
-    fn claim_for_open(&mut self, fabric: &Fabric<F>) -> Result<u32, Refusal>
+    fn claim_for_open(&mut self, fabric: &Fabric<F>) -> Result<u64, Refusal>
         requires { self.old.part.state.opening ≡ None }
         ensures { ClaimsForOpen F.table self.old self.new result }
     {
         let count = self.load_count(fabric);
-        if count == u64::from(fabric.words) {
+        if count == fabric.words {
             return Err(Refusal::NoWord);
         }
         self.claim_at(fabric, count)
@@ -128,14 +111,14 @@ impl<F: FabricName> NodeCell<F> {
     /// only if the exchange found another count than the load; then nothing but what was seen has changed. It takes no memory.
     ///
     /// In the table of `start(alloc, 2, 8)` the first `cell.word_claim(&fabric, None)` is `Ok(1)`.
-    pub fn word_claim(&mut self, fabric: &Fabric<F>, serial: Option<u64>) -> Result<u32, Refusal>
+    pub fn word_claim(&mut self, fabric: &Fabric<F>, serial: Option<u64>) -> Result<u64, Refusal>
         requires { MayClaim self.old.part.state serial }
         ensures { ClaimsWord F.table serial self.old self.new result }
     {
         match serial {
             Some(serial) => {
                 let _words = fabric.words;
-                narrow(self.word_claim_for(fabric, serial))
+                self.word_claim_for(fabric, serial)
             }
             None => self.claim_for_open(fabric),
         }
@@ -198,7 +181,7 @@ impl<F: FabricName> NodeCell<F> {
             return Ok(self.word_open(fabric));
         }
         let count = self.load_count(fabric);
-        if count == u64::from(fabric.words) {
+        if count == fabric.words {
             return Err(Refusal::NoWord);
         }
         self.open_prepare()?;

@@ -43,19 +43,19 @@ impl<F: FabricName, X: Outcome> Play<Option<Message>, Own<View>> for By<F, X> {
 }
 
 /// The slot of a number's link word.
-pub(crate) fn link_word<F: FabricName>(fabric: &Fabric<F>, number: u32) -> usize
+pub(crate) fn link_word<F: FabricName>(fabric: &Fabric<F>, number: u64) -> usize
     requires { number < F.table.size }
     ensures slot { result ≡ number % F.table.slots }
     ensures inside { result < F.table.slots }
 {
-    slot_of(u64::from(number), u64::from(fabric.slots)) as usize
+    slot_of(number, u64::from(fabric.slots)) as usize
 }
 
 /// Loads the word of a number.
 pub(crate) fn load_link<F: FabricName, X: Outcome>(
     seat: &mut TableSeat,
     fabric: &Fabric<F>,
-    number: u32,
+    number: u64,
 ) -> u64
     requires own { seat.old.table_id ≡ F.table.id }
     requires inside { number < F.table.size }
@@ -74,7 +74,7 @@ pub(crate) fn load_link<F: FabricName, X: Outcome>(
 pub(crate) fn exchange_link<F: FabricName, X: Outcome>(
     seat: &mut TableSeat,
     fabric: &Fabric<F>,
-    number: u32,
+    number: u64,
     old: u64,
     new: u64,
 ) -> u64
@@ -99,7 +99,7 @@ pub(crate) fn exchange_link<F: FabricName, X: Outcome>(
 pub(crate) fn set_link<F: FabricName, X: Outcome>(
     seat: &mut TableSeat,
     fabric: &Fabric<F>,
-    number: u32,
+    number: u64,
     bits: u64,
 ) -> u64
     requires own { seat.old.table_id ≡ F.table.id }
@@ -119,7 +119,7 @@ pub(crate) fn set_link<F: FabricName, X: Outcome>(
 pub(crate) fn keep_link<F: FabricName, X: Outcome>(
     seat: &mut TableSeat,
     fabric: &Fabric<F>,
-    number: u32,
+    number: u64,
     bits: u64,
 ) -> u64
     requires own { seat.old.table_id ≡ F.table.id }
@@ -242,7 +242,7 @@ pub(crate) fn claim_step<F: FabricName, X: Outcome>(
     seat: &mut TableSeat,
     fabric: &Fabric<F>,
     count: u64,
-    number: u32,
+    number: u64,
 ) -> u64
     requires own { seat.old.table_id ≡ F.table.id }
     requires may { MayClaim F.table seat.old.id seat.old.me count number X.tells }

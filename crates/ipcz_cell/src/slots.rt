@@ -58,12 +58,12 @@ pub(crate) fn let_go_word<F: FabricName>(fabric: &Fabric<F>, slot: u32) -> usize
 }
 
 /// The slot of a number.
-pub(crate) fn number_slot<F: FabricName>(fabric: &Fabric<F>, number: u32) -> u32
+pub(crate) fn number_slot<F: FabricName>(fabric: &Fabric<F>, number: u64) -> u32
     requires { F.table.reuses ≡ true }
     ensures slot { result ≡ number % F.table.slots }
     ensures inside { result < F.table.slots }
 {
-    slot_of(u64::from(number), u64::from(fabric.slots)) as u32
+    slot_of(number, u64::from(fabric.slots)) as u32
 }
 
 // Takes a slot that both sides have let go, and tells whether it was one; if not the seat has looked at it.
@@ -152,7 +152,7 @@ pub(crate) fn number_at<F: FabricName>(
     seat: &mut TableSeat,
     fabric: &Fabric<F>,
     count: u64,
-) -> Option<u32>
+) -> Option<u64>
     requires own { seat.old.table_id ≡ F.table.id }
     requires few { count < F.table.size }
     requires none { HasNoSlots seat.old.me.0 }
@@ -164,25 +164,19 @@ pub(crate) fn number_at<F: FabricName>(
     ensures order { F.table.reuses ≡ false → is_some result ≡ true }
 {
     if !fabric.reuses {
-        let Ok(number) = u32::try_from(count) else {
-            unreachable!()
-        };
-        return Some(number);
+        return Some(count);
     }
     let slots = u64::from(fabric.slots);
     let slot = find_slot(seat, fabric, slot_of(count, slots) as u32)?;
-    let Some(number) = next_number(count, u64::from(slot), slots, u64::from(fabric.words)) else {
+    let number = next_number(count, u64::from(slot), slots, fabric.words);
+    if number.is_none() {
         return_step(seat, fabric, slot);
-        return None;
-    };
-    let Ok(number) = u32::try_from(number) else {
-        unreachable!()
-    };
-    Some(number)
+    }
+    number
 }
 
 /// Gives the slot of a number back that was to be claimed.
-pub(crate) fn leave_slot<F: FabricName>(seat: &mut TableSeat, fabric: &Fabric<F>, number: u32)
+pub(crate) fn leave_slot<F: FabricName>(seat: &mut TableSeat, fabric: &Fabric<F>, number: u64)
     requires own { seat.old.table_id ≡ F.table.id }
     requires below { number < F.table.size }
     requires slot { HasSlotFor F.table number seat.old.me.0 }

@@ -218,12 +218,7 @@ impl<F: FabricName> NodeCell<F> {
     {
         let _words = fabric.words;
         match self.word_claim_for(fabric, serial) {
-            Ok(count) => {
-                let Ok(word) = u32::try_from(count) else {
-                    unreachable!()
-                };
-                Ok(Happened::Claim(serial, word))
-            }
+            Ok(word) => Ok(Happened::Claim(serial, word)),
             Err(Refusal::NoWord) => Ok(Happened::ClaimNoWord(serial)),
             Err(why) => Err(why),
         }

@@ -31,7 +31,7 @@ use std::marker::Brand;
 fn status_here<F: FabricName, X: Outcome>(
     seat: &mut TableSeat,
     fabric: &Fabric<F>,
-    i: u32,
+    i: u64,
     serial: u64,
     side: Side,
     source: Option<u8>,
@@ -55,7 +55,7 @@ fn status_here<F: FabricName, X: Outcome>(
 fn lock_here<F: FabricName, X: Outcome>(
     seat: &mut TableSeat,
     fabric: &Fabric<F>,
-    i: u32,
+    i: u64,
     serial: u64,
     side: Side,
     source: Option<u8>,
@@ -82,7 +82,7 @@ fn lock_here<F: FabricName, X: Outcome>(
 fn mark_here<F: FabricName, X: Outcome>(
     seat: &mut TableSeat,
     fabric: &Fabric<F>,
-    i: u32,
+    i: u64,
     serial: u64,
     side: Side,
 ) -> u64
@@ -105,7 +105,7 @@ fn mark_here<F: FabricName, X: Outcome>(
 fn unlock_here<F: FabricName, X: Outcome>(
     seat: &mut TableSeat,
     fabric: &Fabric<F>,
-    i: u32,
+    i: u64,
     serial: u64,
     side: Side,
 ) -> u64
@@ -128,7 +128,7 @@ fn unlock_here<F: FabricName, X: Outcome>(
 fn wake_here<F: FabricName, X: Outcome>(
     seat: &mut TableSeat,
     fabric: &Fabric<F>,
-    i: u32,
+    i: u64,
     serial: u64,
     side: Side,
 ) -> u64
@@ -158,7 +158,7 @@ fn wake_mask(side: Side) -> u64
 }
 
 // The word and the side of a router's outward primary link, for an act on it that is ready.
-fn word_named(state: &NodeState, serial: u64, act: RouterAct) -> (u32, Side)
+fn word_named(state: &NodeState, serial: u64, act: RouterAct) -> (u64, Side)
     requires possible { IsPossibleAct state.now.node (Act.Router serial act) }
     requires on_word { is_on_word act ≡ true }
     requires serials { act_lacks_serials state.now.node (Act.Router serial act) ≡ false }
@@ -192,7 +192,7 @@ fn unlock_mask(side: Side) -> u64
 }
 
 // The word and the side of a router's outward primary link, for an act on it, which is made ready.
-fn word_here(state: &mut NodeState, serial: u64, act: RouterAct) -> (u32, Side)
+fn word_here(state: &mut NodeState, serial: u64, act: RouterAct) -> (u64, Side)
     requires possible { IsPossibleAct state.old.node (Act.Router serial act) }
     requires on_word { is_on_word act ≡ true }
     requires grows { act_grows state.old.node (Act.Router serial act) ≡ false }
@@ -234,7 +234,7 @@ pub(crate) fn commit_word(state: &mut NodeState, serial: u64, act: RouterAct, an
 #[derive(Clone, Copy)]
 pub(crate) struct LockTry {
     pub(crate) plan: LockPlan,
-    pub(crate) word: u32,
+    pub(crate) word: u64,
     pub(crate) found: u64,
 }
 

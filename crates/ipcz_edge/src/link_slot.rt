@@ -15,7 +15,7 @@ enum Kept {
     Central {
         side: Side,
         other: u8,
-        word: u32,
+        word: u64,
     },
     Peripheral {
         side: Side,

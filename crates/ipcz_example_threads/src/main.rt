@@ -10,10 +10,10 @@ use std::marker::Brand;
 use std::str;
 
 fn main(rt: HostRuntime) -> anyhow::Result<()> {
-    let blank = start_lasting(rt.alloc(), 2, 8, u32::MAX)?;
+    let blank = start_lasting(rt.alloc(), 2, 8, u64::MAX)?;
     let answer = cells::talk_by_cells::<Brand, _>(&rt, rt.alloc(), blank)?;
     println!(rt; "cells: {}", str::from_utf8(answer.as_slice())?)?;
-    let blank = start_lasting(rt.alloc(), 2, 8, u32::MAX)?;
+    let blank = start_lasting(rt.alloc(), 2, 8, u64::MAX)?;
     let answer = hub::talk_by_hub::<Brand, _>(&rt, rt.alloc(), blank)?;
     println!(rt; "hub: {}", str::from_utf8(answer.as_slice())?)?;
     Ok(())

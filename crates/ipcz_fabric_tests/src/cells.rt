@@ -42,7 +42,7 @@ enum Call {
     /// Opens a pair, which has these ends.
     Open(End, End),
     /// Opens pairs, which have the numbers from the first to the second.
-    OpenAll(u32, u32),
+    OpenAll(u64, u64),
     /// Opens a pair, which is refused.
     OpenRefused(Refusal),
     /// Puts these bytes and ends at an end, under this number.
@@ -56,16 +56,16 @@ enum Call {
     /// Closes an end, whose mark has this number.
     Close(End, u64),
     /// Loads how many link words were claimed.
-    Claimed(u32),
+    Claimed(u64),
     /// Loads a link word.
-    Word(u32, u64),
+    Word(u64, u64),
 }
 
 // Whether an open gives a pair.
 fn opens<F: FabricName>(
     fabric: &Fabric<F>,
     cell: &mut NodeCell<F>,
-    pair: u32,
+    pair: u64,
 ) -> Result<bool, Refusal> {
     let (a, b) = cell.open_pair(fabric)?;
     Ok(a.pair == pair && a.side == Side::A && b == a.opposite())
@@ -75,8 +75,8 @@ fn opens<F: FabricName>(
 fn opens_all<F: FabricName>(
     fabric: &Fabric<F>,
     cell: &mut NodeCell<F>,
-    first: u32,
-    last: u32,
+    first: u64,
+    last: u64,
 ) -> Result<bool, Refusal> {
     for pair in first..=last {
         if !opens(fabric, cell, pair)? {

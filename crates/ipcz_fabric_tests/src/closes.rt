@@ -17,7 +17,7 @@ const TRIES: u64 = 10_000_000;
 const PAIRS: u64 = 200;
 
 // The end of a first pair at a side.
-fn end(pair: u32, side: Side) -> End {
+fn end(pair: u64, side: Side) -> End {
     End { pair, side }
 }
 
@@ -140,7 +140,7 @@ pub(crate) fn both_close<F: FabricName + Send + Sync, R: Threads>(
     fabric: &Fabric<F>,
     left: &mut NodeCell<F>,
     right: &mut NodeCell<F>,
-    over: u32,
+    over: u64,
     pairs: u64,
 ) -> bool {
     let done = AtomicU64::new(0);

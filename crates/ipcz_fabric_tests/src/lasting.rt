@@ -14,16 +14,16 @@ use std::test::Fail;
 use std::thread::{Threads, join};
 
 /// How many requests are made; each opens a pair, and moves an end of it.
-const REQUESTS: u32 = 100_000;
+const REQUESTS: u64 = 100_000;
 
 /// How many slots there are for links: for the pair that the requests go over, for that of a request, and for its bypass.
 const SLOTS: u32 = 3;
 
 /// How many numbers links can have: enough for all requests.
-const NUMBERS: u32 = 4_000_000_000;
+const NUMBERS: u64 = u64::MAX;
 
 /// How often a portal goes to the other node and back.
-const LAPS: u32 = 50_000;
+const LAPS: u64 = 50_000;
 
 const PASSES: u64 = 1000;
 
@@ -101,7 +101,7 @@ fn requests<F: FabricName>(
     fabric: &Fabric<F>,
     cells: &mut [NodeCell<F>],
     alloc: Global,
-) -> Option<u32> {
+) -> Option<u64> {
     let [left, right] = cells else {
         return None;
     };
@@ -113,7 +113,7 @@ fn requests<F: FabricName>(
     Some(left.claimed(fabric))
 }
 
-fn claimed_by_requests<F: FabricName>(blank: Blank, alloc: Global) -> Option<u32>
+fn claimed_by_requests<F: FabricName>(blank: Blank, alloc: Global) -> Option<u64>
     requires { blank ≡ F.table }
 {
     let mut it = named::<F>(blank)?;
@@ -227,7 +227,7 @@ fn threads_close<F: FabricName + Send + Sync, R: Threads>(
     alloc: Global,
     blank: Blank,
     pairs: u64,
-) -> Option<u32>
+) -> Option<u64>
     requires { blank ≡ F.table }
 {
     let mut it = named::<F>(blank)?;

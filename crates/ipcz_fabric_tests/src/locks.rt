@@ -105,7 +105,7 @@ fn locks_all<F: FabricName>(
 }
 
 // Whether an end has come to a node.
-fn comes<F: FabricName>(fabric: &Fabric<F>, cell: &mut NodeCell<F>, by: u32, end: End) -> bool {
+fn comes<F: FabricName>(fabric: &Fabric<F>, cell: &mut NodeCell<F>, by: u64, end: End) -> bool {
     acts(fabric, cell);
     gets(fabric, cell, a(by).opposite(), &[end])
 }

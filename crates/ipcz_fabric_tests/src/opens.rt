@@ -8,12 +8,12 @@ use std::marker::Brand;
 use std::test::Fail;
 
 // Whether these are the ends of a pair.
-fn is_pair(a: End, b: End, pair: u32) -> bool {
+fn is_pair(a: End, b: End, pair: u64) -> bool {
     a.pair == pair && a.side == Side::A && b == a.opposite()
 }
 
 // Whether an open gives a pair.
-fn opens<F: FabricName>(fabric: &Fabric<F>, cell: &mut NodeCell<F>, pair: u32) -> bool {
+fn opens<F: FabricName>(fabric: &Fabric<F>, cell: &mut NodeCell<F>, pair: u64) -> bool {
     match cell.open_pair(fabric) {
         Ok((a, b)) => is_pair(a, b, pair),
         Err(_) => false,
@@ -24,8 +24,8 @@ fn opens<F: FabricName>(fabric: &Fabric<F>, cell: &mut NodeCell<F>, pair: u32) -
 pub(crate) fn opens_and_claims<F: FabricName>(
     fabric: &Fabric<F>,
     cell: &mut NodeCell<F>,
-    pair: u32,
-    word: u32,
+    pair: u64,
+    word: u64,
 ) -> bool {
     let Ok((a, b)) = cell.open_pair(fabric) else {
         return false;

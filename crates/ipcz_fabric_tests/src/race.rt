@@ -16,11 +16,11 @@ const TRIES: u64 = 10_000_000;
 const TURNS: u64 = 100;
 
 // Of four nodes: the first pairs of nodes 0 and 1, of nodes 0 and 2, and of nodes 1 and 3.
-pub(crate) const BETWEEN: u32 = 0;
+pub(crate) const BETWEEN: u64 = 0;
 
-pub(crate) const TO_NODE_2: u32 = 1;
+pub(crate) const TO_NODE_2: u64 = 1;
 
-pub(crate) const TO_NODE_3: u32 = 4;
+pub(crate) const TO_NODE_3: u64 = 4;
 
 // Both sides stable, side A holds the lock, and node 2 may answer for its bypass.
 const LOCKED_BY_A: u64 = 787;
@@ -28,7 +28,7 @@ const LOCKED_BY_A: u64 = 787;
 // Both sides stable, side B holds the lock, and node 3 may answer for its bypass.
 const LOCKED_BY_B: u64 = 1059;
 
-pub(crate) fn a(pair: u32) -> End {
+pub(crate) fn a(pair: u64) -> End {
     End {
         pair,
         side: Side::A,

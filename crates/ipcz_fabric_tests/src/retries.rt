@@ -16,7 +16,7 @@ use std::test::Fail;
 /// How many slots there are for links: for the pair of the two nodes, for one that is moved, and for one that is in its bypass's way.
 const SLOTS: u32 = 3;
 
-const NUMBERS: u32 = 4_000_000_000;
+const NUMBERS: u64 = u64::MAX;
 
 /// What a cell answers to `retry`: before a portal moves, while its proxy waits, once a slot has come back, and once the proxy has gone.
 type Answers = [Retry; 4];
@@ -62,7 +62,7 @@ fn answers<F: FabricName>(
     left: &mut NodeCell<F>,
     right: &mut NodeCell<F>,
     alloc: Global,
-) -> Option<(Answers, u32)> {
+) -> Option<(Answers, u64)> {
     let (kept, sent) = left.open_pair(fabric).ok()?;
     let (first, second) = left.open_pair(fabric).ok()?;
     let before = left.retry(fabric);
@@ -87,14 +87,14 @@ fn both_answer<F: FabricName>(
     fabric: &Fabric<F>,
     cells: &mut [NodeCell<F>],
     alloc: Global,
-) -> Option<(Answers, u32)> {
+) -> Option<(Answers, u64)> {
     match cells {
         [left, right] => answers(fabric, left, right, alloc),
         _ => None,
     }
 }
 
-fn answered<F: FabricName>(blank: Blank, alloc: Global) -> Option<(Answers, u32)>
+fn answered<F: FabricName>(blank: Blank, alloc: Global) -> Option<(Answers, u64)>
     requires { blank ≡ F.table }
 {
     let mut it = named::<F>(blank)?;

@@ -17,7 +17,7 @@ use std::marker::Brand;
 /// What can be read of a node's cell, and of the table from there.
 #[derive(Clone, Copy, PartialEq)]
 struct Reading {
-    claimed: u32,
+    claimed: u64,
     words: [Option<u64>; 4],
     /// Which ends of the first four pairs callers of the node hold.
     holds: [[bool; 2]; 4],
@@ -35,7 +35,7 @@ struct Cells<F: FabricName> {
 }
 
 // Which ends of a pair callers of the node hold.
-fn holds_of<F: FabricName>(cell: &NodeCell<F>, pair: u32) -> [bool; 2] {
+fn holds_of<F: FabricName>(cell: &NodeCell<F>, pair: u64) -> [bool; 2] {
     let end = End {
         pair,
         side: Side::A,
@@ -196,14 +196,14 @@ impl<F: FabricName> Subject for Cells<F> {
         Ok(None)
     }
 
-    fn claimed(&mut self) -> u32 {
+    fn claimed(&mut self) -> u64 {
         match self.cells.as_mut_slice().first_mut() {
             Some(cell) => cell.claimed(&self.fabric),
             None => 0,
         }
     }
 
-    fn word(&mut self, i: u32) -> Option<u64> {
+    fn word(&mut self, i: u64) -> Option<u64> {
         match self.cells.as_mut_slice().first_mut() {
             Some(cell) => cell.word(&self.fabric, i),
             None => None,

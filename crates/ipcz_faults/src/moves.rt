@@ -16,7 +16,7 @@ pub enum Ask {
 #[derive(Clone, Copy)]
 pub enum Want {
     /// The ends of the pair of this number.
-    Opened(u32),
+    Opened(u64),
     /// The number of the parcel that was put.
     Accepted(u64),
     /// The parcel that is got: its number, its bytes and its ends.

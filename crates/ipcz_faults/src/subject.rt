@@ -15,10 +15,10 @@ pub trait Subject {
     fn settle_once(&mut self) -> Result<Option<u64>, Wrong>;
 
     /// How many link words were claimed.
-    fn claimed(&mut self) -> u32;
+    fn claimed(&mut self) -> u64;
 
     /// The number of a claimed word.
-    fn word(&mut self, i: u32) -> Option<u64>;
+    fn word(&mut self, i: u64) -> Option<u64>;
 
     /// The node whose callers hold an end.
     fn holder_of(&mut self, end: End) -> Option<u8>;

@@ -24,7 +24,7 @@ fn take_turns<S: Subject>(
 
 // Whether the claimed words are these.
 fn has_words<S: Subject>(subject: &mut S, words: &[u64]) -> bool {
-    for (i, word) in (0u32..).zip(words.iter()) {
+    for (i, word) in (0u64..).zip(words.iter()) {
         if subject.word(i) != Some(*word) {
             return false;
         }

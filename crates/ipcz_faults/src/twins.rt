@@ -188,11 +188,11 @@ impl Subject for Twins {
         }
     }
 
-    fn claimed(&mut self) -> u32 {
+    fn claimed(&mut self) -> u64 {
         self.world.claimed()
     }
 
-    fn word(&mut self, i: u32) -> Option<u64> {
+    fn word(&mut self, i: u64) -> Option<u64> {
         self.world.word(i)
     }
 

@@ -212,7 +212,7 @@ impl Directory {
 
     /// Adds the terminal of a new pair's side under the next serial, on the link of the pair's own word and toward the node
     /// `other`, and holds its end. It isn't flagged. It takes no memory.
-    pub fn add_end(&mut self, alloc: Global, pair: u32, side: Side, other: u8)
+    pub fn add_end(&mut self, alloc: Global, pair: u64, side: Side, other: u8)
         requires room { 0 < self.old.filed.room }
         requires serials { self.old.filed.next < 2 ^ 64 - 1 }
         ensures { self.new.filed ≡ hold_filed (add_filed self.old.filed (new_end pair side other)) (end_at pair side ∷ []) }

@@ -42,7 +42,7 @@ pub struct NodeState {
     pending: Vec<End>,
     strays: Vec<Message>,
     hand: Option<u8>,
-    opening: Option<u32>,
+    opening: Option<u64>,
     next_peripheral: u64,
     moves: Spare<Descriptor>,
     event_ends: Spare<End>,
@@ -111,7 +111,7 @@ impl NodeState {
     }
 
     /// The word that was claimed for an open which isn't done yet.
-    pub fn opening(&self) -> Option<u32>
+    pub fn opening(&self) -> Option<u64>
         ensures { result ≡ self.now.node.opening }
     {
         self.opening

@@ -178,7 +178,7 @@ pub fn is_quiet(world: &World) -> bool
 /// is refused `NoWord`.
 ///
 /// In the world `new_world(alloc, 2, 8)` it is 7, since one pair is there; and 6 after an open.
-pub fn words_left(world: &World) -> u32
+pub fn words_left(world: &World) -> u64
     ensures promise { (a : Account) → Keeps world.now a → world.now.claimed + result ≡ a.words }
 {
     world.words_left()

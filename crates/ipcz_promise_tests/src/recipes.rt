@@ -6,14 +6,14 @@ use std::alloc::Global;
 
 // The two portals of a pair. First pairs are numbered in the order of their nodes: with four, nodes 0 and 1 have pair 0, 0 and 2 pair 1,
 // 0 and 3 pair 2, and 1 and 2 pair 3. The lower node has `left`.
-fn left(pair: u32) -> End {
+fn left(pair: u64) -> End {
     End {
         pair,
         side: Side::A,
     }
 }
 
-fn right(pair: u32) -> End {
+fn right(pair: u64) -> End {
     End {
         pair,
         side: Side::B,
@@ -107,7 +107,7 @@ fn request_and_reply(alloc: Global) -> Result<bool, Refusal> {
 }
 
 // Opens a pair at node 0 for the news, and sends one portal of it over a first pair.
-fn subscribed(alloc: Global, world: &mut World, pair: u32) -> Result<End, Refusal> {
+fn subscribed(alloc: Global, world: &mut World, pair: u64) -> Result<End, Refusal> {
     let (kept, sent) = opened(world, 0)?;
     send(alloc, world, 0, left(pair), b"news come here", &[sent])?;
     Ok(kept)
@@ -122,7 +122,7 @@ fn fan_out(alloc: Global) -> Result<bool, Refusal> {
     rest(&mut world)?;
     let mut is_heard = true;
     for node in 1..4u8 {
-        let channel = brought(&mut world, node, right(u32::from(node) - 1))?;
+        let channel = brought(&mut world, node, right(u64::from(node) - 1))?;
         is_heard = is_heard && hears(&mut world, node, channel, b"news");
     }
     Ok(is_heard)

@@ -43,7 +43,7 @@ pub enum Answer {
     /// The act touches no word.
     Plain,
     /// This word is now the router's spare one.
-    Claimed(u32),
+    Claimed(u64),
     /// Each word is claimed.
     NoWord,
     /// The side is stable, and whether the other side was waiting.

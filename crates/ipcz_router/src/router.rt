@@ -37,7 +37,7 @@ pub struct Router {
     in_queue: GapQueue<Item>,
     outward: Edge,
     inward: Option<Edge>,
-    spare: Option<u32>,
+    spare: Option<u64>,
     flagged: bool,
     closed: bool,
     marked: bool,
@@ -217,7 +217,7 @@ impl Router {
 
     /// The word of its outward primary link with the side of its end, if there is that link and it is central.
     #[tactic(auto, unfolding(ipcz_base::specs::Links::word_of))]
-    pub fn word(&self) -> Option<(u32, Side)>
+    pub fn word(&self) -> Option<(u64, Side)>
         ensures { result ≡ word_side self.now.router }
     {
         match self.outward.primary()?.link {

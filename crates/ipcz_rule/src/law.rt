@@ -8,7 +8,7 @@ use ipcz_slots::Own;
 #[derive(Clone, Copy)]
 pub struct Size {
     pub nodes: u8,
-    pub words: u32,
+    pub words: u64,
     pub slots: u32,
     pub reuses: bool,
 }

@@ -82,7 +82,7 @@ impl Labels {
     }
 
     // Binds the names of the first pair of two nodes.
-    fn name_pair(&mut self, pair: u32, i: u8, j: u8) -> Result<(), AllocError>
+    fn name_pair(&mut self, pair: u64, i: u8, j: u8) -> Result<(), AllocError>
         ensures { OnOk result (self.new ≡ bind_pair self.old pair i j) }
     {
         let first = End {
@@ -100,7 +100,7 @@ impl Labels {
     }
 
     // Binds the names of the first pairs of one node with so many others, from one on.
-    fn name_pairs(&mut self, pair: u32, i: u8, j: u8, left: u8) -> Result<(), AllocError>
+    fn name_pairs(&mut self, pair: u64, i: u8, j: u8, left: u8) -> Result<(), AllocError>
         requires nodes { j + left ≤ 8 }
         requires pairs { pair + left ≤ 100 }
         ensures { OnOk result (self.new ≡ bind_pairs self.old pair (pairs_from i j left)) }
@@ -113,7 +113,7 @@ impl Labels {
     }
 
     // Binds the names of the first pairs among so many nodes, from one on.
-    fn name_first_pairs(&mut self, pair: u32, i: u8, left: u8) -> Result<(), AllocError>
+    fn name_first_pairs(&mut self, pair: u64, i: u8, left: u8) -> Result<(), AllocError>
         requires nodes { i + left ≤ 8 }
         requires pairs { pair + 8 * left ≤ 100 }
         ensures { OnOk result (self.new ≡ bind_pairs self.old pair (first_pairs_from i left)) }
@@ -123,6 +123,6 @@ impl Labels {
         }
         let others = left - 1;
         self.name_pairs(pair, i, i + 1, others)?;
-        self.name_first_pairs(pair + u32::from(others), i + 1, others)
+        self.name_first_pairs(pair + u64::from(others), i + 1, others)
     }
 }

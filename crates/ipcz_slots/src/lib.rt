@@ -27,7 +27,6 @@ pub fn slot_of(number: u64, slots: u64) -> u64
 pub fn next_number(count: u64, slot: u64, slots: u64, limit: u64) -> Option<u64>
     requires inside { slot < slots }
     requires count { count ≤ limit }
-    requires room { limit < 2 ^ 63 }
     requires slots { slots < 2 ^ 63 }
     ensures { IsNextNumber count slot slots limit result }
 {
@@ -37,6 +36,10 @@ pub fn next_number(count: u64, slot: u64, slots: u64, limit: u64) -> Option<u64>
     } else {
         slots - first + slot
     };
-    let number = count + skipped;
-    if number < limit { Some(number) } else { None }
+    let left = limit - count;
+    if skipped < left {
+        Some(count + skipped)
+    } else {
+        None
+    }
 }

@@ -24,7 +24,7 @@ pub struct Judge {
     nodes: u8,
     profile: Profile,
     portals: Vec<Portal>,
-    pairs: u32,
+    pairs: u64,
     labels: Labels,
     alloc: Global,
 }
@@ -274,7 +274,7 @@ impl Judge {
             nodes,
             profile,
             portals,
-            pairs: first_pair_count(nodes),
+            pairs: u64::from(first_pair_count(nodes)),
             labels,
             alloc,
         })

@@ -20,7 +20,7 @@ use std::marker::Model;
 #[derive(Drop)]
 pub(crate) struct LinkWords {
     bits: Vec<u64>,
-    size: u32,
+    size: u64,
 }
 
 impl Model for LinkWords {
@@ -50,37 +50,40 @@ impl LinkWords {
         for _pair in 0..pairs {
             bits.push_reserved(OPEN_WORD);
         }
-        Ok(LinkWords { bits, size: words })
+        Ok(LinkWords {
+            bits,
+            size: u64::from(words),
+        })
     }
 
     /// These link words, of which so many are claimed; the others are empty.
-    pub(crate) fn of(mut bits: Vec<u64>, claimed: u32) -> LinkWords
+    pub(crate) fn of(mut bits: Vec<u64>, claimed: u64) -> LinkWords
         requires table { IsTable bits.items claimed }
         requires empty { AreUnclaimedEmpty (map word_of_bits bits.items) claimed }
         ensures words { result.words ≡ map word_of_bits bits.items }
         ensures claimed { result.claimed ≡ claimed }
     {
-        let size = bits.as_slice().len() as u32;
+        let size = bits.as_slice().len() as u64;
         bits.truncate(claimed as usize);
         LinkWords { bits, size }
     }
 
     /// How many words were claimed.
-    pub(crate) fn claimed(&self) -> u32
+    pub(crate) fn claimed(&self) -> u64
         ensures { result ≡ self.now.claimed }
     {
-        self.bits.as_slice().len() as u32
+        self.bits.as_slice().len() as u64
     }
 
     /// How many words are left to claim.
-    pub(crate) fn left(&self) -> u32
+    pub(crate) fn left(&self) -> u64
         ensures { self.now.claimed + result ≡ length self.now.words }
     {
         self.size - self.claimed()
     }
 
     /// The number of a claimed word.
-    pub(crate) fn word(&self, i: u32) -> Option<u64>
+    pub(crate) fn word(&self, i: u64) -> Option<u64>
         ensures { result ≡ claimed_word self.now i }
     {
         if i < self.claimed() {
@@ -91,7 +94,7 @@ impl LinkWords {
     }
 
     /// The node that a claimed word names as the source of a bypass.
-    pub(crate) fn source(&self, i: u32) -> Option<u8>
+    pub(crate) fn source(&self, i: u64) -> Option<u8>
         ensures { result ≡ source_at self.now i }
     {
         if self.claimed() > i {
@@ -109,7 +112,7 @@ impl LinkWords {
     }
 
     /// Claims the next word and gives its number.
-    pub(crate) fn claim(&mut self) -> u32
+    pub(crate) fn claim(&mut self) -> u64
         requires { self.old.claimed < length self.old.words }
         ensures word { result ≡ self.old.claimed }
         ensures table { self.new ≡ claim_one self.old }
@@ -120,7 +123,7 @@ impl LinkWords {
     }
 
     /// Makes a claimed word that of a pair's first link.
-    pub(crate) fn open(&mut self, i: u32)
+    pub(crate) fn open(&mut self, i: u64)
         requires { i < self.old.claimed }
         ensures { self.new ≡ put_word self.old i open_word }
     {
@@ -133,7 +136,7 @@ impl LinkWords {
         &mut self,
         source: Option<u8>,
         act: RouterAct,
-        link: Option<(u32, Side)>,
+        link: Option<(u64, Side)>,
     ) -> Answer
         requires node { HasNode source }
         requires within { IfSome link (λ l. l.0 < self.old.claimed) }
@@ -165,7 +168,7 @@ impl LinkWords {
         &mut self,
         source: Option<u8>,
         act: RouterAct,
-        link: Option<(u32, Side)>,
+        link: Option<(u64, Side)>,
     ) -> Answer
         requires node { HasNode source }
         requires within { IfSome link (λ l. l.0 < self.old.claimed) }
@@ -180,7 +183,7 @@ impl LinkWords {
 
     // Answers an act on a claimed word.
     #[tactic(auto, unfolding(crate::specs::Coding::side_answer, crate::specs::Coding::side_after))]
-    fn answer_word(&mut self, source: Option<u8>, act: RouterAct, i: u32, side: Side) -> Answer
+    fn answer_word(&mut self, source: Option<u8>, act: RouterAct, i: u64, side: Side) -> Answer
         requires node { HasNode source }
         requires within { i < self.old.claimed }
         ensures answer { result ≡ side_answer self.old source act (Some (i, side)) }

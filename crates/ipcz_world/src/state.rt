@@ -84,7 +84,7 @@ impl State {
         nodes: Vec<NodeState>,
         mail: Vec<Mail>,
         words: Vec<u64>,
-        claimed: u32,
+        claimed: u64,
     ) -> State
         requires words { IsTable words.items claimed }
         requires empty { AreUnclaimedEmpty (map word_of_bits words.items) claimed }
@@ -104,21 +104,21 @@ impl State {
     }
 
     /// How many words were claimed.
-    pub(crate) fn claimed(&self) -> u32
+    pub(crate) fn claimed(&self) -> u64
         ensures { result ≡ self.now.claimed }
     {
         self.words.claimed()
     }
 
     /// How many words are left to claim.
-    pub(crate) fn words_left(&self) -> u32
+    pub(crate) fn words_left(&self) -> u64
         ensures { self.now.claimed + result ≡ self.now.size }
     {
         self.words.left()
     }
 
     /// The number of a claimed word.
-    pub(crate) fn word(&self, i: u32) -> Option<u64>
+    pub(crate) fn word(&self, i: u64) -> Option<u64>
         ensures { result ≡ claimed_word (table_of self.now) i }
     {
         self.words.word(i)

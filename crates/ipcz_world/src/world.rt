@@ -77,7 +77,7 @@ impl World {
     /// never refused, and takes no memory.
     ///
     /// So `finish` of `ipcz_cell` gives `World::of_parts(nodes, mail, words, claimed)` of the nodes that it takes out of their cells.
-    pub fn of_parts(nodes: Vec<NodeState>, mail: Vec<Mail>, words: Vec<u64>, claimed: u32) -> World
+    pub fn of_parts(nodes: Vec<NodeState>, mail: Vec<Mail>, words: Vec<u64>, claimed: u64) -> World
         requires words { IsTable words.items claimed }
         requires lawful { IsLawful (world_of_parts (map (λ k. k.node) nodes.items) mail.items (map word_of_bits words.items) claimed) }
         ensures { result ≡ world_of_parts (map (λ k. k.node) nodes.items) mail.items (map word_of_bits words.items) claimed }
@@ -99,7 +99,7 @@ impl World {
     /// many as the world was made with, and is never refused.
     ///
     /// In the world `World::new(alloc, 3, 8)` it is 3.
-    pub fn claimed(&self) -> u32
+    pub fn claimed(&self) -> u64
         ensures { result ≡ self.now.claimed }
     {
         self.state.claimed()
@@ -109,7 +109,7 @@ impl World {
     /// finds no word stays.
     ///
     /// `World::new(alloc, 2, 8)` has one first pair, whose word is claimed: it has 7 left, and 6 after an open.
-    pub fn words_left(&self) -> u32
+    pub fn words_left(&self) -> u64
         ensures { self.now.claimed + result ≡ self.now.size }
     {
         self.state.words_left()
@@ -130,7 +130,7 @@ impl World {
     ///
     /// In the world `World::new(alloc, 2, 8)` `world.word(0)` is `Some(3)`, stable at both sides, and `world.word(1)` is none.
     #[tactic(auto, unfolding(crate::specs::World::word_at))]
-    pub fn word(&self, i: u32) -> Option<u64>
+    pub fn word(&self, i: u64) -> Option<u64>
         ensures { result ≡ shown_word self.now i }
     {
         self.state.word(i)

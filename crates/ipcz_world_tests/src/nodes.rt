@@ -65,7 +65,7 @@ const JAMMED: MailSeen = MailSeen {
 #[derive(Clone, Copy)]
 enum Step {
     /// Opens the pair of a word.
-    Open(u32),
+    Open(u64),
     /// Puts a parcel of one byte with these ends: its number, or why it is refused.
     Put(End, &'static [End], Result<u64, Refusal>),
     /// Puts a parcel of so many bytes of this value.
@@ -111,7 +111,7 @@ enum Step {
     /// How many routers there are.
     Routers(usize),
     /// The word and the side that an act of a router is about.
-    Word(u64, Option<(u32, Side)>),
+    Word(u64, Option<(u64, Side)>),
     /// The node that a router's lock names as its source.
     Source(u64, Option<u8>),
     /// The message that waits for a node at a place, counted from 0.
@@ -188,7 +188,7 @@ impl Trial {
     }
 
     // Opens the pair of a word.
-    fn open(&mut self, word: u32) -> bool {
+    fn open(&mut self, word: u64) -> bool {
         let Ok(()) = self.node.open_prepare() else {
             return false;
         };

@@ -51,7 +51,7 @@ enum Step {
     /// What can be seen of a router.
     Is(usize, Sight),
     /// A BypassPeer comes.
-    BypassPeer(usize, LinkId, Side, [u32; 2], u8, Answered),
+    BypassPeer(usize, LinkId, Side, [u64; 2], u8, Answered),
     /// An AcceptBypass comes from a node, while the old link's word names this source.
     AcceptBypass(usize, u8, Side, u64, Option<u8>, Answered),
     /// A StopProxying comes, with the number of items from outward and of those that go there.

@@ -47,7 +47,7 @@ const B3: End = End {
 };
 
 // The end of side A of a pair.
-fn a(pair: u32) -> End {
+fn a(pair: u64) -> End {
     End {
         pair,
         side: Side::A,
@@ -55,7 +55,7 @@ fn a(pair: u32) -> End {
 }
 
 // The end of side B of a pair.
-fn b(pair: u32) -> End {
+fn b(pair: u64) -> End {
     End {
         pair,
         side: Side::B,
@@ -308,7 +308,7 @@ static OPENS: [Call; 17] = [
     Call::Quiet(true),
     Call::Word(1, Some(3)),
     Call::Word(2, None),
-    Call::Word(u32::MAX, None),
+    Call::Word(u64::MAX, None),
     Call::Holder(B1, Some(1)),
     Call::OpenRefused(1, Refusal::NoWord),
     Call::Claimed(2),

@@ -133,7 +133,7 @@ impl Directory {
     }
 
     /// The word of the outward primary link of the router of the serial, with its side.
-    pub fn word_of(&self, serial: u64) -> Option<(u32, Side)>
+    pub fn word_of(&self, serial: u64) -> Option<(u64, Side)>
         ensures { result ≡ word_at (get self.now.filed.routers serial) }
     {
         match self.routers.router(serial) {

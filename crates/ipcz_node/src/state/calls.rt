@@ -61,7 +61,7 @@ impl NodeState {
 
     /// Notes the word that was claimed for an open: the open is under way until `open_commit` does it. The node requires nothing of
     /// the word. It is to be a link word that this node has claimed and that nothing else uses.
-    pub fn claim_open(&mut self, word: u32)
+    pub fn claim_open(&mut self, word: u64)
         requires { self.old.node.opening ≡ None }
         ensures node { self.new.node ≡ record self.old.node { opening = Some word } }
         ensures room { self.new.room ≡ self.old.room }
@@ -71,7 +71,7 @@ impl NodeState {
 
     /// Opens the pair of a claimed word, for which `open_prepare` made room: the terminal of side A, and then that of side B,
     /// both on the word's link. Callers hold both ends. It takes no memory.
-    pub fn open_commit(&mut self, word: u32) -> (End, End)
+    pub fn open_commit(&mut self, word: u64) -> (End, End)
         requires { CanOpen self.old }
         ensures node { self.new.node ≡ open_node self.old.node word }
         ensures ends { result ≡ (end_at word A, end_at word B) }
@@ -423,7 +423,7 @@ impl NodeState {
 
     /// The word of the outward primary link of the router of the serial, with its side; none if there is no such router,
     /// or the link is not central, or there is none.
-    pub fn word_of(&self, serial: u64) -> Option<(u32, Side)>
+    pub fn word_of(&self, serial: u64) -> Option<(u64, Side)>
         ensures { result ≡ word_side self.now.node serial }
     {
         self.routers.word_of(serial)

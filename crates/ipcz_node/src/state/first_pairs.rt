@@ -69,7 +69,7 @@ impl NodeState {
     // Adds the node's ends of the pairs of node `i` with `left` nodes from `j` on, and of the pairs among the `rows` nodes after
     // node `i`, numbered from `pair` on. It asks for serials for exactly these ends.
     #[tactic(auto, using(crate::proofs::FirstPairs::next_pair, crate::proofs::FirstPairs::next_row, crate::proofs::FirstPairs::no_pairs, crate::proofs::FirstPairs::next_serials, crate::proofs::FirstPairs::row_serials, crate::proofs::FirstPairs::pair_serial))]
-    fn add_pairs(&mut self, i: u8, j: u8, left: u8, rows: u8, pair: u32) -> Result<(), AllocError>
+    fn add_pairs(&mut self, i: u8, j: u8, left: u8, rows: u8, pair: u64) -> Result<(), AllocError>
         requires row { i < j }
         requires nodes { (j + left ≡ i + 1 + rows) × (j + left ≤ 8) }
         requires pairs { pair ≤ 8 * i + j }
@@ -88,7 +88,7 @@ impl NodeState {
     }
 
     // Adds the node's end of the first pair of two nodes, if it has one.
-    fn add_pair(&mut self, i: u8, j: u8, pair: u32) -> Result<(), AllocError>
+    fn add_pair(&mut self, i: u8, j: u8, pair: u64) -> Result<(), AllocError>
         requires lower { self.old.node.number ≡ i → self.old.node.next_router < no_number }
         requires upper { self.old.node.number ≡ j → self.old.node.next_router < no_number }
         ensures node { OnOk result (self.new.node ≡ add_pair self.old.node pair (i, j)) }

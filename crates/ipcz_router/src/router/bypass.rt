@@ -33,9 +33,9 @@ impl Router {
         &mut self,
         link: LinkId,
         side: Side,
-        old: u32,
+        old: u64,
         target: u8,
-        fresh: u32,
+        fresh: u64,
     ) -> Result<Option<Sending>, Refusal>
         ensures sending { let r = self.old.router in
             result ≡ (if fits_bypass_peer r link side then Ok (Some (accept_message r old target fresh)) else Err Refusal.Stranger) }
@@ -61,7 +61,7 @@ impl Router {
 
     /// Whether an AcceptBypass fits: the link of the word `old` at `side` is the outward primary one, and that edge doesn't
     /// decay.
-    pub fn fits_accept_bypass(&self, old: u32, side: Side) -> bool
+    pub fn fits_accept_bypass(&self, old: u64, side: Side) -> bool
         ensures { result ≡ fits_accept_bypass self.now.router old side }
     {
         is_link(self.outward.primary(), LinkId::Central(old), side) && !self.outward.decays()
@@ -77,9 +77,9 @@ impl Router {
     pub fn accept_bypass(
         &mut self,
         sender: u8,
-        old: u32,
+        old: u64,
         side: Side,
-        fresh: u32,
+        fresh: u64,
         length: u64,
         source: Option<u8>,
     ) -> Result<Option<Sending>, Refusal>
@@ -116,7 +116,7 @@ impl Router {
 
     /// Whether a StopProxying fits: the link of the word `old` at `side` is the outward decaying one, and both edges decay
     /// with both lengths unknown.
-    pub fn fits_stop_proxying(&self, old: u32, side: Side) -> bool
+    pub fn fits_stop_proxying(&self, old: u64, side: Side) -> bool
         ensures { result ≡ fits_stop_proxying self.now.router old side }
     {
         let Some(inward) = &self.inward else {
@@ -135,7 +135,7 @@ impl Router {
     #[tactic(auto, unfolding(ipcz_base::specs::Links::has_link, crate::specs::Bypass::will_stop_message))]
     pub fn stop_proxying(
         &mut self,
-        old: u32,
+        old: u64,
         side: Side,
         in_length: u64,
         out_length: u64,
@@ -194,7 +194,7 @@ impl Router {
     }
 
     // The outward edge decays toward a new central link, and the router is flagged.
-    fn relink(&mut self, fresh: u32, side: Side, other: u8)
+    fn relink(&mut self, fresh: u64, side: Side, other: u8)
         requires { (edge_decays self.old.router.outward ≡ false) × (is_some self.old.router.outward.primary ≡ true) }
         ensures router { self.new.router
             ≡ record (relink self.old.router (outward_onto self.old.router fresh side other)) { flagged = true } }

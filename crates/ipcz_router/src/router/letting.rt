@@ -10,7 +10,7 @@ use ipcz_edge::Edge;
 
 // The end of a word that a link end is, if there is one and its link is central.
 #[tactic(auto, unfolding(ipcz_base::specs::Links::word_of, crate::specs::LettingGo::word_end))]
-fn word_end(end: Option<LinkEnd>) -> Option<(u32, Side)>
+fn word_end(end: Option<LinkEnd>) -> Option<(u64, Side)>
     ensures { result ≡ word_end end }
 {
     let end = end?;
@@ -22,7 +22,7 @@ fn word_end(end: Option<LinkEnd>) -> Option<(u32, Side)>
 
 // The end of a word by which an edge stands on a central link.
 #[tactic(auto, unfolding(crate::specs::LettingGo::first_of))]
-fn edge_end(edge: Edge) -> Option<(u32, Side)>
+fn edge_end(edge: Edge) -> Option<(u64, Side)>
     ensures { result ≡ edge_end edge }
 {
     match word_end(edge.primary()) {
@@ -51,7 +51,7 @@ impl Router {
     /// decaying outward link gives that link's end up, and one that leaves its node that of its outward edge. There is none if the act is
     /// another, or no such link is central.
     #[tactic(auto, unfolding(crate::specs::LettingGo::let_go_end))]
-    pub fn let_go_end(&self, act: RouterAct) -> Option<(u32, Side)>
+    pub fn let_go_end(&self, act: RouterAct) -> Option<(u64, Side)>
         ensures { result ≡ let_go_end self.now.router act }
     {
         if act == RouterAct::FinishOut {
@@ -64,7 +64,7 @@ impl Router {
     }
 
     /// The word that it has claimed for a bypass, if it leaves its node by the act and hasn't used it.
-    pub fn let_go_spare(&self, act: RouterAct) -> Option<u32>
+    pub fn let_go_spare(&self, act: RouterAct) -> Option<u64>
         ensures { result ≡ let_go_spare self.now.router act }
     {
         if self.leaves_by(act) {

@@ -15,7 +15,7 @@ use ipcz_base::{Item, LinkEnd, LinkId, Message};
 
 // The word of a link end's link, if there is one and it is central.
 #[tactic(auto, unfolding(ipcz_base::specs::Links::word_of))]
-fn word_of(end: Option<LinkEnd>) -> Option<u32>
+fn word_of(end: Option<LinkEnd>) -> Option<u64>
     ensures { result ≡ word_of end }
 {
     let end = end?;
@@ -454,7 +454,7 @@ impl Router {
     }
 
     // A word is claimed for the link of its bypass.
-    fn claim_word(&mut self, word: u32)
+    fn claim_word(&mut self, word: u64)
         ensures router { self.new.router ≡ claim_word self.old.router word }
         ensures room { KeepsRoom self.old self.new }
     {

@@ -26,7 +26,7 @@ impl State {
     }
 
     // Opens a pair on a word that is claimed.
-    fn open_claimed(&mut self, n: u8, word: u32) -> Reply
+    fn open_claimed(&mut self, n: u8, word: u64) -> Reply
         requires regular { IsRegular self.old }
         requires node { n < self.old.count }
         requires word { word < self.old.claimed }

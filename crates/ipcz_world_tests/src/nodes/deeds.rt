@@ -28,7 +28,7 @@ pub(super) enum Deed {
     Leave(u64),
     Mark(u64, LinkId, u64),
     Wake(u64, LinkId, u64),
-    Claim(u64, u32),
+    Claim(u64, u64),
     ClaimNoWord(u64),
     Lock(u64, LinkId, u64),
     Wait(u64, LinkId, u64),

@@ -10,9 +10,9 @@ pub(super) enum Letter {
     Parcel(LinkId, Side, u64, &'static [End], &'static [Descriptor]),
     Mark(LinkId, Side, u64),
     Gone(LinkId, Side, u64),
-    BypassPeer(LinkId, Side, u32, u8, u32),
-    AcceptBypass(u32, Side, u32, u64),
-    StopProxying(u32, Side, u64, u64),
+    BypassPeer(LinkId, Side, u64, u8, u64),
+    AcceptBypass(u64, Side, u64, u64),
+    StopProxying(u64, Side, u64, u64),
     ProxyWillStop(LinkId, Side, u64),
     Flush(LinkId, Side),
 }

@@ -22,20 +22,20 @@ use std::test::Fail;
 #[derive(Drop)]
 struct Words {
     bits: [u64; 4],
-    claimed: u32,
+    claimed: u64,
 }
 
 // The word of a link, and the side that acts on it.
 #[derive(Clone, Copy)]
 struct WordSide {
-    place: u32,
+    place: u64,
     side: Side,
     word: u64,
 }
 
 impl Words {
     // The word of a link; an empty one if the link has none.
-    fn at(&self, link: Option<(u32, Side)>) -> WordSide
+    fn at(&self, link: Option<(u64, Side)>) -> WordSide
         ensures { IsWord result.word }
     {
         let (place, side) = link.unwrap_or((0, Side::A));
@@ -90,7 +90,7 @@ impl Words {
     }
 
     // What the words answer to an act, by the word of its router's link and the node inward of it.
-    fn answer(&mut self, act: RouterAct, link: Option<(u32, Side)>, inward: Option<u8>) -> Answer
+    fn answer(&mut self, act: RouterAct, link: Option<(u64, Side)>, inward: Option<u8>) -> Answer
         ensures { IsAnswerOf act result }
     {
         let at = self.at(link);

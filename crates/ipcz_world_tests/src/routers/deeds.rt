@@ -13,7 +13,7 @@ use std::alloc::{AllocError, Global};
 #[derive(Clone, Copy)]
 pub(super) enum Deed {
     /// A word is claimed.
-    Claim(u32),
+    Claim(u64),
     /// No word is left to claim.
     ClaimNoWord,
     /// The side is marked, and whether the other one was waiting.

@@ -21,7 +21,7 @@ pub(super) enum Sight {
     /// The first possible act.
     Next(RouterAct),
     Possible(RouterAct, bool),
-    Word(Option<(u32, Side)>),
+    Word(Option<(u64, Side)>),
     /// Why a put would be refused.
     PutRefused(Refusal),
     /// The highest number that stands in the out queue.

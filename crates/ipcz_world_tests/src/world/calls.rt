@@ -41,13 +41,13 @@ pub enum Call {
     /// Settles within so many acts: after how many nothing waits, or none if the limit comes first.
     Settle(u64, Option<u64>),
     /// How many words are claimed.
-    Claimed(u32),
+    Claimed(u64),
     /// How many words are left.
-    Left(u32),
+    Left(u64),
     /// Whether nothing waits.
     Quiet(bool),
     /// A word, or none if it isn't claimed.
-    Word(u32, Option<u64>),
+    Word(u64, Option<u64>),
     /// The node that holds an end.
     Holder(End, Option<u8>),
     /// The limit that the world tells.

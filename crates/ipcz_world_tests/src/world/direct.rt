@@ -160,7 +160,7 @@ fn all_arrive(world: &mut World, alloc: Global) -> Result<bool, Refusal> {
 }
 
 // How many words are claimed on a new world in which each parcel arrives; none if one doesn't.
-fn claimed_by_all(alloc: Global) -> Result<Option<u32>, Refusal> {
+fn claimed_by_all(alloc: Global) -> Result<Option<u64>, Refusal> {
     let mut world = World::new(alloc, 3, 8)?;
     Ok(all_arrive(&mut world, alloc)?.then_some(world.claimed()))
 }

@@ -14,7 +14,7 @@ const NODES: u8 = 4;
 const WORDS: u32 = 1024;
 
 /// How many words a round takes at most.
-const WORDS_OF_A_ROUND: u32 = 16;
+const WORDS_OF_A_ROUND: u64 = 16;
 
 const WORLDS: u64 = 3;
 
@@ -70,7 +70,7 @@ fn agree(holds: bool, wrong: Wrong) -> Result<(), Wrong> {
 }
 
 // The number of the first pair of two nodes.
-fn first_pair(low: u8, high: u8) -> u32 {
+fn first_pair(low: u8, high: u8) -> u64 {
     match (low, high) {
         (0, 1) => 0,
         (0, 2) => 1,
@@ -265,7 +265,7 @@ impl Soak {
 
     // Whether there are words for whatever a round does.
     fn has_words(&self) -> bool {
-        self.world.claimed().saturating_add(WORDS_OF_A_ROUND) <= WORDS
+        self.world.claimed().saturating_add(WORDS_OF_A_ROUND) <= u64::from(WORDS)
     }
 
     // Opens a pair, moves its ends and closes them; whether there was a word for it. If few words are left, the first end stays: of two
@@ -312,7 +312,7 @@ impl Soak {
         let Some((first, mut second)) = self.open(0)? else {
             return Err(Wrong::Open);
         };
-        for round in 0..WORDS as u64 {
+        for round in 0..u64::from(WORDS) {
             if !self.live(round)? {
                 return Ok((round, first, second));
             }
@@ -341,7 +341,7 @@ impl Soak {
     // Uses up the words. At the end no router is left.
     fn live_and_die(&mut self) -> Result<(), Wrong> {
         let (rounds, first, second) = self.use_words()?;
-        agree(self.world.claimed() == WORDS, Wrong::Words)?;
+        agree(self.world.claimed() == u64::from(WORDS), Wrong::Words)?;
         agree(rounds > 100, Wrong::Words)?;
         self.close(first, rounds)?;
         self.close(second, rounds)?;

@@ -20,7 +20,7 @@ const LAST_B: End = End {
 };
 
 // Whether an open on node 0 gives the pair of this number.
-fn opens(world: &mut World, pair: u32) -> bool {
+fn opens(world: &mut World, pair: u64) -> bool {
     match world.step(&Step::Open(0)) {
         Reply::Opened(first, second) => first == a(pair) && second == b(pair),
         _ => false,
@@ -29,7 +29,7 @@ fn opens(world: &mut World, pair: u32) -> bool {
 
 // Whether opens on node 0 give each pair from the second to the last.
 fn open_all(world: &mut World) -> bool {
-    for pair in 1..WORDS {
+    for pair in 1..u64::from(WORDS) {
         if !opens(world, pair) {
             return false;
         }

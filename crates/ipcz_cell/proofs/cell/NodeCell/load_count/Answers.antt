@@ -28,6 +28,3 @@ returns-clause-reached g c =
 
 pub returns-clause-most : goal.returns-clause-most
 returns-clause-most g c = c.load_step.ensures.done.0
-
-pub returns-clause-small : goal.returns-clause-small
-returns-clause-small g c = let few = c.fabric.invariant.5.limits.words in omega (arith, few)
