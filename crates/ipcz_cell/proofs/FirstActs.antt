@@ -194,7 +194,7 @@ and_false false c e = refl
 -- without a message in hand and without any mailbox, a pending close comes first, and then a router
 next_is : (n : Node) → n.hand ≡ None → next n nothing_seen ≡ close_turn n.pending (router_turn (flagged_router n))
 unfolding next node_turn
-next_is n idle = rw (idle, none_passes (λ sender. place_at false nothing_seen.full sender) (no_place 8) 0 n.count, none_passes (λ to. has_mail_for n to && place_at false nothing_seen.empty to) (λ k. and_false (has_mail_for n k) _ (no_place 8 k)) 0 n.count) refl
+next_is n idle = rw (idle, none_passes (λ sender. place_at false nothing_seen.full sender) (no_place 64) 0 n.count, none_passes (λ to. has_mail_for n to && place_at false nothing_seen.empty to) (λ k. and_false (has_mail_for n k) _ (no_place 64 k)) 0 n.count) refl
 
 rest_first : (t : TableName) (p : Part) (found : Loads) (act : Act) (ends : List End) (o : Option Found) → IsFirstElse t p found act → act ≡ close_turn ends (router_turn o) → IsFirst t p found act
 unfolding close_turn router_turn

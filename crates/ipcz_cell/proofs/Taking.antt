@@ -21,8 +21,8 @@ module _ (xs seen now then : List ℕ) (to place : ℕ) (has : has_number then t
   pub taken_once : AreOnce now
   taken_once = subst AreOnce (sym is) (once_split (take (place_in xs to) xs) (drop (place + 1) xs) to (subst AreOnce split.0 once))
 
-  pub taken_below : AreBelow 8 xs → AreBelow 8 now
-  taken_below low = subst (AreBelow 8) (sym is) (below_split 8 (take (place_in xs to) xs) (drop (place + 1) xs) to (subst (AreBelow 8) split.0 low))
+  pub taken_below : AreBelow 64 xs → AreBelow 64 now
+  taken_below low = subst (AreBelow 64) (sym is) (below_split 64 (take (place_in xs to) xs) (drop (place + 1) xs) to (subst (AreBelow 64) split.0 low))
 
   pub taken_without : now ≡ without_number then to
   taken_without = is ∙ (sym (without_split (take (place_in xs to) xs) (drop (place + 1) xs) to (subst AreOnce split.0 once)) ∙ ap (λ (l : List ℕ). without_number l to) (sym split.0 ∙ view))

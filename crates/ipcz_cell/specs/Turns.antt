@@ -63,7 +63,7 @@ pub record IsFirstPost (t : TableName) (p : Part) (found : List (ℕ × ℕ)) (t
 
 -- no mailbox was seen full, and none empty
 abbrev pub nothing_seen : MailSeen
-nothing_seen = record { full = replicate 8 false; empty = replicate 8 false }
+nothing_seen = record { full = replicate 64 false; empty = replicate 64 false }
 
 -- an act that is about no mailbox comes first: nothing is in hand, no mailbox to this node is full, there is none to post to, and the act
 -- is what comes first without any

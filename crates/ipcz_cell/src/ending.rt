@@ -203,7 +203,7 @@ fn read_boxes(
     mut boxes: Vec<Mail>,
 ) -> Vec<Mail>
     requires full { IsFull closed.words × IsFull closed.slots }
-    requires few { nodes ≤ 8 }
+    requires few { nodes ≤ 64 }
     requires counts { (first + nodes * nodes ≤ slots_len closed.words) × (slots_len closed.slots ≡ nodes * nodes) }
     requires hands { vec_len hands ≡ nodes }
     requires room { nodes * nodes ≤ vec_capacity boxes }

@@ -51,7 +51,7 @@ impl<F: FabricName> Model for Fabric<F> {
 }
 
 impl<F: FabricName> Fabric<F> {
-    /// How many nodes the table has: 1 to 8, numbered from 0 on.
+    /// How many nodes the table has: 1 to 64, numbered from 0 on.
     pub fn nodes(&self) -> u8
         ensures { result ≡ F.table.count }
     {

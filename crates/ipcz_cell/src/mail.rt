@@ -34,7 +34,7 @@ pub(crate) fn slot_of<F: FabricName>(fabric: &Fabric<F>, from: u8, to: u8) -> us
     requires to { to < F.table.count }
     ensures slot { result ≡ slot_of F.table from to }
     ensures inside { result < F.table.id.slots }
-    ensures few { F.table.count ≤ 8 }
+    ensures few { F.table.count ≤ 64 }
 {
     from as usize * fabric.nodes as usize + to as usize
 }
@@ -98,7 +98,7 @@ fn probe_here<F: FabricName, X: Outcome>(
     ensures done { probed (mail_word F.table node to) (slot_of F.table node to) to (mine_of seat.old.me) result (mine_of seat.new.me) }
     ensures sound { AreSound F.table.count F.table.size seat.new.me.0.view }
     ensures slots { SlotsStay seat.old.me seat.new.me }
-    ensures small { to < 8 }
+    ensures small { to < 64 }
 {
     let slot = slot_of(fabric, node, to);
     let place = place_of(fabric, slot);

@@ -55,7 +55,7 @@ impl Model for Blank {
 
 /// The table of so many nodes and link words, which shows the world at the start (`World::new`).
 ///
-/// `nodes` is 1 to 8; `words` is from the number of first pairs, `nodes * (nodes - 1) / 2`, to 2^32 - 1. The table holds all of them from
+/// `nodes` is 1 to 64; `words` is from the number of first pairs, `nodes * (nodes - 1) / 2`, to 2^32 - 1. The table holds all of them from
 /// the start, 16 bytes each. Its only refusal is `OutOfMemory`.
 ///
 /// `start(alloc, 2, 8)?.name::<F>()` gives the fabric and the two cells of such a table.
@@ -93,7 +93,7 @@ pub fn start(alloc: Global, nodes: u8, words: u32) -> Result<Blank, Refusal>
 /// A slot is used again once both its sides have let go of its number, so what is limited is how many links there are at once. Each open and
 /// each bypass takes a number, and some are passed over; none comes back, so `numbers` is how long the table lasts.
 ///
-/// `nodes` is 1 to 8; `slots` is from the number of first pairs, `nodes * (nodes - 1) / 2`, and from 1, to `numbers`. Its only refusal is
+/// `nodes` is 1 to 64; `slots` is from the number of first pairs, `nodes * (nodes - 1) / 2`, and from 1, to `numbers`. Its only refusal is
 /// `OutOfMemory`.
 ///
 /// `start_lasting(alloc, 2, 64, u64::MAX)` makes one with 64 slots.
@@ -151,7 +151,7 @@ fn fill(words: &mut Vec<u64>, more: usize, value: u64) -> Result<(), AllocError>
 
 // The words of a table at the start whose slots are used again: those behind the first pairs' are to be had.
 fn lasting_words(alloc: Global, nodes: u8, slots: u32) -> Result<Vec<u64>, AllocError>
-    requires few { nodes ≤ 8 }
+    requires few { nodes ≤ 64 }
     requires pairs { length (first_pairs nodes) ≤ slots }
     ensures { IfOk result (λ v. v.items ≡ lasting_words nodes (slots - length (first_pairs nodes))) }
 {
@@ -203,7 +203,7 @@ impl Model for Body {
 
 // The bodies of the cells of so many nodes, by number.
 fn make_bodies(alloc: Global, count: u8) -> Result<Vec<Body>, Refusal>
-    requires { count ≤ 8 }
+    requires { count ≤ 64 }
     ensures bodies { IfOk result (λ bs. AreBodies count count bs.items) }
     ensures why { IfErr result (λ e. e ≡ Refusal.OutOfMemory) }
 {

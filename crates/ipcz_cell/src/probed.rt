@@ -6,7 +6,7 @@ ghost use Rattle.ipcz_cell.specs.Cells.{place_in, AreOnce};
 use std::alloc::{AllocError, Global};
 use std::marker::Model;
 
-/// Numbers below 8, the newest first, none twice. There is room for each.
+/// Numbers below 64, the newest first, none twice. There is room for each.
 #[derive(Drop)]
 pub(crate) struct Probed {
     tos: Vec<u8>,
@@ -23,7 +23,7 @@ impl Model for Probed {
 
     ghost view = { λ a. a.tos.items };
 
-    ghost invariant = { λ a. (8 ≤ vec_capacity a.tos) × AreOnce a.tos.items × AreBelow 8 a.tos.items };
+    ghost invariant = { λ a. (64 ≤ vec_capacity a.tos) × AreOnce a.tos.items × AreBelow 64 a.tos.items };
 }
 
 impl Probed {
@@ -32,14 +32,14 @@ impl Probed {
         ensures { IfOk result (λ p. p ≡ []) }
     {
         Ok(Probed {
-            tos: Vec::with_capacity(alloc, 8)?,
+            tos: Vec::with_capacity(alloc, 64)?,
         })
     }
 
     /// How many there are.
     pub(crate) fn len(&self) -> usize
         ensures length { result ≡ length self.now }
-        ensures few { result ≤ 8 }
+        ensures few { result ≤ 64 }
     {
         self.tos.as_slice().len()
     }
@@ -64,7 +64,7 @@ impl Probed {
 
     /// Adds a number, as the first.
     pub(crate) fn add(&mut self, to: u8)
-        requires small { to < 8 }
+        requires small { to < 64 }
         requires absent { has_number self.old to ≡ false }
         ensures { self.new ≡ to ∷ self.old }
     {

@@ -1,10 +1,10 @@
 -- The first pairs, one after another.
-use Rattle.std.proofs.Common.{◌≡◌, ◌≤◌, Bool, true, false, if◌then◌else◌, nat_eq, ℕ, zero, suc, ◌+◌, ◌-◌, ◌<◌, ◌++◌, refl, ap, arith}
+use Rattle.std.proofs.Common.{◌≡◌, ◌≤◌, Bool, true, false, if◌then◌else◌, nat_eq, ℕ, zero, suc, ◌+◌, ◌-◌, ◌*◌, ◌/◌, ◌<◌, ◌++◌, length, length-append, refl, ap, arith}
 use Rattle.std.proofs.lemmas.Bool.Decides.{nat_tests}
 use Rattle.ipcz_base.specs.Limits.{no_number}
 use Rattle.ipcz_base.specs.declared.side.Side.TheVariants.{A, B}
 use Rattle.ipcz_node.specs.Node.{Node, add_end}
-use Rattle.ipcz_node.specs.FirstPairs.{pairs_from, first_pairs_from, first_pairs, add_pair, add_pairs, HasSerials}
+use Rattle.ipcz_node.specs.FirstPairs.{pairs_from, first_pairs_from, first_pairs, first_pair_count, add_pair, add_pairs, HasSerials}
 use Rattle.ipcz_node.proofs.Refiling.{number_is}
 
 before : (k : ℕ) → k ≡ suc k - 1
@@ -92,3 +92,28 @@ first_serials n count within fits = record {
   upper = λ h g. omega (arith, fits, within);
   later = λ h g. absurd (omega (arith, h, g));
 }
+
+pairs_length : (i j left : ℕ) → length (pairs_from i j left) ≡ left
+pairs_length i j zero = refl
+pairs_length i j (suc left) = omega (arith, pairs_length i (j + 1) left)
+
+square : (k : ℕ) → suc k * suc k ≡ k * k + 2 * k + 1
+square k = grind arith
+
+pairs_twice : (i n : ℕ) → 2 * length (first_pairs_from i n) + n ≡ n * n
+pairs_twice i zero = refl
+pairs_twice i (suc left) = omega (
+  arith,
+  length-append (pairs_from i (i + 1) left) (first_pairs_from (i + 1) left),
+  pairs_length i (i + 1) left,
+  pairs_twice (i + 1) left,
+  square left,
+)
+
+-- how many first pairs there are, by the number of nodes
+pub pair_count_is : (n : ℕ) → n * (n - 1) / 2 ≡ first_pair_count n
+pair_count_is zero = refl
+pair_count_is (suc k) = omega (arith, pairs_twice 0 (suc k), less)
+  where
+    less : suc k * (suc k - 1) + suc k ≡ suc k * suc k
+    less = grind arith

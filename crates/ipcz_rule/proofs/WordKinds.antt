@@ -8,7 +8,8 @@ use Rattle.ipcz_base.specs.declared.side.Side.TheVariants.{A, B}
 use Rattle.ipcz_base.specs.Sides.{opposite}
 use Rattle.ipcz_word.specs.Word.{Word, Plan, Locks, Waits, Refuses, plan_of, word_by_plan, mark, wake, unlock}
 use Rattle.ipcz_word.specs.Layout.{bits_of, word_of_bits, stable_bit, waiting_bit, locked_bit}
-use Rattle.ipcz_word.proofs.Finite.{same_below}
+use Rattle.std.proofs.lemmas.Nat.{and_assoc}
+use Rattle.ipcz_word.proofs.Bytes.{and_apart}
 use Rattle.ipcz_word.proofs.Return.{sets_return}
 use Rattle.ipcz_word.proofs.Tables.{mark_bits, wake_bits, unlock_bits}
 use Rattle.ipcz_router.specs.Router.{source_of}
@@ -35,9 +36,9 @@ unfolding word_after
 wake_fits s o x is = wake_bits s (bits_of x) is.word.small ∙ (number_alone (bits_of x) (wake (word_of_bits (bits_of x)) s) is ∙ ap (λ z. bits_of (wake z s)) (sets_return x))
 
 -- one mask clears the side's lock and bits 8 to 15
-one_mask : (s : Side) (n : ℕ) → n < 4096 → bit_and n (18446744073709486335 - locked_bit s) ≡ bit_and (bit_and n (18446744073709551615 - locked_bit s)) 255
-one_mask A n h = same_below (λ i. bit_and i (18446744073709486335 - 16)) (λ i. bit_and (bit_and i (18446744073709551615 - 16)) 255) 4096 n refl h
-one_mask B n h = same_below (λ i. bit_and i (18446744073709486335 - 32)) (λ i. bit_and (bit_and i (18446744073709551615 - 32)) 255) 4096 n refl h
+one_mask : (s : Side) (n : ℕ) → n < 32768 → bit_and n (18446744073709486335 - locked_bit s) ≡ bit_and (bit_and n (18446744073709551615 - locked_bit s)) 255
+one_mask A n h = and_apart n 239 18446744073709486319 h (omega arith) refl ∙ sym (and_assoc 255 n 18446744073709551599)
+one_mask B n h = and_apart n 223 18446744073709486303 h (omega arith) refl ∙ sym (and_assoc 255 n 18446744073709551583)
 
 unlock_fits : (s : Side) (o : Option ℕ) (x : Word) → IsLinkNumber (bits_of x) → bit_and (bits_of x) (18446744073709486335 - locked_bit s) ≡ bits_of (word_after x s o acts.Unlock)
 unfolding word_after

@@ -37,10 +37,10 @@ as_they_stand (mail ∷ boxes) (mark ∷ marks) = as_marked mark mail ∷ as_the
 abbrev pub count_full : List Mail → ℕ
 count_full mail = total_list (λ m. cond (is_full m) 1 0) mail
 
--- there are 64 mailboxes at most, each has a flag, and so many of them are full
+-- there are 4096 mailboxes at most, each has a flag, and so many of them are full
 pub record AreKept (boxes : List Mail) (marks : List Bool) (full : ℕ) : Type 0 where
-  pub few : length boxes ≤ 64
-  pub marked : length marks ≡ 64
+  pub few : length boxes ≤ 4096
+  pub marked : length marks ≡ 4096
   pub counted : full ≡ count_full (as_they_stand boxes marks)
 
 -- a message of a mailbox is delivered to a node from where it lies, or the node is as it was

@@ -22,7 +22,7 @@ use std::marker::Model;
 #[derive(Drop)]
 pub(crate) struct Mailboxes {
     boxes: Vec<Mail>,
-    marks: [bool; 64],
+    marks: [bool; 4096],
     full: usize,
 }
 
@@ -44,7 +44,7 @@ impl Model for Mailboxes {
 impl Mailboxes {
     /// So many mailboxes, each empty.
     pub(crate) fn new(alloc: Global, count: usize) -> Result<Mailboxes, AllocError>
-        requires { count ≤ 64 }
+        requires { count ≤ 4096 }
         ensures { IfOk result (λ mail. mail ≡ replicate count Mail.Empty) }
     {
         let mut boxes = Vec::new(alloc);
@@ -53,20 +53,20 @@ impl Mailboxes {
         }
         Ok(Mailboxes {
             boxes,
-            marks: [false; 64],
+            marks: [false; 4096],
             full: 0,
         })
     }
 
     /// These mailboxes, by number.
     pub(crate) fn of(boxes: Vec<Mail>) -> Mailboxes
-        requires { length boxes.items ≤ 64 }
+        requires { length boxes.items ≤ 4096 }
         ensures { result ≡ boxes.items }
     {
         let full = count_full(boxes.as_slice());
         Mailboxes {
             boxes,
-            marks: [false; 64],
+            marks: [false; 4096],
             full,
         }
     }
@@ -220,7 +220,7 @@ impl Mailboxes {
 
 // How many of these are full.
 fn count_full(boxes: &[Mail]) -> usize
-    requires { length boxes.now ≤ 64 }
+    requires { length boxes.now ≤ 4096 }
     ensures { result ≡ count_full boxes.now }
 {
     let mut sum = 0;

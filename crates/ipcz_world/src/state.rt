@@ -89,7 +89,7 @@ impl State {
         requires words { IsTable words.items claimed }
         requires empty { AreUnclaimedEmpty (map word_of_bits words.items) claimed }
         requires nodes { length nodes.items ≤ 255 }
-        requires mail { length mail.items ≤ 64 }
+        requires mail { length mail.items ≤ 4096 }
         ensures { result ≡ world_of_parts (map (λ k. k.node) nodes.items) mail.items (map word_of_bits words.items) claimed }
     {
         let alloc = *nodes.allocator();

@@ -49,14 +49,39 @@ const C1: LinkId = LinkId::Central(1);
 
 const C2: LinkId = LinkId::Central(2);
 
+/// What a node has seen of the mailboxes of the first eight nodes. Of the others it has seen none that is full or empty.
+#[derive(Clone, Copy)]
+struct Sight {
+    full: [bool; 8],
+    empty: [bool; 8],
+}
+
+impl Sight {
+    fn mail(self) -> MailSeen {
+        MailSeen {
+            full: of_all(self.full),
+            empty: of_all(self.empty),
+        }
+    }
+}
+
+// What is so of the first eight, and not of the others.
+fn of_all(eight: [bool; 8]) -> [bool; 64] {
+    let mut all = [false; 64];
+    for (place, seen) in all.iter_mut().zip(eight.iter()) {
+        *place = *seen;
+    }
+    all
+}
+
 /// No message has come, and each message can be posted.
-const CLEAR: MailSeen = MailSeen {
+const CLEAR: Sight = Sight {
     full: [false; 8],
     empty: [true; 8],
 };
 
 /// No message has come, and none can be posted.
-const JAMMED: MailSeen = MailSeen {
+const JAMMED: Sight = Sight {
     full: [false; 8],
     empty: [false; 8],
 };
@@ -81,7 +106,7 @@ enum Step {
     /// Whether callers hold an end.
     Holds(End, bool),
     /// The mailboxes are seen so from now on.
-    See(MailSeen),
+    See(Sight),
     /// The first possible act.
     First(Act),
     /// Does the first possible act, with the answer of the words that is told.
@@ -125,7 +150,7 @@ enum Step {
 struct Trial {
     node: NodeState,
     alloc: Global,
-    seen: MailSeen,
+    seen: Sight,
     posted: Option<Message>,
 }
 
@@ -324,7 +349,7 @@ impl Trial {
                 self.seen = *seen;
                 true
             }
-            Step::First(act) => self.node.next(&self.seen) == *act,
+            Step::First(act) => self.node.next(&self.seen.mail()) == *act,
             Step::Turn(deed) => self.turns(deed),
             Step::Unlock(word) => self.unlocks(*word),
             Step::Posted(letter) => self.has_posted(letter),

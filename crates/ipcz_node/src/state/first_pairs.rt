@@ -14,10 +14,10 @@ impl NodeState {
     /// The node of a number among so many, with its ends of the first pairs: one pair for each two nodes, numbered in the
     /// order of their nodes, side A at the lower one. Callers hold them.
     ///
-    /// `count` is 1 to 8, and `number` is below it. Its only refusal is `OutOfMemory`.
+    /// `count` is 1 to 64, and `number` is below it. Its only refusal is `OutOfMemory`.
     #[tactic(auto, unfolding(crate::specs::FirstPairs::new_node))]
     pub fn new(alloc: Global, number: u8, count: u8) -> Result<Self, Refusal>
-        requires within { (number < count) × (count ≤ 8) }
+        requires within { (number < count) × (count ≤ 64) }
         ensures ok { IfOk result (λ s. s.node ≡ new_node number count) }
         ensures why { IfErr result (λ e. e ≡ Refusal.OutOfMemory) }
     {
@@ -30,7 +30,7 @@ impl NodeState {
     /// The routers of the first pairs, one for each other node, have serials below u64::MAX. Its only refusal is `OutOfMemory`.
     #[tactic(auto, using(crate::proofs::FirstPairs::first_row, crate::proofs::FirstPairs::first_serials))]
     pub fn new_from(alloc: Global, number: u8, count: u8, first: u64) -> Result<Self, Refusal>
-        requires within { (number < count) × (count ≤ 8) }
+        requires within { (number < count) × (count ≤ 64) }
         requires serials { first + count ≤ no_number + 1 }
         ensures ok { IfOk result (λ s. s.node ≡ new_node_from number count first) }
         ensures why { IfErr result (λ e. e ≡ Refusal.OutOfMemory) }
@@ -71,8 +71,8 @@ impl NodeState {
     #[tactic(auto, using(crate::proofs::FirstPairs::next_pair, crate::proofs::FirstPairs::next_row, crate::proofs::FirstPairs::no_pairs, crate::proofs::FirstPairs::next_serials, crate::proofs::FirstPairs::row_serials, crate::proofs::FirstPairs::pair_serial))]
     fn add_pairs(&mut self, i: u8, j: u8, left: u8, rows: u8, pair: u64) -> Result<(), AllocError>
         requires row { i < j }
-        requires nodes { (j + left ≡ i + 1 + rows) × (j + left ≤ 8) }
-        requires pairs { pair ≤ 8 * i + j }
+        requires nodes { (j + left ≡ i + 1 + rows) × (j + left ≤ 64) }
+        requires pairs { pair ≤ 64 * i + j }
         requires serials { HasSerials self.old.node i j left rows }
         ensures { OnOk result (self.new.node ≡ add_pairs self.old.node pair (pairs_from i j left ++ first_pairs_from (i + 1) rows)) }
     {
@@ -106,19 +106,11 @@ impl NodeState {
 
 /// How many first pairs so many nodes have: each node has one with each of those behind it.
 ///
-/// `nodes` is at most 8.
+/// So `first_pair_count(4)` is 6.
+#[tactic(auto, using(crate::proofs::FirstPairs::pair_count_is))]
 pub fn first_pair_count(nodes: u8) -> u32
-    requires { nodes ≤ 8 }
     ensures { result ≡ first_pair_count nodes }
 {
-    match nodes {
-        0 | 1 => 0,
-        2 => 1,
-        3 => 3,
-        4 => 6,
-        5 => 10,
-        6 => 15,
-        7 => 21,
-        _ => 28,
-    }
+    let count = u32::from(nodes);
+    count * count.saturating_sub(1) / 2
 }

@@ -103,7 +103,7 @@ impl NodeState {
 }
 
 // Whether the mailbox of a node was seen so.
-fn was_seen(mailboxes: &[bool; 8], node: u8) -> bool
+fn was_seen(mailboxes: &[bool; 64], node: u8) -> bool
     ensures { result ≡ place_at false mailboxes.now node }
 {
     match mailboxes.get(usize::from(node)) {

@@ -189,15 +189,19 @@ length-same : (n : ℕ) → length (replicate n Empty) ≡ n
 length-same zero = refl
 length-same (suc n) = ap suc (length-same n)
 
-pub empty-kept : (n : ℕ) → n ≤ 64 → AreKept (replicate n Empty) (replicate 64 false) 0
+flags : (n : ℕ) → length (replicate n false) ≡ n
+flags zero = refl
+flags (suc n) = ap suc (flags n)
+
+pub empty-kept : (n : ℕ) → n ≤ 4096 → AreKept (replicate n Empty) (replicate 4096 false) 0
 empty-kept n l = record {
   few = let e = length-same n in omega (arith, e, l);
-  marked = refl;
-  counted = sym (ap count_full (stand-empty n (replicate 64 false)) ∙ count-empty n);
+  marked = flags 4096;
+  counted = sym (ap count_full (stand-empty n (replicate 4096 false)) ∙ count-empty n);
 }
 
-pub given-kept : (ms : List Mail) (full : ℕ) → length ms ≤ 64 → full ≡ count_full ms → AreKept ms (replicate 64 false) full
-given-kept ms full l e = record { few = l; marked = refl; counted = e ∙ sym (ap count_full (stand-unmarked ms 64)) }
+pub given-kept : (ms : List Mail) (full : ℕ) → length ms ≤ 4096 → full ≡ count_full ms → AreKept ms (replicate 4096 false) full
+given-kept ms full l e = record { few = l; marked = flags 4096; counted = e ∙ sym (ap count_full (stand-unmarked ms 4096)) }
 
 -- the mailboxes as they stand after code has written
 length-written : {X : Type 0} (d : X) (xs : List X) (k : ℕ) (y : X) → k < length xs → length (set xs k y) ≡ length xs
@@ -300,7 +304,7 @@ unfolding is_full
 full-full m = refl
 
 -- how many are full, at most and at least
-pub full-most : (ms : List Mail) (hs : List Bool) (full : ℕ) → AreKept ms hs full → full ≤ 64
+pub full-most : (ms : List Mail) (hs : List Bool) (full : ℕ) → AreKept ms hs full → full ≤ 4096
 full-most ms hs full kept = omega (arith, kept.counted, count-most (as_they_stand ms hs), length-stand ms hs, kept.few)
 
 pub full-least : (ms : List Mail) (hs : List Bool) (now : List Mail) (k full : ℕ) → AreKept ms hs full → as_they_stand ms hs ≡ now →

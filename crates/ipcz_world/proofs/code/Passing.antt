@@ -88,7 +88,7 @@ module _ (x : Node) (serial : ℕ) (link : LinkEnd) (sends : SendsNext x serial 
       ∙ ap (λ c. cond c (outbox x link.other ++ sent_message ∷ []) (outbox x i)) other ∙ empty-for i)
 
   -- once it is posted the outboxes are as they were
-  pub posted : link.other < 8 → commit waiting_node (acts.Post link.other) Plain ≡ sent_node
+  pub posted : link.other < node_limit → commit waiting_node (acts.Post link.other) Plain ≡ sent_node
   unfolding commit rest_of
   posted l = λ j. record sent_node {
     outboxes = (put-twice [] x.outboxes link.other (outbox x link.other ++ sent_message ∷ []) (rest_of (outbox waiting_node link.other))

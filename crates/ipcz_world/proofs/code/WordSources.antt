@@ -190,13 +190,13 @@ bits_at-most bit s = go (has s A) (has s B)
     go false true = omega (arith)
     go false false = omega (arith)
 
-source_bits-most : (source : Option ℕ) → HasNode source → source_bits source ≤ 8
+source_bits-most : (source : Option ℕ) → HasNode source → source_bits source ≤ 64
 unfolding source_bits
 source_bits-most None named = omega (arith)
 source_bits-most (Some node) named = omega (arith, named)
 
 -- a word that names a node has a number below 4096
-pub named-small : (x : Word) → HasNode x.source → bits_of x < 4096
+pub named-small : (x : Word) → HasNode x.source → bits_of x < 32768
 unfolding bits_of sets_bits
 named-small x named = omega (
   arith,

@@ -218,7 +218,7 @@ fn unlock(node: &mut NodeState, seen: &MailSeen, word: u64) -> Option<Happened> 
 impl Trial {
     /// Takes a turn; whether it does this.
     pub(super) fn turns(&mut self, deed: &Deed) -> bool {
-        let Ok((event, posted)) = take(&mut self.node, &self.seen, deed.answer()) else {
+        let Ok((event, posted)) = take(&mut self.node, &self.seen.mail(), deed.answer()) else {
             return false;
         };
         if posted.is_some() {
@@ -229,13 +229,13 @@ impl Trial {
 
     /// Why a turn is refused, if it is.
     pub(super) fn turn_refusal(&mut self) -> Option<Refusal> {
-        take(&mut self.node, &self.seen, Answer::Plain).err()
+        take(&mut self.node, &self.seen.mail(), Answer::Plain).err()
     }
 
     /// Gives the lock back in place of the begin or the retire that comes first; whether the word
     /// after it is told.
     pub(super) fn unlocks(&mut self, word: u64) -> bool {
-        let event = unlock(&mut self.node, &self.seen, word);
+        let event = unlock(&mut self.node, &self.seen.mail(), word);
         matches!(event, Some(Happened::Unlock(_, _, after)) if after == word)
     }
 }

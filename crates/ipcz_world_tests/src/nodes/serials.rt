@@ -7,10 +7,10 @@ use super::Step::{
 use super::aside::{Aside, Run, all_go_aside};
 use super::deeds::Deed::{ClaimNoWord, Look, Post, Rest, SendIn, SendOut};
 use super::letters::Letter::{Flush, Parcel};
-use super::{A0, A1, B0, B1, C0, C1, CLEAR, Step, Trial};
+use super::{A0, A1, B0, B1, C0, C1, CLEAR, Sight, Step, Trial};
 use ipcz_base::Side::{A, B};
 use ipcz_base::{Descriptor, End, LinkId, Refusal};
-use ipcz_node::{Act, MailSeen};
+use ipcz_node::Act;
 use ipcz_router::act::RouterAct;
 use std::alloc::Global;
 use std::test::Fail;
@@ -66,7 +66,7 @@ const MOVED_5A: Descriptor = Descriptor {
 };
 
 // A message from node 1 has come.
-const MAIL: MailSeen = MailSeen {
+const MAIL: Sight = Sight {
     full: [false, true, false, false, false, false, false, false],
     empty: [true; 8],
 };

@@ -3,9 +3,9 @@
 use super::Step::{Close, Deliver, First, Get, Holds, Open, Posted, Put, Quiet, Return, See, Turn};
 use super::deeds::Deed::{self, Discard, Idle, Look, Post, Rest, SendOut};
 use super::letters::Letter;
-use super::{A0, A1, B0, B1, C0, C1, C2, CLEAR, JAMMED, Step, all_go};
+use super::{A0, A1, B0, B1, C0, C1, C2, CLEAR, JAMMED, Sight, Step, all_go};
 use ipcz_base::{End, Refusal, Side};
-use ipcz_node::{Act, MailSeen};
+use ipcz_node::Act;
 use ipcz_router::act::RouterAct;
 use std::test::Fail;
 
@@ -15,45 +15,45 @@ const A2: End = End {
 };
 
 // A message has come from each node, there or not.
-const ALL_COME: MailSeen = MailSeen {
+const ALL_COME: Sight = Sight {
     full: [true; 8],
     empty: [true; 8],
 };
 
 // Messages have come from nodes 1 and 2, and none can be posted.
-const FROM_1_AND_2: MailSeen = MailSeen {
+const FROM_1_AND_2: Sight = Sight {
     full: [false, true, true, false, false, false, false, false],
     empty: [false; 8],
 };
 
-const FROM_0_AND_2: MailSeen = MailSeen {
+const FROM_0_AND_2: Sight = Sight {
     full: [true, false, true, false, false, false, false, false],
     empty: [false; 8],
 };
 
-const FROM_2: MailSeen = MailSeen {
+const FROM_2: Sight = Sight {
     full: [false, false, true, false, false, false, false, false],
     empty: [false; 8],
 };
 
 // Messages of nodes that aren't there.
-const FROM_3_AND_7: MailSeen = MailSeen {
+const FROM_3_AND_7: Sight = Sight {
     full: [false, false, false, true, false, false, false, true],
     empty: [false; 8],
 };
 
 // Messages can be posted only to nodes 1 and 2, and none has come.
-const TO_1_AND_2: MailSeen = MailSeen {
+const TO_1_AND_2: Sight = Sight {
     full: [false; 8],
     empty: [false, true, true, false, false, false, false, false],
 };
 
-const TO_1: MailSeen = MailSeen {
+const TO_1: Sight = Sight {
     full: [false; 8],
     empty: [false, true, false, false, false, false, false, false],
 };
 
-const TO_3_AND_7: MailSeen = MailSeen {
+const TO_3_AND_7: Sight = Sight {
     full: [false; 8],
     empty: [false, false, false, true, false, false, false, true],
 };

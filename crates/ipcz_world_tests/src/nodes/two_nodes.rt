@@ -74,7 +74,7 @@ impl Words {
         requires { IsWord at.word }
         ensures { IsAnswerOf RouterAct.Lock result }
     {
-        match try_lock(at.word, at.side, one_of_eight(source)) {
+        match try_lock(at.word, at.side, one_of_all(source)) {
             LockPlan::Lock(word) => Answer::Locked(self.set(at, word)),
             LockPlan::Wait(word) => Answer::Waiting(self.set(at, word)),
             LockPlan::Refused => Answer::Refused(at.word),
@@ -109,11 +109,11 @@ impl Words {
 }
 
 // The number of a node.
-fn one_of_eight(number: Option<u8>) -> Option<u8>
+fn one_of_all(number: Option<u8>) -> Option<u8>
     ensures { HasNode result }
 {
     match number {
-        Some(n) if n < 8 => Some(n),
+        Some(n) if n < 64 => Some(n),
         _ => None,
     }
 }
@@ -149,7 +149,7 @@ impl Mail {
 
     // The mailboxes as a node sees them.
     fn seen(&self, n: u8) -> MailSeen {
-        let mut seen = super::JAMMED;
+        let mut seen = super::JAMMED.mail();
         for other in 0..2u8 {
             seen.full[other as usize] = self.is_full(other, n);
             seen.empty[other as usize] = !self.is_full(n, other);

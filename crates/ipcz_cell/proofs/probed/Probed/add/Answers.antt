@@ -7,7 +7,7 @@ pub unreachable-requires : goal.unreachable-requires
 unreachable-requires c =
     let inv = c.self.invariant in
     let full = c.in_default.ensures.full in
-    let some = fewer 8 c.args.to c.self.inside.tos.items inv.1 inv.2 c.requires.small (subst (λ (l : List ℕ). has_number l c.args.to ≡ false) (sym c.self.view_is) c.requires.absent) in
+    let some = fewer 64 c.args.to c.self.inside.tos.items inv.1 inv.2 c.requires.small (subst (λ (l : List ℕ). has_number l c.args.to ≡ false) (sym c.self.view_is) c.requires.absent) in
     let room = inv.0 in
     let is = c.as_slice-all.ensures.value in
     let len = c.as_slice-all.ensures.len in

@@ -5,6 +5,6 @@ use Rattle.ipcz_cell.proofs.probed.Probed.len.Goals as goal
 pub returns-clause-few : goal.returns-clause-few
 returns-clause-few c =
     let inv = c.self.invariant in
-    let most = few 8 c.self.inside.tos.items inv.1 inv.2 in
+    let most = few 64 c.self.inside.tos.items inv.1 inv.2 in
     let is = ap (λ (l : List ℕ). length l) c.as_slice.ensures.value in
     omega (arith, most, is)

@@ -8,4 +8,4 @@ invariant_of-result c =
     given-kept c.args.boxes.items _ c.requires (c.count_full-full.ensures ∙ ap count_full c.as_slice.ensures.value)
 
 pub returns : goal.returns
-returns c = stand-unmarked c.args.boxes.items 64
+returns c = stand-unmarked c.args.boxes.items 4096
