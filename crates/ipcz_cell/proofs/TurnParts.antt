@@ -87,20 +87,20 @@ abbrev refusal_in : Refusal → Result ℕ Refusal → Refusal
 refusal_in d (Ok n) = d
 refusal_in d (Err why) = why
 
-pub claim_acts : (t : TableName) (serial word count : ℕ) (old new : CellState) → IsPossibleAct old.part.state (acts.Router serial router_acts.Claim) → word ≡ count → Answered t serial old new (Ok count) →
+pub claim_acts : (t : TableName) (serial word : ℕ) (old new : CellState) → IsPossibleAct old.part.state (acts.Router serial router_acts.Claim) → Answered t serial old new (Ok word) →
     Acts t (acts.Router serial router_acts.Claim) old (Ok (events.Claim serial word)) new
 unfolding word_event
-claim_acts t serial word count old new may is (Claimed c n e number reached part seen) =
-    let same : word ≡ n = is ∙ ap (number_in 0) e in
+claim_acts t serial word old new may (Claimed c n e number reached part seen) =
+    let same : word ≡ n = ap (number_in 0) e in
     acts_whole t (acts.Router serial router_acts.Claim) old new (events.Claim serial word) ((t.size, c) ∷ (t.size, n) ∷ []) (seen ∙ seen_two old.seen (t.size, c) (t.size, n)) (λ k e low. cc) (record {
       answer = answers.Claimed n;
       answered = Got c n number refl refl;
       part = part;
       event_is = claim_event old.part.state serial (answers.Claimed n) (events.Claim serial word) may (λ r. ap (events.Claim serial) same);
     })
-claim_acts t serial word count old new may is (WasDry e part seen) = cc
-claim_acts t serial word count old new may is (HadNoSlot c e again less part seen none) = cc
-claim_acts t serial word count old new may is (WasLost n found e other part seen) = cc
+claim_acts t serial word old new may (WasDry e part seen) = cc
+claim_acts t serial word old new may (HadNoSlot c e again less part seen none) = cc
+claim_acts t serial word old new may (WasLost n found e other part seen) = cc
 
 pub claim_dries : (t : TableName) (serial : ℕ) (old new : CellState) (why : Refusal) → why ≡ refusals.NoWord → IsPossibleAct old.part.state (acts.Router serial router_acts.Claim) → Answered t serial old new (Err why) →
     Acts t (acts.Router serial router_acts.Claim) old (Ok (events.ClaimNoWord serial)) new
@@ -132,13 +132,6 @@ claim_lost t serial old new why not (WasLost n found e other part seen) = record
   looks = λ k e low. cc;
   outcome = (part, LostIt (ap (refusal_in why) e) (n, found, other, refl));
 }
-
--- what was claimed is one of the table's words
-pub claim_below : (t : TableName) (serial count : ℕ) (old new : CellState) → Answered t serial old new (Ok count) → count < t.size
-claim_below t serial count old new (Claimed c n e number reached part seen) = let same : count ≡ n = ap (number_in 0) e in let low = number.below in omega (arith, same, low)
-claim_below t serial count old new (WasDry e part seen) = cc
-claim_below t serial count old new (HadNoSlot c e again less part seen none) = cc
-claim_below t serial count old new (WasLost n found e other part seen) = cc
 
 -- an act that was lost to another thread ends with a load and an exchange of one word
 ends_with : (t : TableName) (p : Part) (loads found before : Seen) (word n m : ℕ) → IsWaitedFor t.count t.size p word n → m ≢ n → loads ≡ before ++ (word, n) ∷ [] →

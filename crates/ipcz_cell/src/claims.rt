@@ -82,7 +82,7 @@ impl<F: FabricName> NodeCell<F> {
     {
         claim_ready(&mut self.state, serial);
         let found = count_here::<F, Brand>(&mut self.seat, fabric, serial);
-        if found == u64::from(fabric.words) {
+        if found == fabric.words {
             commit_word(&mut self.state, serial, RouterAct::Claim, Answer::NoWord);
             return Err(Refusal::NoWord);
         }
@@ -103,6 +103,6 @@ impl<F: FabricName> NodeCell<F> {
             RouterAct::Claim,
             Answer::Claimed(number),
         );
-        Ok(u64::from(number))
+        Ok(number)
     }
 }

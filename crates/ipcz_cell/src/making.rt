@@ -70,7 +70,7 @@ pub fn start(alloc: Global, nodes: u8, words: u32) -> Result<Blank, Refusal>
     let boxes = usize::from(nodes) * usize::from(nodes);
     let size = Size {
         nodes,
-        words: u64::from(words),
+        words: words as u64,
         slots: words,
         reuses: false,
     };
@@ -81,7 +81,7 @@ pub fn start(alloc: Global, nodes: u8, words: u32) -> Result<Blank, Refusal>
         table,
         seat,
         nodes,
-        words: u64::from(words),
+        words: words as u64,
         slots: words,
         reuses: false,
         alloc,

@@ -245,6 +245,7 @@ pub(crate) fn claim_step<F: FabricName, X: Outcome>(
     number: u64,
 ) -> u64
     requires own { seat.old.table_id ≡ F.table.id }
+    requires below { number < F.table.size }
     requires may { MayClaim F.table seat.old.id seat.old.me count number X.tells }
     ensures table { seat.new.table_id ≡ seat.old.table_id }
     ensures kept { seat.new.id ≡ seat.old.id }
@@ -252,11 +253,12 @@ pub(crate) fn claim_step<F: FabricName, X: Outcome>(
     ensures sound { AreSound F.table.count F.table.size seat.new.me.0.view }
     ensures slots { MatchBool (eqb result count) (HasNoSlots seat.new.me.0) (SlotsStay seat.old.me seat.new.me) }
 {
-    let next = u64::from(number) + 1;
+    let place = fabric.slots as usize;
+    let next = number + 1;
     fabric
         .table
         .shared
-        .compare_exchange::<Counts<F, X>>(seat, fabric.slots as usize, count, next)
+        .compare_exchange::<Counts<F, X>>(seat, place, count, next)
 }
 
 /// A new seat gets the first part of a view, and no slot.

@@ -66,7 +66,7 @@ impl<F: FabricName> NodeCell<F> {
         ensures { FindsNumber F.table self.old result self.new }
     {
         let count = self.load_count(fabric);
-        if count == u64::from(fabric.words) {
+        if count == fabric.words {
             return false;
         }
         let Some(number) = number_at(&mut self.seat, fabric, count) else {

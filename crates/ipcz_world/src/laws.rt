@@ -29,7 +29,7 @@ pub fn the_theorem_holds_after_every_run()
     ensures { TheTheoremHolds }
 {}
 
-/// The world at the start, with 1 to 8 nodes and words enough for the first pairs (2^32 - 1 at most), is lawful with empty books and the
+/// The world at the start, with 1 to 8 nodes and words enough for the first pairs (2^64 - 1 at most), is lawful with empty books and the
 /// routes of the first pairs.
 pub fn the_world_at_the_start_is_lawful()
     ensures { StartsLawful }

@@ -52,7 +52,7 @@ impl LinkWords {
         }
         Ok(LinkWords {
             bits,
-            size: u64::from(words),
+            size: words as u64,
         })
     }
 

@@ -5,13 +5,6 @@ use Rattle.ipcz_cell.proofs.BoxesRead.{read_at}
 use Rattle.ipcz_cell.proofs.Unfolding.{whole_sized, whole_table, whole_comes_back}
 use Rattle.ipcz_cell.proofs.ending.close.Goals as goal
 
-pub overflow_cast-claimed : goal.overflow_cast-claimed
-overflow_cast-claimed c =
-    let b = c.read_words-bits.ensures in
-    let last = whole_sized _ _ _ _ _ _ _ _ _ _ c.requires.size.0 c.requires.size.1 c.requires.size.2 c.requires.size.3 c.close_with-closed.ensures.values.2 in
-    let t = whole_table c.args.nodes c.args.words _ _ _ _ last c.requires.all _ b.many b.read c.word-claimed.result (sym (read_at (slots_items c.close_with-closed.result.words) c.args.words _ c.word-claimed.ensures)) c.requires.laid.limits in
-    let few = t.few in let claimed = t.claimed in omega (arith, few, claimed)
-
 pub of_parts-requires-clause-words : goal.of_parts-requires-clause-words
 of_parts-requires-clause-words c =
     let b = c.read_words-bits.ensures in

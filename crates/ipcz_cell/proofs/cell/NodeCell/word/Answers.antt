@@ -2,11 +2,11 @@ use Rattle.std.proofs.Common.{[], ◌∷◌, ◌++◌, ap, sym, ◌∙◌, arith
 use Rattle.ipcz_cell.proofs.Unfolding.{shown_word}
 use Rattle.ipcz_cell.proofs.cell.NodeCell.word.Goals as goal
 
-pub returns-then-count-from : goal.returns-then-count-from
-returns-then-count-from g c =
+pub returns-then-count-i : goal.returns-then-count-i
+returns-then-count-i g c =
     let count = c.load_count-count.ensures in
     shown_word _ _ _ (sym c.fabric.invariant.9 ∙ c.if-fabric.false)
-    (c.load_count-count.result, count.most, count.reached, ((let less = c.if-count-from.true in let is = c.from.ensures in omega (arith, less, is)), count.seen))
+    (c.load_count-count.result, count.most, count.reached, (c.if-count-i.true, count.seen))
 
 pub returns : goal.returns
 returns g c =
@@ -17,7 +17,7 @@ returns g c =
       count.most,
       count.reached,
       (
-        (let more = c.if-count-from.false in let is = c.from.ensures in omega (arith, more, is)),
+        (let more = c.if-count-i.false in omega (arith, more)),
         word.word,
         word.seen.part ∙ count.seen.part,
         word.seen.room ∙ count.seen.room,

@@ -27,8 +27,8 @@ invariant_of-self g c =
     let n = c.count_here-found.result in
     let me = (mine_of c.self.inside.seat.me) in
     let loaded = c.count_here-found.ensures in
-    let words = c.from.ensures ∙ c.fabric.invariant.4 in
-    let hit = told_hit n t.size _ _ (c.if-found-from.true ∙ words) loaded.done.2 in (
+    let words = c.fabric.invariant.4 in
+    let hit = told_hit n t.size _ _ (c.if-found-fabric.true ∙ words) loaded.done.2 in (
       claimed_cell t _ _ _ _ me was _ (mine_of c.count_here-found.new.seat.me) loaded.table loaded.sound c.commit_word.new.state.node c.args.serial (me.0.seen ++ (t.size, n) ∷ []) answers.NoWord hit
           (c.commit_word.ensures ∙ ap (λ (z : Node). commit z (acts.Router c.args.serial router_acts.Claim) answers.NoWord) c.claim_ready.ensures.node),
       none_then c.count_here-found.ensures.slots c.self.invariant.1,
@@ -47,8 +47,8 @@ dry_here-requires-clause-can g c =
     let n = c.count_here-found.result in
     let me = (mine_of c.self.inside.seat.me) in
     let loaded = c.count_here-found.ensures in
-    let words = c.from.ensures ∙ c.fabric.invariant.4 in
-    let seen = told_miss n t.size _ _ (λ e. c.if-found-from.false (e ∙ sym words)) loaded.done.2 in
+    let words = c.fabric.invariant.4 in
+    let seen = told_miss n t.size _ _ (λ e. c.if-found-fabric.false (e ∙ sym words)) loaded.done.2 in
     let here = c.number_at.ensures.me ∙ seen in
     subst (λ (m : Mine). CanClaim (part_in m.0).state c.args.serial) (sym here) (subst (λ (z : Node). CanClaim z c.args.serial) (sym was.seated.state) c.claim_ready.ensures.can)
 
@@ -59,8 +59,8 @@ invariant_of-self-in_default g c =
     let n = c.count_here-found.result in
     let me = (mine_of c.self.inside.seat.me) in
     let loaded = c.count_here-found.ensures in
-    let words = c.from.ensures ∙ c.fabric.invariant.4 in
-    let seen = told_miss n t.size _ _ (λ e. c.if-found-from.false (e ∙ sym words)) loaded.done.2 in
+    let words = c.fabric.invariant.4 in
+    let seen = told_miss n t.size _ _ (λ e. c.if-found-fabric.false (e ∙ sym words)) loaded.done.2 in
     let here = c.number_at.ensures.me ∙ seen in
     let dried = c.dry_here.ensures in
     let done = dried.done ∙ ap (λ (m : Mine). (change_part (act_part (acts.Router c.args.serial router_acts.Claim) answers.NoWord) m.0, m.1)) here in (
@@ -76,12 +76,12 @@ returns-in_default g c =
     let n = c.count_here-found.result in
     let me = (mine_of c.self.inside.seat.me) in
     let loaded = c.count_here-found.ensures in
-    let words = c.from.ensures ∙ c.fabric.invariant.4 in
-    let seen = told_miss n t.size _ _ (λ e. c.if-found-from.false (e ∙ sym words)) loaded.done.2 in
+    let words = c.fabric.invariant.4 in
+    let seen = told_miss n t.size _ _ (λ e. c.if-found-fabric.false (e ∙ sym words)) loaded.done.2 in
     let here = c.number_at.ensures.me ∙ seen in
     let done = c.dry_here.ensures.done ∙ ap (λ (m : Mine). (change_part (act_part (acts.Router c.args.serial router_acts.Claim) answers.NoWord) m.0, m.1)) here in
     let most = loaded.done.0 in
-    let other = (λ (e : n ≡ t.size). c.if-found-from.false (e ∙ sym words)) in
+    let other = (λ (e : n ≡ t.size). c.if-found-fabric.false (e ∙ sym words)) in
     let why = if_none c.number_at.result _ c.in_default.is c.number_at.ensures.why in
     Slotless n refl (reuses_if t.reuses (λ e. sym (ap is_some c.in_default.is) ∙ c.number_at.ensures.order e)) (omega (arith, most, other))
     (ap (λ (m : Mine). part_in m.0) done ∙ ap (λ (o : CellState). act_part (acts.Router c.args.serial router_acts.Claim) answers.NoWord o.part) c.self.view_is)
@@ -96,8 +96,8 @@ claim_here-now-requires-clause-can g c =
     let n = c.count_here-found.result in
     let me = (mine_of c.self.inside.seat.me) in
     let loaded = c.count_here-found.ensures in
-    let words = c.from.ensures ∙ c.fabric.invariant.4 in
-    let seen = told_miss n t.size _ _ (λ e. c.if-found-from.false (e ∙ sym words)) loaded.done.2 in
+    let words = c.fabric.invariant.4 in
+    let seen = told_miss n t.size _ _ (λ e. c.if-found-fabric.false (e ∙ sym words)) loaded.done.2 in
     let here = c.number_at.ensures.me ∙ seen in
     subst (λ (m : Mine). CanClaim (part_in m.0).state c.args.serial) (sym here) (subst (λ (z : Node). CanClaim z c.args.serial) (sym was.seated.state) c.claim_ready.ensures.can)
 
@@ -108,8 +108,8 @@ invariant_of-self-then-now-found g c =
     let n = c.count_here-found.result in
     let me = (mine_of c.self.inside.seat.me) in
     let loaded = c.count_here-found.ensures in
-    let words = c.from.ensures ∙ c.fabric.invariant.4 in
-    let seen = told_miss n t.size _ _ (λ e. c.if-found-from.false (e ∙ sym words)) loaded.done.2 in
+    let words = c.fabric.invariant.4 in
+    let seen = told_miss n t.size _ _ (λ e. c.if-found-fabric.false (e ∙ sym words)) loaded.done.2 in
     let here = c.number_at.ensures.me ∙ seen in
     let now = c.claim_here-now.result in
     let claim = c.claim_here-now.ensures in
@@ -126,8 +126,8 @@ returns-then-now-found g c =
     let n = c.count_here-found.result in
     let me = (mine_of c.self.inside.seat.me) in
     let loaded = c.count_here-found.ensures in
-    let words = c.from.ensures ∙ c.fabric.invariant.4 in
-    let seen = told_miss n t.size _ _ (λ e. c.if-found-from.false (e ∙ sym words)) loaded.done.2 in
+    let words = c.fabric.invariant.4 in
+    let seen = told_miss n t.size _ _ (λ e. c.if-found-fabric.false (e ∙ sym words)) loaded.done.2 in
     let here = c.number_at.ensures.me ∙ seen in
     let now = c.claim_here-now.result in
     let miss = told_miss now n _ _ c.if-now-found.true c.claim_here-now.ensures.done in
@@ -142,8 +142,8 @@ invariant_of-self-2 g c =
     let n = c.count_here-found.result in
     let me = (mine_of c.self.inside.seat.me) in
     let loaded = c.count_here-found.ensures in
-    let words = c.from.ensures ∙ c.fabric.invariant.4 in
-    let seen = told_miss n t.size _ _ (λ e. c.if-found-from.false (e ∙ sym words)) loaded.done.2 in
+    let words = c.fabric.invariant.4 in
+    let seen = told_miss n t.size _ _ (λ e. c.if-found-fabric.false (e ∙ sym words)) loaded.done.2 in
     let here = c.number_at.ensures.me ∙ seen in
     let now = c.claim_here-now.result in
     let number = c.in-Some.number in
@@ -161,13 +161,13 @@ returns g c =
     let n = c.count_here-found.result in
     let me = (mine_of c.self.inside.seat.me) in
     let loaded = c.count_here-found.ensures in
-    let words = c.from.ensures ∙ c.fabric.invariant.4 in
-    let seen = told_miss n t.size _ _ (λ e. c.if-found-from.false (e ∙ sym words)) loaded.done.2 in
+    let words = c.fabric.invariant.4 in
+    let seen = told_miss n t.size _ _ (λ e. c.if-found-fabric.false (e ∙ sym words)) loaded.done.2 in
     let here = c.number_at.ensures.me ∙ seen in
     let now = c.claim_here-now.result in
     let number = c.in-Some.number in
     let hit = told_hit now n _ _ c.if-now-found.false c.claim_here-now.ensures.done in
     let done = hit ∙ ap (λ (m : Mine). (change_part (act_part (acts.Router c.args.serial router_acts.Claim) (answers.Claimed number)) (saw t.size number m.0), m.1)) here in
     let reached = subst (λ (o : CellState). AreReached t.size o.seen n) c.self.view_is loaded.done.1 in
-    Got n number (ap Ok c.from-2.ensures) c.in-Some.ensures.number.0 reached (ap (λ (m : Mine). part_in m.0) done ∙ ap (λ (o : CellState). act_part (acts.Router c.args.serial router_acts.Claim) (answers.Claimed number) o.part) c.self.view_is)
+    Got n number refl c.in-Some.ensures.number.0 reached (ap (λ (m : Mine). part_in m.0) done ∙ ap (λ (o : CellState). act_part (acts.Router c.args.serial router_acts.Claim) (answers.Claimed number) o.part) c.self.view_is)
     (ap (λ (m : Mine). m.0.seen) done ∙ ap (λ (o : CellState). (o.seen ++ (t.size, n) ∷ []) ++ (t.size, number) ∷ []) c.self.view_is)
