@@ -316,8 +316,8 @@ static inline void ipcz_loop_tell_(ipcz_loop *loop, ipcz_status refused) {
  * is held. */
 static inline void ipcz_loop_move_(ipcz_node *from, ipcz_status refused) {
     ipcz_loop *loop = from->loop;
-    const uint32_t all = (1u << loop->nodes) - 1u;
-    uint32_t asked = all & ~(1u << from->number);
+    const uint64_t all = UINT64_MAX >> (IPCZ_MAX_NODES - loop->nodes);
+    uint64_t asked = all & ~(UINT64_C(1) << from->number);
     for (int round = 0; asked && round < IPCZ_LOOP_ROUNDS_; round++) {
         const uint8_t i = IPCZ_CAST_(uint8_t, (from->number + 1 + round) % loop->nodes);
         if (!(asked >> i & 1u)) continue;
@@ -325,7 +325,7 @@ static inline void ipcz_loop_move_(ipcz_node *from, ipcz_status refused) {
         bool had_turn = ipcz_node_turns_(&loop->node[i], false);
         if (loop->node[i].refused) refused = loop->node[i].refused;
         pthread_mutex_unlock(&loop->node[i].lock);
-        asked = had_turn ? all & ~(1u << i) : asked & ~(1u << i);
+        asked = (had_turn ? all : asked) & ~(UINT64_C(1) << i);
     }
     if (refused) ipcz_loop_tell_(loop, refused);
 }

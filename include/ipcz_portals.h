@@ -108,7 +108,7 @@ enum {
 /* The version of the archive, as a text that isn't to be freed. That of the header is IPCZ_VERSION. */
 const char *ipcz_version(void);
 
-#define IPCZ_MAX_NODES 8
+#define IPCZ_MAX_NODES 64
 #define IPCZ_MAX_WORDS 4096
 #define IPCZ_MAX_SLOTS 1048576
 #define IPCZ_MAX_BYTES 65536  /* of a parcel */
@@ -143,17 +143,12 @@ ipcz_status ipcz_put_parcel(ipcz_world *world, uint8_t node, ipcz_portal at, con
 ipcz_status ipcz_put_wide_parcel(ipcz_world *world, uint8_t node, ipcz_portal at, const uint8_t *bytes, size_t size,
                                  const ipcz_portal *portals, size_t count, uint64_t *number);
 
-/* Gets the next parcel that has come to a portal.
- *   at           a portal of the node
- *   bytes, room  where the bytes are written, and how many may be: IPCZ_MAX_BYTES are always enough
- *   size         how many bytes the parcel has
- *   portals, portal_room  where its portals are written, and how many may be: IPCZ_MAX_PORTALS are always enough. They are the node's now
- *   count        how many portals it has
- *   number       how many parcels were got at this portal before it
- * IPCZ_TOO_SMALL: nothing is taken, and size and count are those of the parcel.
- * IPCZ_STRANGER, IPCZ_EMPTY, IPCZ_PEER_CLOSED. */
-ipcz_status ipcz_get(ipcz_world *world, uint8_t node, ipcz_portal at, uint8_t *bytes, size_t room, size_t *size,
-                     ipcz_portal *portals, size_t portal_room, size_t *count, uint64_t *number);
+/* Whether a get at a portal of a node would give a parcel; then how many bytes and portals it has is written. Nothing is taken. */
+bool ipcz_next_sizes(ipcz_world *world, uint8_t node, ipcz_portal at, size_t *size, size_t *count);
+
+/* Gets a parcel, with pointers that are not null: what ipcz_get calls, and what other languages may call. */
+ipcz_status ipcz_get_parcel(ipcz_world *world, uint8_t node, ipcz_portal at, uint8_t *bytes, size_t room, size_t *size,
+                            ipcz_portal *portals, size_t portal_room, size_t *count, uint64_t *number);
 
 /* Closes a portal of the node. What was put at it still comes to the other one; what comes to it is discarded.
  * IPCZ_STRANGER, IPCZ_OUT_OF_MEMORY. */
@@ -163,12 +158,13 @@ ipcz_status ipcz_close(ipcz_world *world, uint8_t node, ipcz_portal at);
  * IPCZ_STRANGER, IPCZ_NUMBERS_END, IPCZ_OUT_OF_MEMORY. */
 ipcz_status ipcz_turn(ipcz_world *world, uint8_t node);
 
-/* Has the nodes take turns until none has an act, or limit acts were taken. With a limit of 0 it only looks. Nodes come to rest unless
- * unread parcels carry each other's portals in a circle: see ipcz_put.
- *   acts   how many acts were taken
- *   quiet  whether no node has an act any more: then all that was put has come to where it can be got
- * IPCZ_NUMBERS_END, IPCZ_OUT_OF_MEMORY: the turns before it stand; acts and quiet are not written. */
-ipcz_status ipcz_settle(ipcz_world *world, uint64_t limit, uint64_t *acts, bool *quiet);
+/* The same, and tells
+ *   acted  whether the node had an act that was possible
+ * IPCZ_STRANGER, IPCZ_NUMBERS_END, IPCZ_OUT_OF_MEMORY: acted is not written. */
+ipcz_status ipcz_act(ipcz_world *world, uint8_t node, bool *acted);
+
+/* Has the nodes settle, with pointers that are not null: what ipcz_settle calls, and what other languages may call. */
+ipcz_status ipcz_settle_counting(ipcz_world *world, uint64_t limit, uint64_t *acts, bool *quiet);
 
 /* How many link words were used. */
 uint64_t ipcz_claimed(ipcz_world *world);
@@ -222,22 +218,19 @@ ipcz_status ipcz_cell_put_parcel(ipcz_cell *cell, ipcz_portal at, const uint8_t 
 ipcz_status ipcz_cell_put_wide_parcel(ipcz_cell *cell, ipcz_portal at, const uint8_t *bytes, size_t size,
                                       const ipcz_portal *portals, size_t count, uint64_t *number);
 
-/* Gets the next parcel that has come to a portal of the node. The arguments are as for ipcz_get.
- * IPCZ_TOO_SMALL: nothing is taken, and size and count are those of the parcel.
- * IPCZ_STRANGER, IPCZ_EMPTY, IPCZ_PEER_CLOSED. */
-ipcz_status ipcz_cell_get(ipcz_cell *cell, ipcz_portal at, uint8_t *bytes, size_t room, size_t *size,
-                          ipcz_portal *portals, size_t portal_room, size_t *count, uint64_t *number);
+/* Whether a get at a portal of the node would give a parcel; then how many bytes and portals it has is written. Nothing is taken. */
+bool ipcz_cell_next_sizes(ipcz_cell *cell, ipcz_portal at, size_t *size, size_t *count);
+
+/* Gets a parcel, with pointers that are not null: what ipcz_cell_get calls, and what other languages may call. */
+ipcz_status ipcz_cell_get_parcel(ipcz_cell *cell, ipcz_portal at, uint8_t *bytes, size_t room, size_t *size,
+                                 ipcz_portal *portals, size_t portal_room, size_t *count, uint64_t *number);
 
 /* Closes a portal of the node. What was put at it still comes to the other one; what comes to it is discarded.
  * IPCZ_STRANGER, IPCZ_OUT_OF_MEMORY. */
 ipcz_status ipcz_cell_close(ipcz_cell *cell, ipcz_portal at);
 
-/* Takes turns of the node until it has no act, or limit acts were taken.
- *   acts  how many acts were taken; fewer than limit: the node has nothing to do until another node acts, or it is called. With a limit of
- *         1 it takes the first act that is possible, if there is one
- * Portals that travel in a circle have acts for ever: see CIRCLES at ipcz_put.
- * IPCZ_NUMBERS_END, IPCZ_OUT_OF_MEMORY, IPCZ_RACED: the acts before it stand; acts is not written. */
-ipcz_status ipcz_cell_acts(ipcz_cell *cell, uint64_t limit, uint64_t *acts);
+/* Takes turns of the node, with a pointer that is not null: what ipcz_cell_acts calls, and what other languages may call. */
+ipcz_status ipcz_cell_acts_counting(ipcz_cell *cell, uint64_t limit, uint64_t *acts);
 
 /* Whether the node has nothing to do, nothing of it waits to be taken by another node, and no message to it was found. It is false while another
  * node hasn't taken what this one has sent, also when ipcz_cell_acts finds nothing to do: whoever waits for it takes turns of the others,
@@ -322,6 +315,65 @@ static inline ipcz_status ipcz_cell_put_printed(ipcz_cell *cell, ipcz_portal at,
     const void *given = size ? bytes : &nothing;
     uint64_t unwanted;
     return ipcz_cell_put_parcel(cell, at, IPCZ_BYTES_(given), size, count ? portals : &nothing, count, number ? number : &unwanted);
+}
+
+/* Gets the next parcel that has come to a portal.
+ *   at           a portal of the node
+ *   bytes, room  where the bytes are written, and how many may be: IPCZ_MAX_BYTES are always enough. Null is room for none
+ *   size         how many bytes the parcel has; may be null
+ *   portals, portal_room  where its portals are written, and how many may be: IPCZ_MAX_PORTALS are always enough. They are the node's now.
+ *                Null is room for none
+ *   count        how many portals it has; may be null
+ *   number       how many parcels were got at this portal before it; may be null
+ * IPCZ_TOO_SMALL: nothing is taken, and size and count are those of the parcel. If bytes and portals are both null that is the answer to
+ * any parcel, also to one without bytes and portals: so one asks for its sizes.
+ * IPCZ_STRANGER, IPCZ_EMPTY, IPCZ_PEER_CLOSED. */
+static inline ipcz_status ipcz_get(ipcz_world *world, uint8_t node, ipcz_portal at, uint8_t *bytes, size_t room, size_t *size,
+                                   ipcz_portal *portals, size_t portal_room, size_t *count, uint64_t *number) {
+    uint8_t no_byte = 0;
+    ipcz_portal no_portal = { 0, false };
+    size_t unwanted_size, unwanted_count;
+    uint64_t unwanted;
+    if (!size) size = &unwanted_size;
+    if (!count) count = &unwanted_count;
+    if (!bytes && !portals && ipcz_next_sizes(world, node, at, size, count)) return IPCZ_TOO_SMALL;
+    return ipcz_get_parcel(world, node, at, bytes ? bytes : &no_byte, bytes ? room : 0, size, portals ? portals : &no_portal,
+                           portals ? portal_room : 0, count, number ? number : &unwanted);
+}
+
+/* Gets the next parcel that has come to a portal of the cell's node. The arguments and answers are as for ipcz_get. */
+static inline ipcz_status ipcz_cell_get(ipcz_cell *cell, ipcz_portal at, uint8_t *bytes, size_t room, size_t *size,
+                                        ipcz_portal *portals, size_t portal_room, size_t *count, uint64_t *number) {
+    uint8_t no_byte = 0;
+    ipcz_portal no_portal = { 0, false };
+    size_t unwanted_size, unwanted_count;
+    uint64_t unwanted;
+    if (!size) size = &unwanted_size;
+    if (!count) count = &unwanted_count;
+    if (!bytes && !portals && ipcz_cell_next_sizes(cell, at, size, count)) return IPCZ_TOO_SMALL;
+    return ipcz_cell_get_parcel(cell, at, bytes ? bytes : &no_byte, bytes ? room : 0, size, portals ? portals : &no_portal,
+                                portals ? portal_room : 0, count, number ? number : &unwanted);
+}
+
+/* Has the nodes take turns until none has an act, or limit acts were taken. With a limit of 0 it only looks. Nodes come to rest unless
+ * unread parcels carry each other's portals in a circle: see ipcz_put.
+ *   acts   how many acts were taken; may be null
+ *   quiet  whether no node has an act any more: then all that was put has come to where it can be got. May be null
+ * IPCZ_NUMBERS_END, IPCZ_OUT_OF_MEMORY: the turns before it stand; acts and quiet are not written. */
+static inline ipcz_status ipcz_settle(ipcz_world *world, uint64_t limit, uint64_t *acts, bool *quiet) {
+    uint64_t unwanted;
+    bool unwanted_quiet;
+    return ipcz_settle_counting(world, limit, acts ? acts : &unwanted, quiet ? quiet : &unwanted_quiet);
+}
+
+/* Takes turns of the node until it has no act, or limit acts were taken.
+ *   acts  how many acts were taken; fewer than limit: the node has nothing to do until another node acts, or it is called. With a limit of
+ *         1 it takes the first act that is possible, if there is one. May be null
+ * Portals that travel in a circle have acts for ever: see CIRCLES at ipcz_put.
+ * IPCZ_NUMBERS_END, IPCZ_OUT_OF_MEMORY, IPCZ_RACED: the acts before it stand; acts is not written. */
+static inline ipcz_status ipcz_cell_acts(ipcz_cell *cell, uint64_t limit, uint64_t *acts) {
+    uint64_t unwanted;
+    return ipcz_cell_acts_counting(cell, limit, acts ? acts : &unwanted);
 }
 
 /* The portal that a node has from the start of the pair that it shares with another; both are below nodes, and not the same. */

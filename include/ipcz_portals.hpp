@@ -131,7 +131,12 @@ class World {
 
     void close(std::uint8_t node, Portal at) { check(::ipcz_close(&world_, node, at)); }
 
-    void turn(std::uint8_t node) { check(::ipcz_turn(&world_, node)); }
+    // Takes the node's first act that is possible, and tells whether it had one.
+    bool turn(std::uint8_t node) {
+        bool acted = false;
+        check(::ipcz_act(&world_, node, &acted));
+        return acted;
+    }
 
     Settled settle(std::uint64_t limit) {
         Settled settled{};

@@ -159,7 +159,7 @@ static bool handles(void) {
     HOLDS(ipcz_claimed(&world) == 0 && !ipcz_word(&world, 0, &number) && !ipcz_holder(&world, left, &node));
     ipcz_destroy(&world);
     EXPECT(ipcz_create(0, 8, &world), IPCZ_TOO_MANY);
-    EXPECT(ipcz_create(9, 64, &world), IPCZ_TOO_MANY);
+    EXPECT(ipcz_create(65, 4096, &world), IPCZ_TOO_MANY);
     EXPECT(ipcz_create(3, 2, &world), IPCZ_TOO_MANY);
     EXPECT(ipcz_create(2, 4097, &world), IPCZ_TOO_MANY);
     EXPECT(ipcz_create(8, 28, &world), IPCZ_OK);

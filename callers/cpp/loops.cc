@@ -93,7 +93,7 @@ static void waiting(Loop &loop) {
 }
 
 int main() {
-    std::cout << "no such loop: " << refusal([] { Loop(9); }) << ", node: ";
+    std::cout << "no such loop: " << refusal([] { Loop(65); }) << ", node: ";
     Loop loop(2);
     std::cout << refusal([&] { loop.node(2); }) << "\n";
     bytes(loop);

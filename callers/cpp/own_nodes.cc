@@ -45,7 +45,7 @@ int main() {
         std::cout << why.what() << '\n';
     }
     try {
-        ipcz::Cell::make(9, 64);
+        ipcz::Cell::make(65, 4096);
     } catch (const ipcz::Refused &why) {
         std::cout << why.what() << '\n';
     }

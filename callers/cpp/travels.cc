@@ -53,7 +53,7 @@ int main() {
     std::cout << "moved: " << world.claimed() << " and " << seen.claimed() << " words, held by node ";
     std::cout << (seen.holder(sent, node) ? int(node) : -1) << ", first word " << (seen.word(0, word) ? word : 0) << '\n';
     try {
-        ipcz::World none(9, 64);
+        ipcz::World none(65, 4096);
     } catch (const ipcz::Refused &why) {
         std::cout << why.what() << '\n';
     }

@@ -11,7 +11,7 @@ type Cell struct {
 	handle[C.ipcz_cell]
 }
 
-// NewCells makes the cells of a new table, by node: of 1 to 8 nodes, and of at least a link word for each two of them and at most 4096; else
+// NewCells makes the cells of a new table, by node: of 1 to 64 nodes, and of at least a link word for each two of them and at most 4096; else
 // TooMany.
 func NewCells(nodes int, words uint32) ([]*Cell, error) {
 	return makeCells(nodes, func(handles *C.ipcz_cell, count C.size_t) C.ipcz_status {

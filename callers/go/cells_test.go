@@ -118,7 +118,7 @@ func TestCallsOfACellAreRefused(t *testing.T) {
 	for _, wrong := range []struct {
 		nodes int
 		words uint32
-	}{{-1, 8}, {0, 8}, {9, 64}, {3, 2}, {2, 4097}, {300, 4096}} {
+	}{{-1, 8}, {0, 8}, {65, 4096}, {3, 2}, {2, 4097}, {300, 4096}} {
 		_, err := NewCells(wrong.nodes, wrong.words)
 		refused(t, err, TooMany)
 	}

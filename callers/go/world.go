@@ -11,7 +11,7 @@ type World struct {
 	handle[C.ipcz_world]
 }
 
-// NewWorld makes a world of 1 to 8 nodes, and of at least a link word for each two of them and at most 4096; else TooMany.
+// NewWorld makes a world of 1 to 64 nodes, and of at least a link word for each two of them and at most 4096; else TooMany.
 func NewWorld(nodes uint8, words uint32) (*World, error) {
 	world := new(World)
 	if err := answer(C.ipcz_create(C.uint8_t(nodes), C.uint32_t(words), world.c())); err != nil {
@@ -60,9 +60,11 @@ func (w *World) Close(node uint8, at Portal) error {
 	return answer(C.ipcz_close(w.c(), C.uint8_t(node), at.c()))
 }
 
-// Turn takes the node's first act that is possible, if there is one.
-func (w *World) Turn(node uint8) error {
-	return answer(C.ipcz_turn(w.c(), C.uint8_t(node)))
+// Turn takes the node's first act that is possible, and tells whether it had one.
+func (w *World) Turn(node uint8) (acted bool, err error) {
+	var did C.bool
+	err = answer(C.ipcz_act(w.c(), C.uint8_t(node), &did))
+	return bool(did), err
 }
 
 // Settle has the nodes take turns until none has an act, or limit acts were taken: how many were, and whether no node has an act any more.

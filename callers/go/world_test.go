@@ -75,7 +75,8 @@ func TestAPortalTravels(t *testing.T) {
 	}
 	put(t, world, 0, kept, "over it")
 	for turn := 0; turn < 20; turn++ {
-		must(t, world.Turn(uint8(turn%2)))
+		_, err := world.Turn(uint8(turn % 2))
+		must(t, err)
 	}
 	got, err = world.Get(1, sent)
 	must(t, err)
@@ -91,7 +92,7 @@ func TestLimitsAreRefused(t *testing.T) {
 	for _, wrong := range []struct {
 		nodes uint8
 		words uint32
-	}{{0, 8}, {9, 64}, {3, 2}, {2, 4097}} {
+	}{{0, 8}, {65, 4096}, {3, 2}, {2, 4097}} {
 		_, err := NewWorld(wrong.nodes, wrong.words)
 		refused(t, err, TooMany)
 	}
@@ -106,7 +107,8 @@ func TestLimitsAreRefused(t *testing.T) {
 	refused(t, err, SelfAttach)
 	_, err = world.Put(0, left, nil, right)
 	refused(t, err, PeerAttach)
-	refused(t, world.Turn(2), Stranger)
+	_, err = world.Turn(2)
+	refused(t, err, Stranger)
 	if claimed := world.Claimed(); claimed != 1 {
 		t.Fatalf("%d words are claimed, not 1", claimed)
 	}
@@ -166,7 +168,8 @@ func TestACopyIsTheSameWorld(t *testing.T) {
 	}
 	other.Destroy()
 	world.Destroy()
-	refused(t, world.Turn(0), NotCreated)
+	_, err := world.Turn(0)
+	refused(t, err, NotCreated)
 }
 
 func TestAWorldIsSharedByAMutex(t *testing.T) {

@@ -31,7 +31,7 @@ __version__ = "0.2.0"
 __all__ = ["Loop", "Node", "Portal", "Parcel", "Status", "Refused", "PeerClosed", "Stopped", "MAX_BYTES", "MAX_NODES", "MAX_PORTALS"]
 
 MAX_BYTES = 65536
-MAX_NODES = 8
+MAX_NODES = 64
 MAX_PORTALS = 8
 # For how many seconds the main thread waits before it looks at signals, for the sake of Ctrl-C; and other threads at once.
 SLICE = 0.2
@@ -156,7 +156,7 @@ class _Handle:
 
 
 class Loop:
-    """A loop of 1 to 8 nodes, with room for so many links at once (0: 4,096). It stops at the end of a `with`."""
+    """A loop of 1 to 64 nodes, with room for so many links at once (0: 4,096). It stops at the end of a `with`."""
 
     def __init__(self, nodes: int, slots: int = 0) -> None:
         self._handle = _Handle(nodes, slots)

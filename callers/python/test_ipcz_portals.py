@@ -21,7 +21,7 @@ class OnOneThread(unittest.TestCase):
         self.assertEqual(caught.exception.status, status)
 
     def test_limits(self) -> None:
-        for nodes, slots in (0, 0), (9, 0), (256, 0), (8, 27), (2, 1 << 32):
+        for nodes, slots in (0, 0), (65, 0), (256, 0), (64, 2015), (2, 1 << 32):
             self.refused(Status.TOO_MANY, Loop, nodes, slots)
         self.refused(Status.NO_WORD, Loop(8, 28).node(7).open)
         self.refused(Status.TOO_MANY, self.left.send, bytes(65537))

@@ -68,7 +68,7 @@ type waiter struct {
 	came chan answer
 }
 
-// New makes a loop of 1 to 8 nodes, with room for Slots links at once; else TooMany.
+// New makes a loop of 1 to 64 nodes, with room for Slots links at once; else TooMany.
 func New(nodes int) (*Loop, error) {
 	return NewWithSlots(nodes, Slots)
 }
@@ -112,7 +112,7 @@ func (l *Loop) each(change func(n *Node)) {
 // What follows turns of a node: the others take theirs, and all the rest once more after each that had one. So after each turn each other node looks once more,
 // and no parcel stays behind.
 func (l *Loop) moveOn(from int, refused error) {
-	all := uint32(1)<<len(l.nodes) - 1
+	all := ^uint64(0) >> (64 - len(l.nodes))
 	asked := all &^ (1 << from)
 	for look := 0; asked != 0 && look < mostLooks; look++ {
 		i := (from + 1 + look) % len(l.nodes)

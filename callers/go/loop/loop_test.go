@@ -39,7 +39,7 @@ func two(t *testing.T) (loop *Loop, left, right *Portal) {
 }
 
 func TestLimits(t *testing.T) {
-	for _, nodes := range []int{0, 9} {
+	for _, nodes := range []int{0, 65} {
 		_, err := New(nodes)
 		refused(t, err, portals.TooMany)
 	}

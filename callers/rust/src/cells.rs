@@ -10,7 +10,7 @@ pub struct Cell(raw::CellHandle);
 // SAFETY: the library proves that its handle may move to another thread. A `Cell` isn't `Sync`, and no call takes it by `&`.
 unsafe impl Send for Cell {}
 
-/// The cells of a new table, by node: 1 to 8 nodes, and of at least a link word for each two of them and at most 4096, else `TooMany`.
+/// The cells of a new table, by node: 1 to 64 nodes, and of at least a link word for each two of them and at most 4096, else `TooMany`.
 pub fn cells(nodes: usize, words: u32) -> Result<Vec<Cell>, Refused> {
     cells_by(raw::ipcz_cells_create, nodes, words)
 }
@@ -98,7 +98,7 @@ impl Cell {
     /// Gets the next parcel that has come to a portal of the node: `Empty` if none has, `PeerClosed` if none will, `Stranger`.
     pub fn get(&mut self, at: Portal) -> Result<Parcel, Refused> {
         got_by(|bytes, portals, size, count, number| unsafe {
-            raw::ipcz_cell_get(
+            raw::ipcz_cell_get_parcel(
                 &mut self.0,
                 at,
                 bytes.as_mut_ptr(),
@@ -121,7 +121,7 @@ impl Cell {
     /// too `NumbersEnd` and `OutOfMemory`: the acts before it stand.
     pub fn acts(&mut self, limit: u64) -> Result<u64, Refused> {
         let mut acts = 0;
-        answer(unsafe { raw::ipcz_cell_acts(&mut self.0, limit, &mut acts) })?;
+        answer(unsafe { raw::ipcz_cell_acts_counting(&mut self.0, limit, &mut acts) })?;
         Ok(acts)
     }
 

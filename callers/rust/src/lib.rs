@@ -155,7 +155,7 @@ unsafe impl Send for World {}
 // SAFETY, of each call below: the handle was made EMPTY and is written only by the library, no other reference to it exists beside
 // `&mut self`, and what else is pointed to lives through the call, lies apart, and isn't null.
 impl World {
-    /// A world of 1 to 8 nodes, and of at least a link word for each two of them and at most 4096, else `TooMany`.
+    /// A world of 1 to 64 nodes, and of at least a link word for each two of them and at most 4096, else `TooMany`.
     pub fn new(nodes: u8, words: u32) -> Result<World, Refused> {
         let mut world = World(raw::Handle::EMPTY);
         answer(unsafe { raw::ipcz_create(nodes, words, &mut world.0) })?;
@@ -221,7 +221,7 @@ impl World {
     /// Gets the next parcel that has come to a portal of the node: `Empty` if none has, `PeerClosed` if none will, `Stranger`.
     pub fn get(&mut self, node: u8, at: Portal) -> Result<Parcel, Refused> {
         got_by(|bytes, portals, size, count, number| unsafe {
-            raw::ipcz_get(
+            raw::ipcz_get_parcel(
                 &mut self.0,
                 node,
                 at,
@@ -241,16 +241,18 @@ impl World {
         answer(unsafe { raw::ipcz_close(&mut self.0, node, at) })
     }
 
-    /// Takes the node's first act that is possible, if there is one. `Stranger`, `NumbersEnd`, `OutOfMemory`.
-    pub fn turn(&mut self, node: u8) -> Result<(), Refused> {
-        answer(unsafe { raw::ipcz_turn(&mut self.0, node) })
+    /// Takes the node's first act that is possible, and tells whether it had one. `Stranger`, `NumbersEnd`, `OutOfMemory`.
+    pub fn turn(&mut self, node: u8) -> Result<bool, Refused> {
+        let mut acted = false;
+        answer(unsafe { raw::ipcz_act(&mut self.0, node, &mut acted) })?;
+        Ok(acted)
     }
 
     /// Has the nodes take turns until none has an act, or `limit` acts were taken. With a limit of 0 it only looks. `NumbersEnd`, `OutOfMemory`: the
     /// turns before it stand.
     pub fn settle(&mut self, limit: u64) -> Result<Settled, Refused> {
         let (mut acts, mut quiet) = (0, false);
-        answer(unsafe { raw::ipcz_settle(&mut self.0, limit, &mut acts, &mut quiet) })?;
+        answer(unsafe { raw::ipcz_settle_counting(&mut self.0, limit, &mut acts, &mut quiet) })?;
         Ok(Settled { acts, quiet })
     }
 

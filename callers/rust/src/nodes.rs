@@ -84,7 +84,7 @@ impl From<Unsent> for Refused {
 }
 
 impl Loop {
-    /// A loop of 1 to 8 nodes, with room for [`SLOTS`] links at once. `TooMany`, `OutOfMemory`.
+    /// A loop of 1 to 64 nodes, with room for [`SLOTS`] links at once. `TooMany`, `OutOfMemory`.
     pub fn new(nodes: u8) -> Result<Loop, Refused> {
         Loop::with_slots(nodes, SLOTS)
     }

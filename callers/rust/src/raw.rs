@@ -84,7 +84,14 @@ unsafe extern "C" {
         count: usize,
         number: *mut u64,
     ) -> u32;
-    pub fn ipcz_get(
+    pub fn ipcz_next_sizes(
+        world: *mut Handle,
+        node: u8,
+        at: Portal,
+        size: *mut usize,
+        count: *mut usize,
+    ) -> bool;
+    pub fn ipcz_get_parcel(
         world: *mut Handle,
         node: u8,
         at: Portal,
@@ -97,8 +104,13 @@ unsafe extern "C" {
         number: *mut u64,
     ) -> u32;
     pub fn ipcz_close(world: *mut Handle, node: u8, at: Portal) -> u32;
-    pub fn ipcz_turn(world: *mut Handle, node: u8) -> u32;
-    pub fn ipcz_settle(world: *mut Handle, limit: u64, acts: *mut u64, quiet: *mut bool) -> u32;
+    pub fn ipcz_act(world: *mut Handle, node: u8, acted: *mut bool) -> u32;
+    pub fn ipcz_settle_counting(
+        world: *mut Handle,
+        limit: u64,
+        acts: *mut u64,
+        quiet: *mut bool,
+    ) -> u32;
     pub fn ipcz_claimed(world: *mut Handle) -> u64;
     pub fn ipcz_word(world: *mut Handle, i: u64, word: *mut u64) -> bool;
     pub fn ipcz_holder(world: *mut Handle, portal: Portal, node: *mut u8) -> bool;
@@ -125,7 +137,13 @@ unsafe extern "C" {
         count: usize,
         number: *mut u64,
     ) -> u32;
-    pub fn ipcz_cell_get(
+    pub fn ipcz_cell_next_sizes(
+        cell: *mut CellHandle,
+        at: Portal,
+        size: *mut usize,
+        count: *mut usize,
+    ) -> bool;
+    pub fn ipcz_cell_get_parcel(
         cell: *mut CellHandle,
         at: Portal,
         bytes: *mut u8,
@@ -137,7 +155,7 @@ unsafe extern "C" {
         number: *mut u64,
     ) -> u32;
     pub fn ipcz_cell_close(cell: *mut CellHandle, at: Portal) -> u32;
-    pub fn ipcz_cell_acts(cell: *mut CellHandle, limit: u64, acts: *mut u64) -> u32;
+    pub fn ipcz_cell_acts_counting(cell: *mut CellHandle, limit: u64, acts: *mut u64) -> u32;
     pub fn ipcz_cell_quiet(cell: *mut CellHandle) -> bool;
     pub fn ipcz_cell_retry(cell: *mut CellHandle) -> u32;
     pub fn ipcz_cell_claimed(cell: *mut CellHandle) -> u64;

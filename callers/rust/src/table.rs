@@ -179,7 +179,7 @@ impl Table {
 
     /// After turns of a node: has the others take theirs, and all the rest once more after each that had one.
     fn move_on(&self, from: u8, mut refused: Option<Refused>) {
-        let all = (1u32 << self.nodes()) - 1;
+        let all = u64::MAX >> (64 - self.nodes());
         let mut asked = all & !(1 << from);
         for look in 0..LOOKS {
             if asked == 0 {

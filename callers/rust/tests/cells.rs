@@ -78,7 +78,7 @@ fn two_threads_own_a_node_each() -> Result<(), Refused> {
 
 #[test]
 fn calls_of_a_cell_are_refused() -> Result<(), Refused> {
-    for (nodes, words) in [(0, 8), (9, 64), (3, 2), (2, 4097), (300, 4096)] {
+    for (nodes, words) in [(0, 8), (65, 4096), (3, 2), (2, 4097), (300, 4096)] {
         assert_eq!(cells(nodes, words).err(), Some(Refused::TooMany));
     }
     let mut both = cells(2, 1)?;
@@ -134,7 +134,7 @@ fn request(cells: &mut [Cell]) -> Result<Vec<u8>, Refused> {
 
 #[test]
 fn link_words_come_back() -> Result<(), Refused> {
-    for (nodes, slots) in [(0, 8), (9, 64), (3, 2), (1, 0), (2, 1_048_577)] {
+    for (nodes, slots) in [(0, 8), (65, 4096), (3, 2), (1, 0), (2, 1_048_577)] {
         assert_eq!(lasting_cells(nodes, slots).err(), Some(Refused::TooMany));
     }
     let mut both = lasting_cells(2, 3)?;

@@ -19,8 +19,8 @@ fn refused<T>(answer: Result<T, Refused>) -> Option<Refused> {
 #[test]
 fn limits_are_refused() -> Result<(), Refused> {
     assert_eq!(refused(Loop::new(0)), Some(Refused::TooMany));
-    assert_eq!(refused(Loop::new(9)), Some(Refused::TooMany));
-    assert_eq!(refused(Loop::with_slots(8, 27)), Some(Refused::TooMany));
+    assert_eq!(refused(Loop::new(65)), Some(Refused::TooMany));
+    assert_eq!(refused(Loop::with_slots(64, 2015)), Some(Refused::TooMany));
     let nodes = Loop::with_slots(8, 28)?;
     assert_eq!(refused(nodes.node(7).open()), Some(Refused::NoWord));
     let (_nodes, left, _) = pair()?;

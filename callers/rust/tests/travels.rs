@@ -50,7 +50,7 @@ fn a_portal_travels() -> Result<(), Refused> {
 
 #[test]
 fn limits_are_refused() -> Result<(), Refused> {
-    for (nodes, words) in [(0, 8), (9, 64), (3, 2), (2, 4097)] {
+    for (nodes, words) in [(0, 8), (65, 4096), (3, 2), (2, 4097)] {
         assert_eq!(World::new(nodes, words).err(), Some(Refused::TooMany));
     }
     let mut world = World::new(2, 1)?;

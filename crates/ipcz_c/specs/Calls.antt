@@ -21,7 +21,7 @@ use Rattle.ipcz_world.specs.declared.step.Settled.{Settled}
 use Rattle.ipcz_c.specs.declared.portal.Portal.{Portal}
 use Rattle.ipcz_c.specs.Named.{named, ends_of}
 use Rattle.ipcz_c.specs.Statuses.{status_of, too_small}
-use Rattle.ipcz_c.specs.Told.{nothing, AreOpened, IsPut, Room, IsGot, IsSettled}
+use Rattle.ipcz_c.specs.Told.{nothing, AreOpened, IsPut, IsActed, Room, IsGot, IsSettled}
 
 -- a step of the world of a handle
 abbrev pub Steps : Option World → Step → Reply → Option World → Type 0
@@ -103,6 +103,10 @@ LacksRoom old sizes status old_room room new =
 -- a close
 abbrev pub Closes : Option World → ℕ → Portal → ℕ → Option World → Type 0
 Closes old node at = Answers nothing old (steps.Close node (named at))
+
+-- a turn that tells whether it was an act
+abbrev pub TellsTurn : Option World → ℕ → ℕ → Bool → Bool → Option World → Type 0
+TellsTurn old node status old_acted acted new = Answers (λ reply. IsActed reply old_acted acted) old (steps.Turn node) status new
 
 -- a turn
 abbrev pub TakesTurn : Option World → ℕ → ℕ → Option World → Type 0

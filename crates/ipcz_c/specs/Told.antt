@@ -4,6 +4,7 @@ use Rattle.ipcz_base.specs.declared.end.End.{End}
 use Rattle.ipcz_base.specs.declared.parcel.Sizes.{Sizes}
 use Rattle.ipcz_base.specs.declared.refusal.Refusal.{Refusal}
 use Rattle.ipcz_base.specs.Refusals.{code_of}
+use Rattle.ipcz_node.specs.declared.happened.Happened.TheVariants as events
 use Rattle.ipcz_world.specs.declared.step.Reply.{Reply}
 use Rattle.ipcz_world.specs.declared.step.Reply.TheVariants as replies
 use Rattle.ipcz_world.specs.declared.step.Settled.{Settled}
@@ -40,6 +41,17 @@ room_of bytes size portals count number = record { bytes = bytes; size = size; p
 unfoldable pub fits : Option Sizes → ℕ → ℕ → Bool
 fits None bytes portals = true
 fits (Some s) bytes portals = nat_le s.bytes bytes && nat_le s.ends portals
+
+-- whether there is a next parcel, and its sizes; where there is none, nothing is told
+unfoldable pub TellsSizes : Option Sizes → Bool → ℕ → ℕ → ℕ → ℕ → Type 0
+TellsSizes (Some s) there old_size old_count size count = (there ≡ true) × (size ≡ s.bytes) × (count ≡ s.ends)
+TellsSizes None there old_size old_count size count = (there ≡ false) × (size ≡ old_size) × (count ≡ old_count)
+
+-- whether a turn was an act: it was none if the node had nothing to do
+unfoldable pub IsActed : Reply → Bool → Bool → Type 0
+IsActed (replies.Turned events.Idle) old acted = acted ≡ false
+IsActed (replies.Turned event) old acted = acted ≡ true
+IsActed reply old acted = acted ≡ old
 
 -- these bytes stand at the front of a room, and the rest of it is as it was
 abbrev pub AreAtFront : List ℕ → List ℕ → List ℕ → Type 0

@@ -7,14 +7,14 @@ ghost use Rattle.ipcz_base.specs.Refusals.{code_of};
 ghost use Rattle.ipcz_world.specs.Holding.{shown_word, holder_of};
 ghost use Rattle.ipcz_c.specs.Named.{named};
 ghost use Rattle.ipcz_c.specs.Statuses.{not_created, already_created};
-ghost use Rattle.ipcz_c.specs.Told.{room_of, fits};
-ghost use Rattle.ipcz_c.specs.Calls.{IsRefused, is_within, Creates, Opens, Puts, sizes_next, Gets, LacksRoom, Closes, TakesTurn, Settles, read_off, written};
+ghost use Rattle.ipcz_c.specs.Told.{room_of, fits, TellsSizes};
+ghost use Rattle.ipcz_c.specs.Calls.{IsRefused, is_within, Creates, Opens, Puts, sizes_next, Gets, LacksRoom, Closes, TakesTurn, TellsTurn, Settles, read_off, written};
 
 use crate::handle::Handle;
 use crate::making::{are_within, boxed_world, lists_of};
 use crate::portal::Portal;
 use crate::status::{ALREADY_CREATED, NOT_CREATED, TOO_SMALL, refused, status};
-use crate::tell::{lacking, tell_got, tell_opened, tell_put, tell_settled};
+use crate::tell::{lacking, tell_acted, tell_got, tell_opened, tell_put, tell_settled, tell_sizes};
 use ipcz_base::{Profile, Refusal};
 use ipcz_world::Step;
 use std::alloc::Global;
@@ -147,9 +147,30 @@ fn put_as(
     }
 }
 
+/// Whether a get at a portal of a node would give a parcel; then its sizes are written. Nothing is taken.
+#[unsafe(no_mangle)]
+#[tactic(auto, unfolding(crate::specs::Calls::sizes_next, crate::specs::Told::TellsSizes))]
+pub extern "C" fn ipcz_next_sizes(
+    alloc: Global,
+    of: &mut Handle,
+    node: u8,
+    at: Portal,
+    size: &mut usize,
+    count: &mut usize,
+) -> bool
+    ensures told { TellsSizes (sizes_next of.old.held.world node (named at)) result size.old count.old size.new count.new }
+    ensures same { of.new.held.world ≡ of.old.held.world }
+{
+    if !of.has_world {
+        return false;
+    }
+    let next = of.next_sizes(alloc, node, at.end());
+    tell_sizes(next, size, count)
+}
+
 /// Gets the next parcel at a portal of a node.
 #[unsafe(no_mangle)]
-pub extern "C" fn ipcz_get(
+pub extern "C" fn ipcz_get_parcel(
     alloc: Global,
     of: &mut Handle,
     node: u8,
@@ -214,9 +235,23 @@ pub extern "C" fn ipcz_turn(alloc: Global, of: &mut Handle, node: u8) -> u32
     status(&reply)
 }
 
+/// Takes the first possible act of a node, and tells whether it had one.
+#[unsafe(no_mangle)]
+pub extern "C" fn ipcz_act(alloc: Global, of: &mut Handle, node: u8, acted: &mut bool) -> u32
+    ensures did { IsSome of.old.held.world → TellsTurn of.old.held.world node result acted.old acted.new of.new.held.world }
+    ensures none { IsNone of.old.held.world → IsRefused not_created of.old.held.world result of.new.held.world × (acted.new ≡ acted.old) }
+{
+    if !of.has_world {
+        return NOT_CREATED;
+    }
+    let reply = of.step(alloc, &Step::Turn(node));
+    tell_acted(&reply, acted);
+    status(&reply)
+}
+
 /// Lets the nodes take turns until none has an act, or so many were taken.
 #[unsafe(no_mangle)]
-pub extern "C" fn ipcz_settle(
+pub extern "C" fn ipcz_settle_counting(
     alloc: Global,
     of: &mut Handle,
     limit: u64,

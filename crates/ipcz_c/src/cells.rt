@@ -9,7 +9,7 @@ ghost use Rattle.ipcz_node.specs.Node.{holds_end};
 ghost use Rattle.ipcz_cell.specs.Opens.{FindsQuiet};
 ghost use Rattle.ipcz_c.specs.Named.{named};
 ghost use Rattle.ipcz_c.specs.Statuses.{not_created, already_created};
-ghost use Rattle.ipcz_c.specs.Told.{room_of, fits};
+ghost use Rattle.ipcz_c.specs.Told.{room_of, fits, TellsSizes};
 ghost use Rattle.ipcz_c.specs.Calls.{IsRefused, is_within, has_slots, LacksRoom};
 ghost use Rattle.ipcz_c.specs.CellSteps.{CountsClaimed};
 ghost use Rattle.ipcz_c.specs.HeldCells.{HeldCell, Moves, cell_sizes};
@@ -20,7 +20,7 @@ use crate::cell_making::{are_vacant, seat};
 use crate::making::{are_within, have_slots, lists_of};
 use crate::portal::Portal;
 use crate::status::{ALREADY_CREATED, NOT_CREATED, TOO_SMALL, refused, status};
-use crate::tell::{got, lacking, outcome, retried, tell_ends, tell_got, tell_number};
+use crate::tell::{got, lacking, outcome, retried, tell_ends, tell_got, tell_number, tell_sizes};
 use ipcz_base::{Profile, Refusal};
 use ipcz_cell::{start, start_lasting};
 use std::alloc::Global;
@@ -182,10 +182,30 @@ fn put_as(
     }
 }
 
+/// Whether a get at a portal of the node would give a parcel; then its sizes are written. Nothing is taken.
+#[unsafe(no_mangle)]
+#[tactic(auto, using(crate::proofs::SameOwner::brand_only), unfolding(crate::specs::HeldCells::cell_sizes, crate::specs::Told::TellsSizes))]
+pub extern "C" fn ipcz_cell_next_sizes(
+    alloc: Global,
+    of: &mut CellHandle,
+    at: Portal,
+    size: &mut usize,
+    count: &mut usize,
+) -> bool
+    ensures told { TellsSizes (cell_sizes of.old.held.cell (named at)) result size.old count.old size.new count.new }
+    ensures same { of.new.held.cell ≡ of.old.held.cell }
+{
+    if !of.has_cell {
+        return false;
+    }
+    let next = of.next_sizes::<Brand>(alloc, at.end());
+    tell_sizes(next, size, count)
+}
+
 /// Gets the next parcel at a portal of the node.
 #[unsafe(no_mangle)]
 #[tactic(auto, using(crate::proofs::SameOwner::brand_only))]
-pub extern "C" fn ipcz_cell_get(
+pub extern "C" fn ipcz_cell_get_parcel(
     alloc: Global,
     of: &mut CellHandle,
     at: Portal,
@@ -241,7 +261,7 @@ pub extern "C" fn ipcz_cell_close(alloc: Global, of: &mut CellHandle, at: Portal
 /// Takes turns of the node until it has no act, or so many were taken.
 #[unsafe(no_mangle)]
 #[tactic(auto, using(crate::proofs::SameOwner::brand_only))]
-pub extern "C" fn ipcz_cell_acts(
+pub extern "C" fn ipcz_cell_acts_counting(
     alloc: Global,
     of: &mut CellHandle,
     limit: u64,

@@ -14,14 +14,14 @@ use std::alloc::{AllocError, Global};
 pub(crate) fn are_within(nodes: u8, words: u32) -> bool
     ensures { result ≡ is_within nodes words }
 {
-    1 <= nodes && nodes <= 8 && first_pair_count(nodes) <= words && words <= 4096
+    1 <= nodes && nodes <= 64 && first_pair_count(nodes) <= words && words <= 4096
 }
 
 // Whether a table that C makes, whose link words come back, may have so many nodes, and slots for links.
 pub(crate) fn have_slots(nodes: u8, slots: u32) -> bool
     ensures { result ≡ has_slots nodes slots }
 {
-    1 <= nodes && nodes <= 8 && 1 <= slots && first_pair_count(nodes) <= slots && slots <= 1_048_576
+    1 <= nodes && nodes <= 64 && 1 <= slots && first_pair_count(nodes) <= slots && slots <= 1_048_576
 }
 
 // A new world in a box.

@@ -2,12 +2,13 @@
 ghost use Rattle.std.specs.Prelude.{◌≡◌, ◌≤◌, true, false, Some, IfSome, IfNone, length};
 ghost use Rattle.ipcz_world.specs.Steps.{sizes_given};
 ghost use Rattle.ipcz_c.specs.CellCalls.{outcome_of, IsNumbered, AreEnds, get_answer, retry_code};
-ghost use Rattle.ipcz_c.specs.Told.{room_of, fits, AreOpened, IsPut, AreAtFront, AreNamedAtFront, IsGot, IsSettled};
+ghost use Rattle.ipcz_c.specs.Told.{room_of, fits, AreOpened, IsPut, IsActed, TellsSizes, AreAtFront, AreNamedAtFront, IsGot, IsSettled};
 
 use crate::portal::{Portal, portal_of};
 use crate::status::refused;
 use ipcz_base::{End, Parcel, Refusal, Sizes};
 use ipcz_cell::Retry;
+use ipcz_node::Happened;
 use ipcz_world::{Reply, Settled};
 
 // The portals that were opened.
@@ -41,6 +42,31 @@ pub(crate) fn lacking(next: Option<Sizes>, bytes: usize, portals: usize) -> Opti
     match next {
         Some(sizes) if bytes < sizes.bytes || portals < sizes.ends => Some(sizes),
         _ => None,
+    }
+}
+
+// The sizes of the next parcel, and whether there is one.
+#[tactic(auto, unfolding(crate::specs::Told::TellsSizes))]
+pub(crate) fn tell_sizes(next: Option<Sizes>, size: &mut usize, count: &mut usize) -> bool
+    ensures { TellsSizes next result size.old count.old size.new count.new }
+{
+    let Some(sizes) = next else {
+        return false;
+    };
+    *size = sizes.bytes;
+    *count = sizes.ends;
+    true
+}
+
+// Whether a turn was an act.
+#[tactic(auto, unfolding(crate::specs::Told::IsActed))]
+pub(crate) fn tell_acted(reply: &Reply, acted: &mut bool)
+    ensures { IsActed reply.now acted.old acted.new }
+{
+    match reply {
+        Reply::Turned(Happened::Idle) => *acted = false,
+        Reply::Turned(_) => *acted = true,
+        _ => {}
     }
 }
 

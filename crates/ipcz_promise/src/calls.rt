@@ -16,7 +16,7 @@ use std::alloc::Global;
 
 /// A world at the start, whose accounts are `start`: between each two nodes there is one pair, and each of its portals is held at its own node.
 ///
-/// `nodes` is 1 to 8; `words`, how many pairs and links there can be in all, is from `nodes * (nodes - 1) / 2` to 2^32 - 1. Its only refusal is
+/// `nodes` is 1 to 64; `words`, how many pairs and links there can be in all, is from `nodes * (nodes - 1) / 2` to 2^32 - 1. Its only refusal is
 /// `OutOfMemory`.
 ///
 /// `new_world(alloc, 2, 8)` has the pair 0: node 0 holds its portal `A`, node 1 its portal `B`.

@@ -29,7 +29,7 @@ pub fn the_theorem_holds_after_every_run()
     ensures { TheTheoremHolds }
 {}
 
-/// The world at the start, with 1 to 8 nodes and words enough for the first pairs (2^64 - 1 at most), is lawful with empty books and the
+/// The world at the start, with 1 to 64 nodes and words enough for the first pairs (2^64 - 1 at most), is lawful with empty books and the
 /// routes of the first pairs.
 pub fn the_world_at_the_start_is_lawful()
     ensures { StartsLawful }
@@ -165,7 +165,7 @@ pub fn each_held_end_has_its_terminal()
     ensures { HeldHaveTerminals }
 {}
 
-/// A lawful world has a node for each number below its count, a word for each below its size, a mailbox for each two nodes, at most 8
+/// A lawful world has a node for each number below its count, a word for each below its size, a mailbox for each two nodes, at most 64
 /// nodes, and no more words claimed than there are.
 pub fn lists_have_their_lengths()
     ensures { ListsHaveLengths }

@@ -56,7 +56,7 @@ impl World {
     /// in the order of their nodes, whose two terminals share one link; its word is open and claimed, the other words are empty. Each
     /// mailbox is empty.
     ///
-    /// `nodes` is 1 to 8; `words` is from the number of first pairs, `nodes * (nodes - 1) / 2`, to 2^32 - 1. Each open and each bypass
+    /// `nodes` is 1 to 64; `words` is from the number of first pairs, `nodes * (nodes - 1) / 2`, to 2^32 - 1. Each open and each bypass
     /// claims a word for good. For each word 8 bytes of address space are reserved here, which are first touched when the word is claimed.
     /// So `World::new(alloc, 2, 1 << 24)` reserves 128 MiB and touches a page of them, and that world answers no `NoWord` before its callers
     /// and proxies have claimed the other 16,777,215 words.
@@ -126,7 +126,7 @@ impl World {
         self.state.last_busy(0).is_none()
     }
 
-    /// The number of a link word, below 4096 (docs/PROTOCOL.md, "Link words"); none exactly from the claim count on. It is never refused.
+    /// The number of a link word, below 32768 (docs/PROTOCOL.md, "Link words"); none exactly from the claim count on. It is never refused.
     ///
     /// In the world `World::new(alloc, 2, 8)` `world.word(0)` is `Some(3)`, stable at both sides, and `world.word(1)` is none.
     #[tactic(auto, unfolding(crate::specs::World::word_at))]

@@ -8,7 +8,7 @@ use Rattle.ipcz_c.specs.HeldCells.{HeldCell, Moves, cell_sizes}
 use Rattle.ipcz_c.specs.Statuses.{status_of}
 use Rattle.ipcz_c.specs.Told.{room_of, IsGot, fits}
 use Rattle.ipcz_c.proofs.CellAnswering.{fits_got}
-use Rattle.ipcz_c.proofs.cells.ipcz_cell_get.Goals as goal
+use Rattle.ipcz_c.proofs.cells.ipcz_cell_get_parcel.Goals as goal
 
 pub tell_got-requires : goal.tell_got-requires
 tell_got-requires c =

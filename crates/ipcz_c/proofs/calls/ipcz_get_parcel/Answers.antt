@@ -3,7 +3,7 @@ use Rattle.ipcz_world.specs.declared.step.Step.TheVariants as steps
 use Rattle.ipcz_c.specs.Calls.{Gets, sizes_next}
 use Rattle.ipcz_c.specs.Told.{room_of, IsGot, fits}
 use Rattle.ipcz_c.proofs.Answering.{answered}
-use Rattle.ipcz_c.proofs.calls.ipcz_get.Goals as goal
+use Rattle.ipcz_c.proofs.calls.ipcz_get_parcel.Goals as goal
 
 pub tell_got-requires : goal.tell_got-requires
 tell_got-requires c =
