@@ -128,6 +128,36 @@ static bool parcels_of_any_bytes(ipcz_world *world) {
     return true;
 }
 
+/* Outputs that nobody wants may be null, and a get without room for anything asks for sizes; a turn tells whether it was an act. */
+static bool unwanted_outputs(ipcz_world *world) {
+    ipcz_portal left = ipcz_first(0, 1, 2), right = ipcz_first(1, 0, 2), kept, sent;
+    size_t size = 9, count = 9;
+    int acts = 0;
+    bool acted = true;
+    EXPECT(ipcz_get(world, 1, right, NULL, 0, &size, NULL, 0, &count, NULL), IPCZ_EMPTY);
+    HOLDS(size == 9 && count == 9 && !ipcz_next_sizes(world, 1, right, &size, &count));
+    EXPECT(ipcz_open(world, 0, &kept, &sent), IPCZ_OK);
+    EXPECT(ipcz_put(world, 0, left, "four", 4, &sent, 1, NULL), IPCZ_OK);
+    EXPECT(ipcz_put(world, 0, left, NULL, 0, NULL, 0, NULL), IPCZ_OK);
+    while (acted) {
+        EXPECT(ipcz_act(world, (uint8_t)(acts % 2), &acted), IPCZ_OK);
+        if (acted) acts++;
+    }
+    HOLDS(acts > 0);
+    EXPECT(ipcz_settle(world, 1000, NULL, NULL), IPCZ_OK);
+    EXPECT(ipcz_act(world, 0, &acted), IPCZ_OK);
+    HOLDS(!acted);
+    EXPECT(ipcz_get(world, 1, right, NULL, 0, &size, NULL, 0, &count, NULL), IPCZ_TOO_SMALL);
+    HOLDS(size == 4 && count == 1);
+    EXPECT(ipcz_get(world, 1, right, NULL, 4, NULL, &sent, 1, NULL, NULL), IPCZ_TOO_SMALL);
+    EXPECT(ipcz_get(world, 1, right, (uint8_t[4]){ 0 }, 4, NULL, &sent, 1, NULL, NULL), IPCZ_OK);
+    EXPECT(ipcz_get(world, 1, right, NULL, 0, &size, NULL, 0, &count, NULL), IPCZ_TOO_SMALL);
+    HOLDS(size == 0 && count == 0);
+    EXPECT(ipcz_get(world, 1, right, NULL, 0, NULL, &sent, 0, NULL, NULL), IPCZ_OK);
+    EXPECT(ipcz_act(world, 2, &acted), IPCZ_STRANGER);
+    return true;
+}
+
 static bool refusals(ipcz_world *world) {
     static const uint8_t zeros[IPCZ_MAX_PRINTED_BYTES + 1];
     ipcz_portal left = ipcz_first(0, 1, 2), right = ipcz_first(1, 0, 2), twice[2] = { left, left }, first, second;
@@ -176,7 +206,7 @@ static bool handles(void) {
 int main(void) {
     ipcz_world world = IPCZ_WORLD_INIT;
     if (ipcz_create(2, 8, &world)) return 1;
-    bool well = travels(&world) && small_rooms(&world) && parcels_of_any_bytes(&world) && refusals(&world) && handles();
+    bool well = travels(&world) && small_rooms(&world) && parcels_of_any_bytes(&world) && unwanted_outputs(&world) && refusals(&world) && handles();
     printf("%" PRIu64 " words used\n", ipcz_claimed(&world));
     ipcz_destroy(&world);
     for (ipcz_status status = 0; status <= 14; status++) printf("%" PRIu32 " %s\n", status, ipcz_status_name(status));

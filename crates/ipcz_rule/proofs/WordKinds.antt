@@ -1,6 +1,6 @@
 -- The kinds of step on the word of a link, with the masks and the plans of ipcz_word; and loads.
 use Rattle.std.specs.Prelude.{◌≡◌, ◌<◌, ◌-◌, ℕ, true, eqb, bit_and, bit_or, Option, refl, slice_index, [], ◌∷◌, Bool}
-use Rattle.std.proofs.Common.{ap, ◌∙◌, sym, inr, eqb-true}
+use Rattle.std.proofs.Common.{ap, ◌∙◌, sym, inr, eqb-true, arith}
 use prog.Atomic.{either}
 use Rattle.atomic_table.specs.Table.{keeps}
 use Rattle.ipcz_base.specs.declared.side.Side.{Side}
