@@ -244,9 +244,9 @@ pub extern "C" fn ipcz_act(alloc: Global, of: &mut Handle, node: u8, acted: &mut
     if !of.has_world {
         return NOT_CREATED;
     }
-    let reply = of.step(alloc, &Step::Turn(node));
-    tell_acted(&reply, acted);
-    status(&reply)
+    let turned = of.step(alloc, &Step::Turn(node));
+    tell_acted(&turned, acted);
+    status(&turned)
 }
 
 /// Lets the nodes take turns until none has an act, or so many were taken.

@@ -21,7 +21,11 @@ pub(crate) fn are_within(nodes: u8, words: u32) -> bool
 pub(crate) fn have_slots(nodes: u8, slots: u32) -> bool
     ensures { result ≡ has_slots nodes slots }
 {
-    1 <= nodes && nodes <= 64 && 1 <= slots && first_pair_count(nodes) <= slots && slots <= 1_048_576
+    1 <= nodes
+        && nodes <= 64
+        && 1 <= slots
+        && first_pair_count(nodes) <= slots
+        && slots <= 1_048_576
 }
 
 // A new world in a box.

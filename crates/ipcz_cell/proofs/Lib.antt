@@ -30,4 +30,3 @@ pub mod GivenUps
 pub mod Lettings
 pub mod Unfolding
 pub mod NumberClaims
-pub mod Retrying

@@ -1,5 +1,5 @@
 -- The loads of the claim count and of link words, and the steps of an open.
-use Rattle.std.specs.Prelude.{◌≡◌, ◌<◌, ◌+◌, ℕ, Bool, true, false, List, [], ◌∷◌, ◌++◌, Option, Some, None, Result, Ok, Err, IfOk, eqb, is_some, ◌==◌, ◌||◌, ◌&&◌}
+use Rattle.std.specs.Prelude.{◌≡◌, ◌<◌, ◌+◌, ℕ, Bool, true, false, List, [], ◌∷◌, ◌++◌, Option, Some, None, Result, Ok, Err, eqb, is_some, ◌==◌, ◌||◌, ◌&&◌}
 use Rattle.std.proofs.Common.{ap, sym, subst, ◌∙◌, refl, arith, append_assoc, ⊎_elim}
 use Rattle.std.proofs.lemmas.Bool.Decides.{nat_tests}
 use prog.Atomic.{either}
@@ -24,7 +24,7 @@ use Rattle.ipcz_cell.specs.CellStates.{CellState, part_in, change_part, roomy}
 use Rattle.ipcz_cell.specs.Cells.{AreSound, IsCell}
 use Rattle.ipcz_cell.specs.Outcomes.{loaded}
 use Rattle.ipcz_cell.specs.Mails.{HasSeen, mail_word}
-use Rattle.ipcz_cell.specs.Claims.{AreReached, FindsNone, Answered, Got as Won, Dry, Slotless as Unslotted, Lost as Missed}
+use Rattle.ipcz_cell.specs.Claims.{AreReached, FindsNone}
 use Rattle.ipcz_cell.specs.Opens.{count_loaded, word_loaded, opened, ClaimsAt, ClaimsForOpen, Claimed, Slotless, Outrun, OpensWord, claimed_for_open}
 use Rattle.ipcz_cell.specs.Opens.{box_loads, FindsFree}
 use Rattle.ipcz_cell.proofs.Seating.{KeepsHands, reseated, touched_cell}

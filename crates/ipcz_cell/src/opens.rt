@@ -1,5 +1,5 @@
 //! The claim count, the link words and the opens of a cell.
-ghost use Rattle.std.specs.Prelude.{◌≡◌, ◌<◌, ◌≤◌, ◌^◌, true, false, is_some, None, OnOk, IfOk, IfErr, unwrap_or};
+ghost use Rattle.std.specs.Prelude.{◌≡◌, ◌<◌, ◌≤◌, true, false, is_some, None, OnOk, IfErr, unwrap_or};
 ghost use Rattle.ipcz_world.specs.Coding.{IsLinkNumber};
 ghost use Rattle.ipcz_node.specs.Calls.{serials_refusal};
 ghost use Rattle.ipcz_node.specs.RoomyNodes.{CanOpen};

@@ -1,12 +1,11 @@
 //! Proxies that found no slot for their bypass, and ask again.
-ghost use Rattle.std.specs.Prelude.{◌≡◌, ◌<◌, [], ◌∷◌, None, true, is_some, IfSome, IfNone};
+ghost use Rattle.std.specs.Prelude.{◌≡◌, ◌<◌, [], ◌∷◌, true, is_some};
 ghost use Rattle.ipcz_node.specs.Node.{router_in};
-ghost use Rattle.ipcz_node.specs.Finding.{IsNext};
 ghost use Rattle.ipcz_rule.specs.Steps.{wet_part};
 ghost use Rattle.ipcz_cell.specs.CellStates.{change_part, part_in};
 ghost use Rattle.ipcz_cell.specs.Cells.{AreSound};
 ghost use Rattle.ipcz_cell.specs.Outcomes.{IsPicked, touched};
-ghost use Rattle.ipcz_cell.specs.Retries.{FindsNumber, Retries, WaitsFirst};
+ghost use Rattle.ipcz_cell.specs.Retries.{FindsNumber, IsFirstDry, Retries};
 ghost use Rattle.ipcz_cell.specs.Seats.{mine_of, SlotsStay};
 
 use crate::cell::{NodeCell, touch};
@@ -14,6 +13,7 @@ use crate::fabric::{Fabric, FabricName};
 use crate::plays::Outcome;
 use crate::seat::TableSeat;
 use crate::slots::{leave_slot, number_at};
+use ipcz_base::End;
 use std::marker::Brand;
 
 /// What [`NodeCell::retry`] found.
@@ -49,16 +49,12 @@ fn wet_here<F: FabricName, X: Outcome>(
 }
 
 impl<F: FabricName> NodeCell<F> {
-    // The serial of the router that waits first for a slot.
-    fn first_waiting(&mut self) -> Option<u64>
-        ensures waits { IfSome result (WaitsFirst self.old.part.state) }
-        ensures none { IfNone result (IsNext (router_in self.old.part.state) (λ r. r.dry) 0 None) }
+    // The router that waits first for a slot: its serial and its end.
+    fn first_waiting(&mut self) -> Option<(u64, End)>
+        ensures waits { IsFirstDry self.old.part.state result }
         ensures stays { self.new ≡ self.old }
     {
-        let Some((serial, _)) = self.state.first_dry() else {
-            return None;
-        };
-        Some(serial)
+        self.state.first_dry()
     }
 
     // Whether a claim would find a number now, for which a slot is taken and given back.
@@ -105,7 +101,7 @@ impl<F: FabricName> NodeCell<F> {
     pub fn retry(&mut self, fabric: &Fabric<F>) -> Retry
         ensures { Retries F.table self.old result self.new }
     {
-        let Some(serial) = self.first_waiting() else {
+        let Some((serial, _)) = self.first_waiting() else {
             return Retry::NoneWaits;
         };
         if self.finds_number(fabric) {

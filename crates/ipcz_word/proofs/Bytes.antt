@@ -1,9 +1,9 @@
 -- A number by its low byte, which has the sets, and by what stands above it, which has the source.
-use Rattle.std.proofs.Common.{◌≡◌, ℕ, zero, suc, ◌+◌, ◌*◌, ◌/◌, ◌%◌, ◌==◌, ◌<◌, ◌^◌, refl, ap, sym, ◌∙◌, subst, arith, bit_and, bit_or, Option, Some, None}
+use Rattle.std.proofs.Common.{◌≡◌, ℕ, zero, suc, ◌+◌, ◌*◌, ◌/◌, ◌%◌, ◌==◌, ◌<◌, refl, ap, sym, ◌∙◌, arith, bit_and, bit_or, None}
 use Rattle.std.specs.Int.Bits.{or_add_and, and_zero_r}
 use Rattle.std.proofs.lemmas.Nat.{or_block, and_block, and_mask}
 use Rattle.std.proofs.lemmas.Nat.Bits.{and_high_mask}
-use Rattle.ipcz_word.specs.Layout.{has_bit, idle_bits, source_of_bits, source_bits, word_of_bits, sets_bits, bits_of, bits_beside}
+use Rattle.ipcz_word.specs.Layout.{idle_bits, source_of_bits, source_bits, word_of_bits, sets_bits, bits_of, bits_beside}
 use Rattle.ipcz_word.specs.Word.{Word}
 
 pub low : ℕ → ℕ

@@ -1,4 +1,4 @@
-use Rattle.std.proofs.Common.{arith, sym, subst}
+use Rattle.std.proofs.Common.{sym, subst}
 use Rattle.std.specs.Slots.{slots_items}
 use Rattle.ipcz_rule.specs.End.{IsShown}
 use Rattle.ipcz_cell.proofs.BoxesRead.{read_at}

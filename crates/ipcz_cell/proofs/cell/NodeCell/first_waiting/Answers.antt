@@ -1,13 +1,10 @@
-use Rattle.std.proofs.Common.{ℕ, Option, subst, sym, ap, ◌∙◌}
-use Rattle.ipcz_base.specs.declared.end.End.{End}
-use Rattle.ipcz_node.specs.Node.{Node, router_in}
+use Rattle.std.proofs.Common.{subst, sym, ap, ◌∙◌}
+use Rattle.ipcz_node.specs.Node.{Node}
 use Rattle.ipcz_node.specs.RoomyNodes.{RoomyNode}
-use Rattle.ipcz_node.specs.Finding.{IsNext}
 use Rattle.ipcz_cell.specs.CellStates.{CellState}
 use Rattle.ipcz_cell.specs.Cells.{IsCell}
-use Rattle.ipcz_cell.specs.Retries.{WaitsFirst}
+use Rattle.ipcz_cell.specs.Retries.{IsFirstDry}
 use Rattle.ipcz_cell.specs.Seats.{mine_of}
-use Rattle.ipcz_cell.proofs.Retrying.{waits_first}
 use Rattle.ipcz_cell.proofs.cell.NodeCell.first_waiting.Goals as goal
 
 pub invariant_of-self : goal.invariant_of-self
@@ -20,5 +17,4 @@ invariant_of-self g c = (
 pub returns-clause-waits : goal.returns-clause-waits
 returns-clause-waits g c =
     let state = sym c.self.invariant.0.seated.state ∙ ap (λ (o : CellState). o.part.state) c.self.view_is in
-    let found = subst (λ (o : Option (ℕ × End)). IsNext (router_in c.self.inside.state.node) (λ r. r.dry) 0 o) c.in-Some.is c.first_dry.ensures.found in
-    subst (λ (x : Node). WaitsFirst x c.in-Some.serial) state (waits_first c.self.inside.state.node _ _ found)
+    subst (λ (x : Node). IsFirstDry x c.first_dry.result) state c.first_dry.ensures.found

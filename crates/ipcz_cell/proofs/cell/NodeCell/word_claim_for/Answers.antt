@@ -1,4 +1,4 @@
-use Rattle.std.proofs.Common.{◌≡◌, ℕ, List, [], ◌∷◌, ◌++◌, is_some, Ok, ap, sym, subst, ◌∙◌, refl, arith}
+use Rattle.std.proofs.Common.{◌≡◌, ℕ, List, [], ◌∷◌, ◌++◌, is_some, ap, sym, subst, ◌∙◌, refl, arith}
 use Rattle.ipcz_router.specs.declared.act.Answer.TheVariants as answers
 use Rattle.ipcz_router.specs.declared.act.RouterAct.TheVariants as router_acts
 use Rattle.ipcz_node.specs.declared.act.Act.TheVariants as acts

@@ -1,0 +1,169 @@
+/* Four threads, each with its node's cell, on a table whose link words come back: requests with a fresh portal for their answer, pairs that are opened and
+ * closed, and a portal that goes round all nodes. In the end each slot for links is to be had again. */
+#include "ipcz_portals.h"
+
+#include <pthread.h>
+#include <sched.h>
+#include <stdio.h>
+
+enum { NODES = 4, FIRST_PAIRS = NODES * (NODES - 1) / 2, SLOTS = 64, ROUNDS = 5000, HOPS = 20000 };
+
+/* What a thread has: its cell, the portal at which it awaits an answer, and what it has done and served so far. */
+typedef struct worker {
+    ipcz_cell cell;
+    uint8_t node;
+    ipcz_portal kept;
+    bool awaits;
+    int answered, served, churned;
+    ipcz_status wrong;
+} worker;
+
+static worker workers[NODES];
+static pthread_mutex_t lock = PTHREAD_MUTEX_INITIALIZER;
+static int threads_done;
+static bool has_travelled, has_failed;
+
+static uint8_t node_behind(uint8_t node) { return (uint8_t)((node + 1) % NODES); }
+static uint8_t node_before(uint8_t node) { return (uint8_t)((node + NODES - 1) % NODES); }
+
+/* Opens a pair; again if another thread came between, and later if no slot is to be had now. */
+static ipcz_status open_pair(worker *of, ipcz_portal *kept, ipcz_portal *sent) {
+    ipcz_status status;
+    while ((status = ipcz_cell_open(&of->cell, kept, sent)) == IPCZ_RACED) continue;
+    return status;
+}
+
+/* Asks the next node, with a fresh portal for the answer. */
+static ipcz_status ask(worker *of) {
+    ipcz_portal sent;
+    ipcz_status status = open_pair(of, &of->kept, &sent);
+    if (status == IPCZ_NO_WORD) return IPCZ_OK;
+    if (!status) status = ipcz_cell_put(&of->cell, ipcz_first(of->node, node_behind(of->node), NODES), "?", 1, &sent, 1, NULL);
+    of->awaits = !status;
+    return status;
+}
+
+/* Takes the answer, if it has come. */
+static ipcz_status hear(worker *of) {
+    uint8_t byte;
+    ipcz_status status = ipcz_cell_get(&of->cell, of->kept, &byte, 1, NULL, NULL, 0, NULL, NULL);
+    if (status == IPCZ_EMPTY) return IPCZ_OK;
+    if (!status) status = ipcz_cell_close(&of->cell, of->kept);
+    of->awaits = false;
+    of->answered++;
+    return status;
+}
+
+/* Opens a pair and closes both portals. */
+static ipcz_status churn(worker *of) {
+    ipcz_portal one, other;
+    ipcz_status status = open_pair(of, &one, &other);
+    if (status == IPCZ_NO_WORD) return IPCZ_OK;
+    if (!status) status = ipcz_cell_close(&of->cell, one);
+    if (!status) status = ipcz_cell_close(&of->cell, other);
+    of->churned++;
+    return status;
+}
+
+/* Passes a portal on that has made so many hops, or closes it behind the last. */
+static ipcz_status pass_on(worker *of, ipcz_portal portal, int hops) {
+    if (hops == HOPS) {
+        pthread_mutex_lock(&lock);
+        has_travelled = true;
+        pthread_mutex_unlock(&lock);
+        return ipcz_cell_close(&of->cell, portal);
+    }
+    const uint8_t text[4] = { '>', (uint8_t)hops, (uint8_t)(hops >> 8), (uint8_t)(hops >> 16) };
+    return ipcz_cell_put(&of->cell, ipcz_first(of->node, node_behind(of->node), NODES), text, sizeof text, &portal, 1, NULL);
+}
+
+/* Serves what has come from the node before. */
+static ipcz_status serve(worker *of) {
+    uint8_t text[4];
+    size_t size, count;
+    ipcz_portal portal;
+    ipcz_status status = ipcz_cell_get(&of->cell, ipcz_first(of->node, node_before(of->node), NODES), text, sizeof text, &size, &portal, 1, &count, NULL);
+    if (status == IPCZ_EMPTY) return IPCZ_OK;
+    if (status || count != 1) return status ? status : IPCZ_STRANGER;
+    if (text[0] == '>') return pass_on(of, portal, (text[1] | text[2] << 8 | text[3] << 16) + 1);
+    of->served++;
+    status = ipcz_cell_put(&of->cell, portal, "!", 1, NULL, 0, NULL);
+    return status ? status : ipcz_cell_close(&of->cell, portal);
+}
+
+/* One round of a thread: turns of its node, what has come, and what it has to do itself. */
+static ipcz_status go_on(worker *of) {
+    ipcz_status status = ipcz_cell_acts(&of->cell, 1000, NULL);
+    if (status == IPCZ_RACED) status = IPCZ_OK;
+    ipcz_cell_retry(&of->cell);
+    if (!status) status = serve(of);
+    if (!status && of->awaits) return hear(of);
+    if (!status && of->answered < ROUNDS) status = ask(of);
+    if (!status && of->churned < ROUNDS) status = churn(of);
+    return status;
+}
+
+/* Whether all threads have done what they have to do; each says so once. */
+static bool are_done(worker *of, bool *told) {
+    pthread_mutex_lock(&lock);
+    if (!*told && of->answered == ROUNDS && of->served == ROUNDS && of->churned == ROUNDS && has_travelled) {
+        *told = true;
+        threads_done++;
+    }
+    const bool done = threads_done == NODES || has_failed;
+    pthread_mutex_unlock(&lock);
+    return done;
+}
+
+static void *work(void *of) {
+    worker *mine = of;
+    bool told = false;
+    while (!mine->wrong && !are_done(mine, &told)) {
+        mine->wrong = go_on(mine);
+        sched_yield();
+    }
+    if (mine->wrong) {
+        pthread_mutex_lock(&lock);
+        has_failed = true;
+        pthread_mutex_unlock(&lock);
+    }
+    return NULL;
+}
+
+/* Has all nodes take turns on this thread until none has any. */
+static bool rest(void) {
+    uint64_t sum = 1, acts;
+    while (sum) {
+        sum = 0;
+        for (int i = 0; i < NODES; i++) {
+            if (ipcz_cell_acts(&workers[i].cell, 1000, &acts)) return false;
+            sum += acts;
+            ipcz_cell_retry(&workers[i].cell);
+        }
+    }
+    return true;
+}
+
+int main(void) {
+    ipcz_cell cells[NODES];
+    pthread_t threads[NODES];
+    ipcz_portal kept, sent;
+    int opened = 0;
+    for (int i = 0; i < NODES; i++) cells[i] = (ipcz_cell)IPCZ_CELL_INIT;
+    if (ipcz_cells_create_lasting(SLOTS, cells, NODES)) return 1;
+    for (uint8_t i = 0; i < NODES; i++) workers[i] = (worker){ .cell = cells[i], .node = i };
+    if (ipcz_cell_open(&workers[0].cell, &kept, &sent) || pass_on(&workers[0], sent, 0)) return 1;
+    for (int i = 0; i < NODES; i++)
+        if (pthread_create(&threads[i], NULL, work, &workers[i])) return 1;
+    for (int i = 0; i < NODES; i++) {
+        pthread_join(threads[i], NULL);
+        printf("node %d: answered %d, served %d, opened and closed %d\n", i, workers[i].answered, workers[i].served, workers[i].churned);
+        if (workers[i].wrong) printf("refused %s\n", ipcz_status_name(workers[i].wrong));
+    }
+    if (ipcz_cell_close(&workers[0].cell, kept) || !rest()) return 1;
+    while (!ipcz_cell_open(&workers[0].cell, &kept, &sent)) opened++;
+    printf("a portal made %d hops: %s\n", HOPS, has_travelled ? "yes" : "no");
+    printf("slots that are to be had again: %d of %d\n", opened, SLOTS - FIRST_PAIRS);
+    for (int i = 0; i < NODES; i++) ipcz_cell_destroy(&workers[i].cell);
+    return 0;
+}
