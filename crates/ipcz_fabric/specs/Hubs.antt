@@ -1,6 +1,6 @@
 -- The portals that a hub begins with: one for each end that callers of its nodes hold, by node and then by the serial of the end's
 -- terminal. What its calls answer: what the call of some cell of the node answers.
-use Rattle.std.specs.Prelude.{◌≡◌, ◌⊎◌, ◌<◌, ◌≤◌, ◌+◌, ◌^◌, ℕ, List, [], ◌∷◌, ◌++◌, Some, None, Result, Ok, Err}
+use Rattle.std.specs.Prelude.{◌≡◌, ◌⊎◌, ◌<◌, ◌≤◌, ◌+◌, ◌^◌, ℕ, Bool, true, false, List, [], ◌∷◌, ◌++◌, Some, None, Result, Ok, Err}
 use Rattle.ipcz_base.specs.declared.end.End.{End}
 use Rattle.ipcz_base.specs.declared.side.Side.TheVariants.{A, B}
 use Rattle.ipcz_base.specs.declared.refusal.Refusal.{Refusal}
@@ -18,6 +18,7 @@ use Rattle.ipcz_cell.specs.TurnChains.{RunsTurns}
 use Rattle.ipcz_cell.specs.TurnEnds.{Turns}
 use Rattle.ipcz_cell.specs.Retries.{Retries}
 use Rattle.ipcz_cell.specs.declared.retry.Retry.{Retry}
+use Rattle.ipcz_cell.specs.declared.retry.Retry.TheVariants as retries
 
 -- these are the ends that callers of a node hold whose terminals have a serial from this one on, by rising serials; a serial is below
 -- 2 ^ 64
@@ -56,9 +57,19 @@ IsTurnAnswer t node answer = CellWhere t node (λ old. (new : CellState) × Turn
 abbrev pub AreTurnAnswers : TableName → ℕ → ℕ → Result ℕ Refusal → Type 0
 AreTurnAnswers t node limit answer = CellWhere t node (λ old. (new : CellState) × RunsTurns t limit old answer new)
 
--- a turn of a cell answers this and leaves the cell, in which a proxy may have been let ask again
-abbrev pub TurnsAsking : TableName → CellState → Result Happened Refusal → CellState → Type 0
-TurnsAsking t old answer new = (turned : CellState) × Turns t old answer turned × ((new ≡ turned) ⊎ ((found : Retry) × Retries t turned found new))
+-- whether a proxy asks again for its slot
+abbrev pub is_again : Retry → Bool
+is_again (retries.Again serial) = true
+is_again other = false
+
+-- a turn of a cell answers this and leaves the cell, in which a proxy may have been let ask again; it tells whether one does
+abbrev pub TurnsAsking : TableName → CellState → Result Happened Refusal → Bool → CellState → Type 0
+TurnsAsking t old answer asks new = (turned : CellState) × Turns t old answer turned ×
+    (((new ≡ turned) × (asks ≡ false)) ⊎ ((found : Retry) × Retries t turned found new × (asks ≡ is_again found)))
+
+-- a turn of a node, and a proxy of it that may have been let ask again, are told so
+abbrev pub IsAskingAnswer : TableName → ℕ → Result Happened Refusal → Bool → Type 0
+IsAskingAnswer t node answer asks = CellWhere t node (λ old. (new : CellState) × TurnsAsking t old answer asks new)
 
 -- a proxy of a node that asks again is answered this
 abbrev pub IsRetryAnswer : TableName → ℕ → Result Retry Refusal → Type 0

@@ -7,7 +7,7 @@ ghost use Rattle.ipcz_cell.specs.TurnEnds.{Turns};
 ghost use Rattle.ipcz_cell.specs.Retries.{Retries};
 ghost use Rattle.ipcz_fabric.specs.Places.{IsCellOf};
 ghost use Rattle.ipcz_fabric.specs.Hubs.{AddsFirst, AddsHeld, AreFirstPortals, ArePair, OpensPortals};
-ghost use Rattle.ipcz_fabric.specs.Hubs.{AreTurnAnswers, IsOpenAnswer, IsOpenRefusal, IsRetryAnswer, IsTurnAnswer, IsTurnRefusal, TurnsAsking};
+ghost use Rattle.ipcz_fabric.specs.Hubs.{AreTurnAnswers, IsOpenAnswer, IsOpenRefusal, IsRetryAnswer, IsTurnAnswer, IsTurnRefusal, IsAskingAnswer, TurnsAsking, is_again};
 
 use crate::portal::Portal;
 use ipcz_base::Refusal;
@@ -155,7 +155,9 @@ fn is_idle(answer: &Result<Happened, Refusal>) -> bool {
 }
 
 // Whether a proxy asks again.
-fn is_again(found: Retry) -> bool {
+fn is_again(found: Retry) -> bool
+    ensures { result ≡ is_again found }
+{
     matches!(found, Retry::Again(_))
 }
 
@@ -164,7 +166,7 @@ fn turn_asking_here<F: FabricName>(
     cell: &mut NodeCell<F>,
     fabric: &Fabric<F>,
 ) -> (Result<Happened, Refusal>, bool)
-    ensures { TurnsAsking F.table cell.old result.0 cell.new }
+    ensures { TurnsAsking F.table cell.old result.0 result.1 cell.new }
 {
     let answer = cell.turn(fabric);
     if is_idle(&answer) {
@@ -313,6 +315,7 @@ impl<F: FabricName> Hub<F> {
     pub(crate) fn turn_asking<R: Wait>(&self, rt: &R, node: u8) -> (Result<Happened, Refusal>, bool)
         ensures stranger { F.table.count ≤ node → result.0 ≡ Err Refusal.Stranger }
         ensures answer { node < F.table.count → IsTurnAnswer F.table node result.0 }
+        ensures asking { node < F.table.count → IsAskingAnswer F.table node result.0 result.1 }
     {
         if node >= self.fabric.nodes() {
             return (Err(Refusal::Stranger), false);
