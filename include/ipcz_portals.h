@@ -72,8 +72,8 @@ typedef struct ipcz_cell {
 #define IPCZ_CELL_INIT { IPCZ_NULL_, false }
 
 /* A portal: an end of a pair, of side A (side_b is false) or of side B. It is a name, and may be copied and compared. Which node may use
- * it is kept by the nodes. Pairs are numbered from 0 in each world, and in each table of cells; a number is below the number of link words,
- * and never comes again. So a portal of one world names a portal of another one, too: a call can't tell that it was given the wrong
+ * it is kept by the nodes. Pairs are numbered from 0 in each world, and in each table of cells; a number never comes again, and where link words
+ * don't come back it is below how many there are. So a portal of one world names a portal of another one, too: a call can't tell that it was given the wrong
  * world's, and uses the portal of that name, if the node has it. */
 typedef struct ipcz_portal {
     uint64_t pair;

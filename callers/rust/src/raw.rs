@@ -5,7 +5,7 @@
 #[repr(C)]
 #[derive(Clone, Copy, Debug, PartialEq, Eq, Hash)]
 pub struct Portal {
-    /// The pair's number, which is below the number of link words, and that no other pair of the world ever has.
+    /// The pair's number, which no other pair of the world ever has; where link words don't come back it is below their number.
     pub pair: u64,
     /// Whether it is the pair's portal of side B.
     pub side_b: bool,
