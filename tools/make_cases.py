@@ -148,7 +148,7 @@ class Moves(Drawing):
             ways = [way for way in self.held(node) if ">" in way and way not in PAIR]
             if kind < 0.35 and ways:
                 self.add("put", self.draw.choice(ways), "", [name])
-            elif kind > (0.6 if node.open_terminal(self.run.ends[name]).outward.decaying else 0.99):
+            elif kind > (0.8 if node.open_terminal(self.run.ends[name]).outward.decaying else 0.99):
                 self.add("close", name)
             else:
                 self.puts += 1

@@ -3,8 +3,8 @@
     python3 tools/examples/wrong_portals.py < SCRIPT > LOG
 
 It runs a script (docs/SCRIPTS.md) and writes its calls as lines that ipcz_judge reads. It has routers, proxies and bypasses of its own, which are simpler than
-those of docs/PROTOCOL.md: parcels aren't numbered on their way, one proxy of a pair is bypassed at a time, and no router is ever taken away. There are no link
-words, so no open is refused.
+those of docs/PROTOCOL.md: parcels aren't numbered on their way, one proxy of a pair is bypassed at a time, and no router is ever taken away. Of the script's
+link words each pair takes one, and a bypass none.
 """
 from __future__ import annotations
 
@@ -203,6 +203,8 @@ def run(script: dict[str, Any]) -> list[dict[str, Any]]:
     log = [{"nodes": script["nodes"], "profile": "printed"}]
     for op, *values in script["commands"]:
         match op, values:
+            case "open", [node, _, _] if len(world.peers) == 2 * script["words"]:
+                log.append({"node": node, "op": op, "refused": "NoWord"})
             case "open", [node, first, second]:
                 world.make_pair(first, node, second, node)
                 log.append({"node": node, "op": op, "first": first, "second": second})
