@@ -6,7 +6,8 @@
 FOLDER gets three files for each case: NUMBER.json, a script; NUMBER.txt, the transcript that tools/model.py writes for it, in which each node takes its first
 possible act; and NUMBER.log, the calls of that run with their answers, as ipcz_judge reads them. Another implementation may take other acts, and then writes other
 lines of turns; what is got, with its number and its portals, is the same wherever all was settled before. Whether its own calls may have their answers ipcz_judge
-says (docs/JUDGE.md). With `--check` no file is written: PROGRAM, which is `ipcz_run`, runs each case, and must write the model's transcript, with its status.
+says (docs/JUDGE.md). With `--check` no file is written: PROGRAM, which is `ipcz_run`, runs each case, and must write the model's transcript, with its status;
+tools/judge.py must allow its calls; and only what is wrong is printed, with how many cases there were.
 
 A case is kept if something came in it that hadn't come N times before (3 if nothing is said). It prints how often each kind came in the cases that were kept: a line
 each time that it is written, and a rare case each time that it begins. It fails if one didn't come often enough in so many scripts (2,000 if nothing is said). The
@@ -252,9 +253,11 @@ def main() -> int:
         for fault in faults_of(script, given.check) if given.check else []:
             is_wrong = True
             print(f"case {number}: {fault}")
+    missing = [kind for kind in WANTED if came[kind] < given.times]
     print(f"{len(cases)} cases")
-    print(*(f"{came[kind]:8} {kind}" for kind in WANTED), sep="\n")
-    return int(is_wrong or any(came[kind] < given.times for kind in WANTED))
+    for kind in missing if given.check else WANTED:
+        print(f"{came[kind]:8} {kind}")
+    return int(is_wrong or bool(missing))
 
 
 if __name__ == "__main__":
