@@ -13,8 +13,8 @@ A case is kept if something came in it that hadn't come N times before (3 if not
 each time that it is written, and a rare case each time that it begins. It fails if one didn't come often enough in so many scripts (2,000 if nothing is said). The
 scripts are the same for the same seed. A Flush that finds no router is so rare that it isn't waited for.
 
-The rare cases are states of the model's world after an act or a call; they stand below, each with its test. That a try for the lock is lost is told by the lines
-`wait` and `refused`, and a flush by `hand Flush`.
+The rare cases are states of the model's world after a turn, a call or a whole settle; they stand below, each with its test. That a try for the lock is lost is told
+by the lines `wait` and `refused`, and a flush by `hand Flush`.
 """
 import argparse
 import collections
@@ -54,8 +54,13 @@ def terminals(world: model.World) -> Iterator[model.Router]:
 
 
 def is_in_bypass(router: model.Router) -> bool:
-    """Whether it is a proxy that has begun its bypass and still has a link of it, or one that hears of another's."""
-    return router.is_proxy() and any(edge.decaying for edge in router.edges())
+    """Whether it is a proxy that has begun its bypass, and so has no new links, and still has an old one."""
+    return router.is_proxy() and router.outward.primary is None and any(edge.decaying for edge in router.edges())
+
+
+def is_nearly_done(router: model.Router) -> bool:
+    """Whether it is in its bypass, and has heard how many items still pass it."""
+    return is_in_bypass(router) and router.outward.length_to is not None
 
 
 def in_bypass(world: model.World) -> list[model.End]:
@@ -111,14 +116,13 @@ RARE: dict[str, Callable[[model.World], bool]] = {
     "side B has retired, and side A is still there": lambda world: has_left(world, "B"),
 }
 WANTED = [*(f"n: {event}" for event in EVENTS), *REFUSALS, *RARE]
-
-
+# The portals that move in a script of moves.
 PAIR = ("0>1", "1>0")
 
 
 class Moves(Drawing):
-    """A script in which the portals of one first pair move by way of the others, while parcels with different bytes are put at them. One node at a time
-    sleeps, often one with a proxy that is being bypassed; and an end is closed mostly while it has an old link."""
+    """A script in which the portals of one first pair move by way of the others, while parcels with different bytes are put at them. One node at a time takes no
+    turns, often one with a proxy that is being bypassed; and an end is closed mostly while it has an old link."""
 
     def __init__(self, draw: random.Random) -> None:
         super().__init__(draw, words=60, nodes=draw.choice([3, 3, 4]))
@@ -134,11 +138,12 @@ class Moves(Drawing):
         return [name for node in self.run.world.nodes for name in self.held(node) if node.open_terminal(self.run.ends[name]).in_queue.next()]
 
     def turns(self) -> None:
+        nearly_done = [node.number for node in self.run.world.nodes if any(map(is_nearly_done, node.routers.values()))]
         bypassed = [router.outward.decaying.other for router in terminals(self.run.world) if router.outward.decaying]
-        if self.draw.random() < 0.3:
-            self.asleep = self.draw.choice(bypassed or range(self.nodes))
+        if self.draw.random() < (0.9 if nearly_done else 0.3):
+            self.asleep = self.draw.choice(nearly_done or bypassed or range(self.nodes))
         awake = [node for node in range(self.nodes) if node != self.asleep]
-        self.add("turn", self.draw.choice(awake), self.draw.choice([2, 4, 12]))
+        self.add("turn", self.draw.choice(awake), self.draw.choice([1, 3, 9]))
 
     def call(self) -> None:
         kind, full, holders = self.draw.random(), self.full(), self.holders()

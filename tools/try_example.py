@@ -34,32 +34,28 @@ def portals(is_mended: bool) -> types.ModuleType:
     return module
 
 
-def refused(implementation: types.ModuleType) -> list[str]:
-    """Which scripts' calls aren't allowed."""
-    found = []
-    for number, script in enumerate(make_cases.scripts(0, SCRIPTS)):
-        verdict = judge.verdict(written(implementation.run(script)).encode())
-        if verdict != "allowed":
-            found.append(f"script {number}: {verdict}")
-    return found
+def refused(implementation: types.ModuleType, scripts: list[make_cases.Script]) -> list[str]:
+    """Of which scripts the calls aren't allowed."""
+    verdicts = [judge.verdict(written(implementation.run(script)).encode()) for script in scripts]
+    return [f"script {number}: {verdict}" for number, verdict in enumerate(verdicts) if verdict != "allowed"]
 
 
 def otherwise(program: pathlib.Path | None) -> list[str]:
     """What the lines of shell print otherwise than the page shows."""
-    surroundings = os.environ | ({"JUDGE": str(program)} if program else {})
+    surroundings = os.environ | {"JUDGE": os.path.relpath(program, TOP) if program else ""}
     done = subprocess.run(["sh", EXAMPLES / "judge_and_shrink.sh"], cwd=TOP, env=surroundings, capture_output=True, text=True)
     stored = (EXAMPLES / "judge_and_shrink.txt").read_text()
-    lines = difflib.unified_diff(stored.splitlines(), (done.stdout + done.stderr).splitlines(), "what the page shows", "what it prints", n=0, lineterm="")
-    return [*lines]
+    return [*difflib.unified_diff(stored.splitlines(), (done.stdout + done.stderr).splitlines(), "what the page shows", "what it prints", n=0, lineterm="")]
 
 
 def main() -> None:
     parser = asked.parser(__doc__)
     parser.add_argument("program", type=asked.program, nargs="?")
     given = parser.parse_args()
+    scripts = [*make_cases.scripts(0, SCRIPTS)]
     faults = otherwise(given.program)
-    faults += [f"without its fault: {it}" for it in refused(portals(is_mended=True))]
-    if not refused(portals(is_mended=False)):
+    faults += [f"without its fault: {it}" for it in refused(portals(is_mended=True), scripts)]
+    if not refused(portals(is_mended=False), scripts):
         faults.append("no script shows the fault")
     if faults:
         sys.exit("\n".join(faults))
