@@ -11,7 +11,7 @@ tools/judge.py must allow its calls; and only what is wrong is printed, with how
 
 A case is kept if something came in it that hadn't come N times before (3 if nothing is said). It prints how often each kind came in the cases that were kept: a line
 each time that it is written, and a rare case each time that it begins. It fails if one didn't come often enough in so many scripts (2,000 if nothing is said). The
-scripts are the same for the same seed. A Flush that finds no router is so rare that it isn't waited for.
+scripts are the same for the same seed. A Flush that finds no router is so rare that it isn't waited for; strays, and what comes of missing memory, no script shows.
 
 The rare cases are states of the model's world after a turn, a call or a whole settle; they stand below, each with its test. That a try for the lock is lost is told
 by the lines `wait` and `refused`, and a flush by `hand Flush`.

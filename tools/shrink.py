@@ -67,9 +67,8 @@ def on_other_nodes(command: list, places: list[int | None]) -> list | None:
     match command:
         case ["open" | "turn" as kind, node, *rest]:
             return None if places[node] is None else [kind, places[node], *rest]
-        case ["put", name, data, names]:
-            command = ["put", name, data, [other for each in names if (other := renamed(each, places))]]
-    match command:
+        case ["put", name, data, names] if renamed(name, places):
+            return ["put", renamed(name, places), data, [other for each in names if (other := renamed(each, places))]]
         case ["put" | "get" | "close" as kind, name, *rest]:
             return [kind, renamed(name, places), *rest] if renamed(name, places) else None
     return command
