@@ -34,9 +34,9 @@ PIECES = [
 class Drawing:
     """A script that is drawn command by command. The model runs along, so that most calls are those that some caller could make."""
 
-    def __init__(self, draw: random.Random, words: int | None = None) -> None:
+    def __init__(self, draw: random.Random, words: int | None = None, nodes: int | None = None) -> None:
         self.draw = draw
-        self.nodes = draw.choice([1, 2, 2, 2, 2, 3, 3, 4, 8])
+        self.nodes = nodes or draw.choice([1, 2, 2, 2, 2, 3, 3, 4, 8])
         pairs = self.nodes * (self.nodes - 1) // 2
         self.words = words or pairs + draw.choice([0, 1, 3, 6, 12, 40, 40, 40])
         self.run = model.Run(self.nodes, self.words)

@@ -16,6 +16,7 @@ import tempfile
 
 import asked
 import count_sizes
+import judge
 import make_reference
 import make_theorem
 import model
@@ -37,8 +38,10 @@ OWN = re.compile(r'(?<!\.md\)) ?\("([A-Z][^"]+)"(?:(?: and|,) "([^"]+)")?\)')
 MOST_WORDS = 6000
 # What a page shows as out of a file.
 QUOTED = re.compile(r"^<!-- out of (\S+) -->\n```\w*\n(.*?)^```$", re.MULTILINE | re.DOTALL)
-# Tools that run a program which is given to them.
-OF_A_PROGRAM = ("benchmark", "compare_judges", "compare_with_model", "refuse_growth", "soak", "try_pages")
+# A script on four nodes that needs one, whose commands stand on the last.
+MERGED = {"nodes": 4, "words": 7, "commands": [["open", 3, "a", "b"], ["put", "a", "more", ["3>1"]], ["settle", 100], ["get", "b"]]}
+# Tools that run a program which is given to them, with the options that they need for it.
+OF_A_PROGRAM = ("benchmark", "compare_judges", "compare_with_model", "make_cases --check", "refuse_growth", "soak", "try_example", "try_pages")
 # What the model answers of bytes that are no script, or barely one, by docs/SCRIPTS.md, "The script".
 SCRIPT = b'{"nodes":1,"words":1,"commands":[["put","x",%s]]}'
 TEXTS = {
@@ -76,7 +79,10 @@ def faults_of(tool: str) -> list[str]:
 
 
 def faults_of_a_missing_program() -> list[str]:
-    ran = {tool: call(f"{tool}.py", "crates/nobody/out/nobody") for tool in OF_A_PROGRAM}
+    ran = {}
+    for tool in OF_A_PROGRAM:
+        name, *options = tool.split()
+        ran[tool] = call(f"{name}.py", *options, "crates/nobody/out/nobody")
     return [f"{tool} of a program that isn't there: {it.stderr[-200:]}" for tool, it in ran.items() if it.returncode != 2 or "isn't built" not in it.stderr]
 
 
@@ -119,7 +125,8 @@ def faults_of_readme() -> list[str]:
 
 
 def faults_of_cases() -> list[str]:
-    """Each case has the model's transcript; and of a script on which a command fails that looks for a text in the transcript, the shortest is found."""
+    """Each case has the model's transcript, and a log that is allowed; and of a script on which a command fails that looks for a text in the transcript, the shortest is
+    found, on the fewest nodes."""
     faults = []
     with tempfile.TemporaryDirectory() as folder:
         made = call("make_cases.py", folder, "--times", "1", "--most", "12")
@@ -127,12 +134,16 @@ def faults_of_cases() -> list[str]:
         if made.returncode not in (0, 1) or not made.stdout.startswith(f"{len(cases)} cases\n") or not cases:
             faults.append(f"make_cases: status {made.returncode}, {made.stdout[:60]!r} {made.stderr[-200:]}")
         faults += [f"make_cases: {case.name}" for case in cases if model.answer(case.read_bytes())[0] != case.with_suffix(".txt").read_text()]
+        faults += [f"make_cases: the log of {case.name}" for case in cases if judge.verdict(case.with_suffix(".log").read_bytes()) != "allowed"]
         script = pathlib.Path(folder, "script")
         script.write_text('{"nodes":3,"words":9,"commands":[["open",0,"x","y"],["put","x","a",["2>1"]],["put","0>1","b"],["close","0>1"],["settle",100],["get","1>0"],["get","1>0"],["show"]]}')
         smaller = shrink.shrunk(model.read_json(script.read_text()), lambda it: model.first_fault(it) is None and "get 1>0 PeerClosed" in model.transcript(it)[0])
         # Node 0 sends the close, posts it and rests, and node 1 looks and takes it: five acts.
         if smaller != {"nodes": 2, "words": 1, "commands": [["close", "0>1"], ["settle", 5], ["get", "1>0"]]}:
             faults.append(f"shrink: {smaller}")
+        merged = shrink.shrunk(MERGED, lambda it: model.first_fault(it) is None and 'get b 0 [] "m' in model.transcript(it)[0])
+        if merged != {"nodes": 1, "words": 1, "commands": [["open", 0, "a", "b"], ["put", "a", "m"], ["settle", 4], ["get", "b"]]}:
+            faults.append(f"shrink of nodes: {merged}")
         passing = call("shrink.py", str(script), "--", "true")
         if passing.returncode != 1 or "no script on which the command fails" not in passing.stderr:
             faults.append(f"shrink of what passes: status {passing.returncode}, {passing.stderr[-200:]}")
