@@ -116,10 +116,7 @@ impl<F: FabricName> NodeCell<F> {
         ensures { ClaimsWord F.table serial self.old self.new result }
     {
         match serial {
-            Some(serial) => {
-                let _words = fabric.words;
-                self.word_claim_for(fabric, serial)
-            }
+            Some(serial) => self.word_claim_for(fabric, serial),
             None => self.claim_for_open(fabric),
         }
     }

@@ -216,7 +216,6 @@ impl<F: FabricName> NodeCell<F> {
         requires { IsPossibleAct self.old.part.state (Act.Router serial RouterAct.Claim) }
         ensures { Acts F.table (Act.Router serial RouterAct.Claim) self.old result self.new }
     {
-        let _words = fabric.words;
         match self.word_claim_for(fabric, serial) {
             Ok(word) => Ok(Happened::Claim(serial, word)),
             Err(Refusal::NoWord) => Ok(Happened::ClaimNoWord(serial)),
