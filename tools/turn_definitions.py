@@ -90,8 +90,8 @@ TURNS = {
         (CODE, "set_length_to(self.out_queue.current());", "set_length_to(self.out_queue.reach());"),
     ],
     "a_stop_has_its_lengths_swapped": [
-        (SPEC, "(opposite side) r.out_queue.current length", "(opposite side) length r.out_queue.current"),
-        (UPDATES, "(opposite side) r.out_queue.current length", "(opposite side) length r.out_queue.current"),
+        (SPEC, "(opposite side) old r.out_queue.current length", "(opposite side) old length r.out_queue.current"),
+        (UPDATES, "(opposite side) old r.out_queue.current length", "(opposite side) old length r.out_queue.current"),
         (
             CODE,
             "            in_length: self.out_queue.current(),\n            out_length: length,",
@@ -99,8 +99,8 @@ TURNS = {
         ),
         (
             HAND_RANKS,
-            "(messages.StopProxying old (opposite side) r.out_queue.current length)",
-            "(messages.StopProxying old (opposite side) length r.out_queue.current)",
+            "(messages.StopProxying (opposite side) old r.out_queue.current length)",
+            "(messages.StopProxying (opposite side) old length r.out_queue.current)",
         ),
     ],
     "a_proxy_has_its_outward_lengths_swapped": [

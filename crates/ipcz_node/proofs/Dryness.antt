@@ -68,7 +68,7 @@ pub hear_dry : (r : Router) (sender : ℕ) (m : Message) → (hear r sender m).d
 unfolding hear
 hear_dry r sender (messages.BypassPeer link side old target fresh) = refl
 hear_dry r sender (messages.AcceptBypass old side fresh length) = refl
-hear_dry r sender (messages.StopProxying old side in_length out_length) = refl
+hear_dry r sender (messages.StopProxying side old in_length out_length) = refl
 hear_dry r sender (messages.ProxyWillStop link side in_length) = refl
 hear_dry r sender (messages.Flush link side) = refl
 hear_dry r sender (messages.Item link side number item moves) = refl

@@ -63,7 +63,7 @@ module _ (n : Node) (sender : ℕ) (s : ℕ) (r : Router) where
   found_fits (messages.AcceptBypass old side fresh length) source here other =
       ap (λ b. b && is_source sender source) (passes_some _ s r _ here)
       ∙ other_order (fits_accept_bypass r old side) (not (is_named n (Central fresh) side)) (is_source sender source)
-  found_fits (messages.StopProxying old side in_length out_length) source here other = passes_some _ s r _ here ∙ with_true _
+  found_fits (messages.StopProxying side old in_length out_length) source here other = passes_some _ s r _ here ∙ with_true _
   found_fits (messages.ProxyWillStop link side in_length) source here other = passes_some _ s r _ here ∙ with_true _
   found_fits (messages.Flush link side) source here other = refl
 
@@ -101,7 +101,7 @@ found_room k (messages.AcceptBypass old side fresh length) s r here other room =
   room_to_stop k r r.outward.primary old side length
       (subst (λ (o : Option Found). IfSome o (λ f. HasRoomToward k f.router.outward.primary)) here room.1),
 )
-found_room k (messages.StopProxying old side in_length out_length) s r here other room = (
+found_room k (messages.StopProxying side old in_length out_length) s r here other room = (
   omega arith,
   room_to_will_stop k (inward_edge r).decaying in_length
       (subst (λ (o : Option Found). IfSome o (λ f. HasRoomToward k (inward_edge f.router).decaying)) here room),

@@ -50,7 +50,7 @@ unfolding hear links_brought
 hear_standing r sender (messages.Item link side number item moves) = same_standing r
 hear_standing r sender (messages.BypassPeer link side old target fresh) = bypass_standing r target fresh
 hear_standing r sender (messages.AcceptBypass old side fresh length) = accept_bypass_standing r sender side fresh length
-hear_standing r sender (messages.StopProxying old side in_length out_length) = stop_proxying_standing r in_length out_length
+hear_standing r sender (messages.StopProxying side old in_length out_length) = stop_proxying_standing r in_length out_length
 hear_standing r sender (messages.ProxyWillStop link side in_length) = proxy_will_stop_standing r in_length
 hear_standing r sender (messages.Flush link side) =
     record { few = omega (arith, same_links (filing_of r)); closes = λ h. h; stays = refl }
@@ -61,7 +61,7 @@ unfolding hear links_brought
 hear_stays r sender (messages.Item link side number item moves) none = refl
 hear_stays r sender (messages.BypassPeer link side old target fresh) none = absurd (omega (arith, none))
 hear_stays r sender (messages.AcceptBypass old side fresh length) none = absurd (omega (arith, none))
-hear_stays r sender (messages.StopProxying old side in_length out_length) none = stopping r.inward refl
+hear_stays r sender (messages.StopProxying side old in_length out_length) none = stopping r.inward refl
   where
     stopping : (i : Option Edge) → r.inward ≡ i → StaysFiled r (stop_proxying r in_length out_length)
     stopping None is = subst (λ i. StaysFiled (record r { inward = i }) (stop_proxying (record r { inward = i }) in_length out_length))

@@ -32,7 +32,7 @@ unfoldable pub kind_of : Message → Handed
 kind_of (messages.Item link side number item moves) = kinds.Item number
 kind_of (messages.BypassPeer link side old target fresh) = kinds.BypassPeer
 kind_of (messages.AcceptBypass old side fresh length) = kinds.AcceptBypass
-kind_of (messages.StopProxying old side in_length out_length) = kinds.StopProxying
+kind_of (messages.StopProxying side old in_length out_length) = kinds.StopProxying
 kind_of (messages.ProxyWillStop link side in_length) = kinds.ProxyWillStop
 kind_of (messages.Flush link side) = kinds.Flush
 

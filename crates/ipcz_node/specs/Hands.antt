@@ -28,7 +28,7 @@ unfoldable pub link_asked : Message → LinkId
 link_asked (messages.Item link side number item moves) = link
 link_asked (messages.BypassPeer link side old target fresh) = link
 link_asked (messages.AcceptBypass old side fresh length) = Central old
-link_asked (messages.StopProxying old side in_length out_length) = Central old
+link_asked (messages.StopProxying side old in_length out_length) = Central old
 link_asked (messages.ProxyWillStop link side in_length) = link
 link_asked (messages.Flush link side) = link
 
@@ -37,7 +37,7 @@ unfoldable pub side_asked : Message → Side
 side_asked (messages.Item link side number item moves) = side
 side_asked (messages.BypassPeer link side old target fresh) = side
 side_asked (messages.AcceptBypass old side fresh length) = side
-side_asked (messages.StopProxying old side in_length out_length) = side
+side_asked (messages.StopProxying side old in_length out_length) = side
 side_asked (messages.ProxyWillStop link side in_length) = side
 side_asked (messages.Flush link side) = side
 
@@ -82,7 +82,7 @@ fits n sender (messages.BypassPeer link side old target fresh) source =
 fits n sender (messages.AcceptBypass old side fresh length) source =
     passes_at (link_router n (Central old) side) (λ r. fits_accept_bypass r old side && not (is_named n (Central fresh) side)) &&
     is_source sender source
-fits n sender (messages.StopProxying old side in_length out_length) source =
+fits n sender (messages.StopProxying side old in_length out_length) source =
     passes_at (link_router n (Central old) side) (λ r. fits_stop_proxying r old side)
 fits n sender (messages.ProxyWillStop link side in_length) source = passes_at (link_router n link side)
     (λ r. fits_proxy_will_stop r link side)
@@ -117,7 +117,7 @@ handle n sender (messages.BypassPeer link side old target fresh) =
 handle n sender (messages.AcceptBypass old side fresh length) =
     on_found n (link_router n (Central old) side) (λ s r. tell (with_router n s (accept_bypass r sender side fresh length))
     (stop_message r r.outward.primary old side length))
-handle n sender (messages.StopProxying old side in_length out_length) =
+handle n sender (messages.StopProxying side old in_length out_length) =
     on_found n (link_router n (Central old) side) (λ s r. tell (with_router n s (stop_proxying r in_length out_length))
     (will_stop_message (inward_edge r).decaying in_length))
 handle n sender (messages.ProxyWillStop link side in_length) =

@@ -48,6 +48,6 @@ HasRoomFor k (messages.Item link side number item moves) =
 HasRoomFor k (messages.BypassPeer link side old target fresh) = (0 < k.room.links) × (0 < place_at 0 k.room.outboxes target)
 HasRoomFor k (messages.AcceptBypass old side fresh length) =
     (0 < k.room.links) × IfSome (link_router k.node (Central old) side) (λ f. HasRoomToward k f.router.outward.primary)
-HasRoomFor k (messages.StopProxying old side in_length out_length) =
+HasRoomFor k (messages.StopProxying side old in_length out_length) =
     IfSome (link_router k.node (Central old) side) (λ f. HasRoomToward k (inward_edge f.router).decaying)
 HasRoomFor k other = Unit {0}

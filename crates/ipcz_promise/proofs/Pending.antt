@@ -148,7 +148,7 @@ pending-handle n sender (messages.AcceptBypass old side fresh length) = go (link
     go None = refl
     go (Some f) = pending-tell (with_router n f.serial (accept_bypass f.router sender side fresh length))
         (stop_message f.router f.router.outward.primary old side length)
-pending-handle n sender (messages.StopProxying old side in_length out_length) = go (link_router n (Central old) side)
+pending-handle n sender (messages.StopProxying side old in_length out_length) = go (link_router n (Central old) side)
   where
     go : (o : Option Found) → (on_found n o (λ s r. tell (with_router n s (stop_proxying r in_length out_length))
         (will_stop_message (inward_edge r).decaying in_length))).pending ≡ n.pending

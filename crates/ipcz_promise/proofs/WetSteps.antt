@@ -168,7 +168,7 @@ wet-handle n sender (messages.BypassPeer link side old target fresh) law = wet-a
     (λ s r h. wet-tell _ (Some (accept_message r old target fresh)) (wet-with n s (bypass_peer r target fresh) law h))
 wet-handle n sender (messages.AcceptBypass old side fresh length) law = wet-at n _ (link_router n (Central old) side) refl _ law
     (λ s r h. wet-tell _ (stop_message r r.outward.primary old side length) (wet-with n s (accept_bypass r sender side fresh length) law h))
-wet-handle n sender (messages.StopProxying old side in_length out_length) law = wet-at n _ (link_router n (Central old) side) refl _ law
+wet-handle n sender (messages.StopProxying side old in_length out_length) law = wet-at n _ (link_router n (Central old) side) refl _ law
     (λ s r h. wet-tell _ (will_stop_message (inward_edge r).decaying in_length) (wet-with n s (stop_proxying r in_length out_length) law h))
 wet-handle n sender (messages.ProxyWillStop link side in_length) law = wet-at n _ (link_router n link side) refl _ law
     (λ s r h. wet-with n s (proxy_will_stop r in_length) law h)

@@ -51,7 +51,7 @@ accept_bypass r sender side fresh length =
 unfoldable pub stop_message : Router → Option LinkEnd → ℕ → Side → ℕ → Option Sending
 stop_message r None old side length = None
 stop_message r (Some e) old side length =
-    Some (record { to = e.other; message = StopProxying old (opposite side) r.out_queue.current length })
+    Some (record { to = e.other; message = StopProxying (opposite side) old r.out_queue.current length })
 
 -- whether an edge has a decaying link with both lengths unknown
 abbrev pub decays_unknown : Edge → Bool

@@ -14,7 +14,7 @@ unfoldable pub hears : Router → ℕ → Message → Option ℕ → Bool
 hears r sender (messages.Item link side number item moves) source = false
 hears r sender (messages.BypassPeer link side old target fresh) source = fits_bypass_peer r link side
 hears r sender (messages.AcceptBypass old side fresh length) source = fits_accept_bypass r old side && is_source sender source
-hears r sender (messages.StopProxying old side in_length out_length) source = fits_stop_proxying r old side
+hears r sender (messages.StopProxying side old in_length out_length) source = fits_stop_proxying r old side
 hears r sender (messages.ProxyWillStop link side in_length) source = fits_proxy_will_stop r link side
 hears r sender (messages.Flush link side) source = true
 
@@ -28,7 +28,7 @@ unfoldable pub hear : Router → ℕ → Message → Router
 hear r sender (messages.Item link side number item moves) = r
 hear r sender (messages.BypassPeer link side old target fresh) = bypass_peer r target fresh
 hear r sender (messages.AcceptBypass old side fresh length) = accept_bypass r sender side fresh length
-hear r sender (messages.StopProxying old side in_length out_length) = stop_proxying r in_length out_length
+hear r sender (messages.StopProxying side old in_length out_length) = stop_proxying r in_length out_length
 hear r sender (messages.ProxyWillStop link side in_length) = proxy_will_stop r in_length
 hear r sender (messages.Flush link side) = rouse r
 
@@ -37,7 +37,7 @@ unfoldable pub answer_to : Router → Message → Option Sending
 answer_to r (messages.Item link side number item moves) = None
 answer_to r (messages.BypassPeer link side old target fresh) = Some (accept_message r old target fresh)
 answer_to r (messages.AcceptBypass old side fresh length) = stop_message r r.outward.primary old side length
-answer_to r (messages.StopProxying old side in_length out_length) = will_stop_message (inward_edge r).decaying in_length
+answer_to r (messages.StopProxying side old in_length out_length) = will_stop_message (inward_edge r).decaying in_length
 answer_to r (messages.ProxyWillStop link side in_length) = None
 answer_to r (messages.Flush link side) = None
 

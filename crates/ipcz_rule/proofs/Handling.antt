@@ -57,7 +57,7 @@ handle_hand n sender (messages.BypassPeer link side old target fresh) =
     on_found_hand n (link_router n link side) _ (λ s r. tell_hand (with_router n s (bypass_peer r target fresh)) (Some (accept_message r old target fresh)))
 handle_hand n sender (messages.AcceptBypass old side fresh length) =
     on_found_hand n (link_router n (Central old) side) _ (λ s r. tell_hand (with_router n s (accept_bypass r sender side fresh length)) (stop_message r r.outward.primary old side length))
-handle_hand n sender (messages.StopProxying old side in_length out_length) =
+handle_hand n sender (messages.StopProxying side old in_length out_length) =
     on_found_hand n (link_router n (Central old) side) _ (λ s r. tell_hand (with_router n s (stop_proxying r in_length out_length)) (will_stop_message (inward_edge r).decaying in_length))
 handle_hand n sender (messages.ProxyWillStop link side in_length) = on_found_hand n (link_router n link side) _ (λ s r. refl)
 handle_hand n sender (messages.Flush link side) = on_found_hand n (link_router n link side) _ (λ s r. refl)

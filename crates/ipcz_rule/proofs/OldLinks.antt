@@ -28,7 +28,7 @@ told_source w (messages.AcceptBypass o side fresh length) old from named h =
     rw (← same) (picked (nat_lt o w.claimed) (word_at w o).source from h)
 told_source w (messages.Item link side number item moves) old from named h = cc
 told_source w (messages.BypassPeer link side o target fresh) old from named h = cc
-told_source w (messages.StopProxying o side in_length out_length) old from named h = cc
+told_source w (messages.StopProxying side o in_length out_length) old from named h = cc
 told_source w (messages.ProxyWillStop link side in_length) old from named h = cc
 told_source w (messages.Flush link side) old from named h = cc
 

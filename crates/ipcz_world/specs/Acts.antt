@@ -118,7 +118,7 @@ peer_act w from k r old target fresh =
 
 -- what the router across tells the proxy, and the proxy the router inward
 abbrev pub tells_stop : Router → ℕ → Side → ℕ → Message
-tells_stop r old side length = messages.StopProxying old (opposite side) r.out_queue.current length
+tells_stop r old side length = messages.StopProxying (opposite side) old r.out_queue.current length
 
 abbrev pub tells_will_stop : LinkEnd → ℕ → Message
 tells_will_stop inner in_length = messages.ProxyWillStop inner.link (opposite inner.side) in_length

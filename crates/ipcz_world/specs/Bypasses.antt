@@ -106,8 +106,8 @@ of_bypass g o h (messages.Item link side n item moves) = 0
 of_bypass g o h (messages.BypassPeer link side old target fresh) =
     cond (nat_eq old o) (h (messages.BypassPeer link side old target fresh)) 0
 of_bypass g o h (messages.AcceptBypass old side fresh length) = cond (nat_eq old o) (h (messages.AcceptBypass old side fresh length)) 0
-of_bypass g o h (messages.StopProxying old side in_length out_length) =
-    cond (nat_eq old o) (h (messages.StopProxying old side in_length out_length)) 0
+of_bypass g o h (messages.StopProxying side old in_length out_length) =
+    cond (nat_eq old o) (h (messages.StopProxying side old in_length out_length)) 0
 of_bypass g o h (messages.ProxyWillStop link side in_length) = cond (is_by g link o) (h (messages.ProxyWillStop link side in_length)) 0
 of_bypass g o h (messages.Flush link side) = 0
 
@@ -121,7 +121,7 @@ accept_of g o = messages.AcceptBypass o (across_side g o) (g.bypass o).fresh (g.
 
 -- what tells the proxy
 abbrev pub stop_of : Records → ℕ → Message
-stop_of g o = messages.StopProxying o (proxy_side g o) (g.bypass o).accepted_at (g.bypass o).taken_at
+stop_of g o = messages.StopProxying (proxy_side g o) o (g.bypass o).accepted_at (g.bypass o).taken_at
 
 -- what tells the router inward that the proxy will stop
 abbrev pub will_stop_of : Records → ℕ → Message

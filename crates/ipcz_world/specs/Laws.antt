@@ -68,7 +68,7 @@ pub record IsBypassed (w : World) (i : ℕ) : Type 0 where
 unfoldable pub names_old : ℕ → Message → Bool
 names_old o (messages.BypassPeer link side old target fresh) = nat_eq old o
 names_old o (messages.AcceptBypass old side fresh length) = nat_eq old o
-names_old o (messages.StopProxying old side in_length out_length) = nat_eq old o
+names_old o (messages.StopProxying side old in_length out_length) = nat_eq old o
 names_old o other = false
 
 -- a central link that decays, or that a message names as old, is bypassed under the lock
@@ -91,7 +91,7 @@ unfoldable pub names_link : ℕ → Message → Bool
 names_link i (messages.Item link side n item moves) = same_link link (Central i)
 names_link i (messages.BypassPeer link side old target fresh) = same_link link (Central i) || nat_eq old i
 names_link i (messages.AcceptBypass old side fresh length) = nat_eq old i || nat_eq fresh i
-names_link i (messages.StopProxying old side in_length out_length) = nat_eq old i
+names_link i (messages.StopProxying side old in_length out_length) = nat_eq old i
 names_link i (messages.ProxyWillStop link side in_length) = same_link link (Central i)
 names_link i (messages.Flush link side) = same_link link (Central i)
 
@@ -156,17 +156,17 @@ pub data Knows (w : World) (link : LinkId) (s : Side) (n : ℕ) : Type 0 where
   Accepting : (from to i old : ℕ) → (side : Side) → (fresh : ℕ) → IsUnderWay w from to i (messages.AcceptBypass old side fresh n) →
       Central old ≡ link → opposite side ≡ s → Knows w link s n
   StoppingIn : (from to i old : ℕ) → (side : Side) → (out_length : ℕ) →
-      IsUnderWay w from to i (messages.StopProxying old side n out_length) → Central old ≡ link → opposite side ≡ s → Knows w link s n
+      IsUnderWay w from to i (messages.StopProxying side old n out_length) → Central old ≡ link → opposite side ≡ s → Knows w link s n
   StoppingOut : (from to i old : ℕ) → (side : Side) → (in_length : ℕ) →
-      IsUnderWay w from to i (messages.StopProxying old side in_length n) → Central old ≡ link → side ≡ s → Knows w link s n
+      IsUnderWay w from to i (messages.StopProxying side old in_length n) → Central old ≡ link → side ≡ s → Knows w link s n
   -- the same lengths hold for the inner link of the proxy that they go to
   StoppingInner : (from to i old : ℕ) → (side : Side) → (out_length : ℕ) →
-      IsUnderWay w from to i (messages.StopProxying old side n out_length) → (k : Key) → (r : Router) → (e : LinkEnd) →
+      IsUnderWay w from to i (messages.StopProxying side old n out_length) → (k : Key) → (r : Router) → (e : LinkEnd) →
       router_at w k ≡ Some r →
       k.node ≡ to → router_has r (Central old) side ≡ true → (inward_edge r).decaying ≡ Some e → e.link ≡ link → e.side ≡ s →
       Knows w link s n
   StoppingInnerOut : (from to i old : ℕ) → (side : Side) → (in_length : ℕ) →
-      IsUnderWay w from to i (messages.StopProxying old side in_length n) → (k : Key) → (r : Router) → (e : LinkEnd) →
+      IsUnderWay w from to i (messages.StopProxying side old in_length n) → (k : Key) → (r : Router) → (e : LinkEnd) →
       router_at w k ≡ Some r →
       k.node ≡ to → router_has r (Central old) side ≡ true → (inward_edge r).decaying ≡ Some e → e.link ≡ link → opposite e.side ≡ s →
       Knows w link s n

@@ -86,7 +86,7 @@ pub record IsRanked (w : World) : Type 0 where
 unfoldable pub takes_link : LinkId → Message → Bool
 takes_link link (messages.BypassPeer l side old target fresh) = same_link l link || same_link (Central old) link
 takes_link link (messages.AcceptBypass old side fresh length) = same_link (Central old) link
-takes_link link (messages.StopProxying old side in_length out_length) = same_link (Central old) link
+takes_link link (messages.StopProxying side old in_length out_length) = same_link (Central old) link
 takes_link link (messages.ProxyWillStop l side in_length) = same_link l link
 takes_link link other = false
 

@@ -80,7 +80,7 @@ unfoldable pub message_worth : Rates → Message → ℕ
 message_worth c (messages.Item link side n item moves) = 3 + moves_worth c moves
 message_worth c (messages.BypassPeer link side old target fresh) = 36
 message_worth c (messages.AcceptBypass old side fresh length) = 22
-message_worth c (messages.StopProxying old side in_length out_length) = 8
+message_worth c (messages.StopProxying side old in_length out_length) = 8
 message_worth c (messages.ProxyWillStop link side in_length) = 3
 message_worth c (messages.Flush link side) = 3
 

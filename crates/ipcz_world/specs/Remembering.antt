@@ -132,7 +132,7 @@ handled_records w g n (messages.BypassPeer link side old target fresh) (Some f) 
     taken_records g (record { node = n; serial = f.serial }) f.router old fresh target
 handled_records w g n (messages.AcceptBypass old side fresh length) (Some f) =
     accepted_records g (record { node = n; serial = f.serial }) f.router old side fresh
-handled_records w g n (messages.StopProxying old side in_length out_length) (Some f) = told_records g old
+handled_records w g n (messages.StopProxying side old in_length out_length) (Some f) = told_records g old
 handled_records w g n (messages.ProxyWillStop link side in_length) (Some f) = ended_records g (inner_bypass g link)
 handled_records w g n (messages.Flush link side) (Some f) = g
 

@@ -468,7 +468,7 @@ module _ {w : World} {b : Books} {g : Records} {from : ℕ} {k : Key} {r : Route
   expected_after : (t : ℕ → ℕ → Message → ℕ) → control_weight h t o ≡ t k.node e.other sent
   unfolding control_weight
   expected_after t = rw (stage_after law can)
-      (λ i. t (beyond i) (proxy i) (messages.StopProxying o (proxy_is_after law can i) (accepted_after law can i) (taken i)))
+      (λ i. t (beyond i) (proxy i) (messages.StopProxying (proxy_is_after law can i) o (accepted_after law can i) (taken i)))
     where
       beyond : side_node h (Central o) (across_side h o) ≡ k.node
       beyond = side_node-agree g h (agree law can) (Central o) (across_side h o) ∙

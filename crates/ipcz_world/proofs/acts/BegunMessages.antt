@@ -70,7 +70,7 @@ module _ {w v : World} {b : Books} {g : Records} {k : Key} {r y : Router} {p : K
       about-same j f (messages.Item l t n item moves) a = refl
       about-same j f (messages.BypassPeer l t old target n) a = refl
       about-same j f (messages.AcceptBypass old t n d) a = refl
-      about-same j f (messages.StopProxying old t n d) a = refl
+      about-same j f (messages.StopProxying t old n d) a = refl
       about-same j f (messages.ProxyWillStop l t n) a = grind (
         arith,
         still-by law is c new l (a l t n refl),
@@ -86,7 +86,7 @@ module _ {w v : World} {b : Books} {g : Records} {k : Key} {r y : Router} {p : K
       awaits f j x inner across side =
           cond (nat_eq x.stage 1) (f x.proxy.node inner (messages.BypassPeer (inner_link x.inner) B j across x.fresh))
           (cond (nat_eq x.stage 2) (f inner across (messages.AcceptBypass j (opposite side) x.fresh x.taken_at))
-          (cond (nat_eq x.stage 3) (f across x.proxy.node (messages.StopProxying j side x.accepted_at x.taken_at))
+          (cond (nat_eq x.stage 3) (f across x.proxy.node (messages.StopProxying side j x.accepted_at x.taken_at))
           (cond (nat_eq x.stage 4) (f x.proxy.node inner (messages.ProxyWillStop (inner_link x.inner) B x.accepted_at)) 0)))
 
       inner-node : (j : ℕ) (x : Bypass) → after.bypass j ≡ x → side_node after (inner_of after j) B ≡ side_node g (inner_link x.inner) B

@@ -25,7 +25,7 @@ fourth s a b c d h e f i = grind (arith, h, nat_tests)
 
 -- whether a message is this one
 unfoldable is_stop : ℕ → Side → ℕ → ℕ → Message → Bool
-is_stop o side in_length out_length (messages.StopProxying old s i u) = same_side s side && (nat_eq i in_length && nat_eq u out_length)
+is_stop o side in_length out_length (messages.StopProxying s old i u) = same_side s side && (nat_eq i in_length && nat_eq u out_length)
 is_stop o side in_length out_length other = false
 
 unfoldable is_will_stop : LinkId → Side → ℕ → Message → Bool
@@ -43,7 +43,7 @@ pub record IsStopped (g : Records) (from : ℕ) (k : Key) (o : ℕ) (side : Side
 
 pub stopped : (w : World) (g : Records) (from : ℕ) (k : Key) (o : ℕ) (side : Side) (in_length out_length : ℕ) → Told w g → from < w.count →
     k.node < w.count →
-    mail_at w (way w from k.node) ≡ mails.Hand (messages.StopProxying o side in_length out_length) →
+    mail_at w (way w from k.node) ≡ mails.Hand (messages.StopProxying side o in_length out_length) →
     IsStopped g from k o side in_length out_length
 unfolding control_weight of_bypass is_stop
 stopped w g from k o side in_length out_length law hf hk e = record {
@@ -58,7 +58,7 @@ stopped w g from k o side in_length out_length law hf hk e = record {
     h : ℕ → ℕ → Message → ℕ
     h a b m = cond ((nat_eq a from && nat_eq b k.node) && is_stop o side in_length out_length m) 1 0
 
-    one : of_bypass g o (h from k.node) (messages.StopProxying o side in_length out_length) ≡ 1
+    one : of_bypass g o (h from k.node) (messages.StopProxying side o in_length out_length) ≡ 1
     one = rw (
       nat_eq-itself o,
       nat_eq-itself from,
@@ -73,7 +73,7 @@ stopped w g from k o side in_length out_length law hf hk e = record {
       arith,
       one,
       in_hand-under_way (λ a b. of_bypass g o (h a b)) w from k.node
-          (messages.StopProxying o side in_length out_length) hf hk e,
+          (messages.StopProxying side o in_length out_length) hf hk e,
       law.control o h,
     )
 

@@ -73,7 +73,7 @@ module _ {w : World} {b : Books} {g : Records} {from : ℕ} {k : Key} {r : Route
       ap (λ d. f d n item) (source_same law can l s (item_apart law can a c i l s n item moves u))
   in_message-same f a c i (messages.BypassPeer l s old t new) u = refl
   in_message-same f a c i (messages.AcceptBypass old s new n) u = refl
-  in_message-same f a c i (messages.StopProxying old s n m) u = refl
+  in_message-same f a c i (messages.StopProxying s old n m) u = refl
   in_message-same f a c i (messages.ProxyWillStop l s n) u = refl
   in_message-same f a c i (messages.Flush l s) u = refl
 
@@ -193,7 +193,7 @@ module _ {w : World} {b : Books} {g : Records} {from : ℕ} {k : Key} {r : Route
       (cond (nat_eq (e' i).stage 2) (t (inward i) (beyond i) (messages.AcceptBypass j (opposite (proxy_side_same law can j i)) (e' i).fresh
       (e' i).taken_at))
       (cond (nat_eq (e' i).stage 3) (t (beyond i) (e' i).proxy.node
-      (messages.StopProxying j (proxy_side_same law can j i) (e' i).accepted_at (e' i).taken_at))
+      (messages.StopProxying (proxy_side_same law can j i) j (e' i).accepted_at (e' i).taken_at))
       (cond (nat_eq (e' i).stage 4) (t (e' i).proxy.node (inward i) (messages.ProxyWillStop (inner_link (e' i).inner) B (e' i).accepted_at))
       0)))
     where

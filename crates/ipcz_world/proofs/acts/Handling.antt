@@ -229,16 +229,16 @@ module _ (w : World) (b : Books) (g : Records) (law : Inv w b g) where
   unknown o first stage x e h = grind (arith, e, h)
 
   stop_fits : (n from o : ℕ) (side : Side) (in_length out_length : ℕ) →
-      IsInHand w n from (messages.StopProxying o side in_length out_length) → (f : Found) →
+      IsInHand w n from (messages.StopProxying side o in_length out_length) → (f : Found) →
       link_router (node_at w n) (Central o) side ≡ Some f →
       router_at w (record { node = n; serial = f.serial }) ≡ Some f.router → router_has f.router (Central o) side ≡ true →
-      (fits (node_at w n) from (messages.StopProxying o side in_length out_length)
-      (source_for w (messages.StopProxying o side in_length out_length)) ≡ true) × (e : LinkEnd) ×
+      (fits (node_at w n) from (messages.StopProxying side o in_length out_length)
+      (source_for w (messages.StopProxying side o in_length out_length)) ≡ true) × (e : LinkEnd) ×
       ((inward_edge f.router).decaying ≡ Some e)
   unfolding fits passes_at
   stop_fits n from o side in_length out_length is f e here has = go
       (stop_told w g from n 0 o side in_length out_length law.told
-      (under_way-hand w n from (messages.StopProxying o side in_length out_length) is))
+      (under_way-hand w n from (messages.StopProxying side o in_length out_length) is))
     where
       k : Key
       k = record { node = n; serial = f.serial }
@@ -247,8 +247,8 @@ module _ (w : World) (b : Books) (g : Records) (law : Inv w b g) where
       r = f.router
 
       go : IsStop g from n o side in_length out_length →
-          (fits (node_at w n) from (messages.StopProxying o side in_length out_length)
-          (source_for w (messages.StopProxying o side in_length out_length)) ≡
+          (fits (node_at w n) from (messages.StopProxying side o in_length out_length)
+          (source_for w (messages.StopProxying side o in_length out_length)) ≡
           true) × (e : LinkEnd) × ((inward_edge r).decaying ≡ Some e)
       go at =
           let begun : is_begun (g.bypass o) ≡ true = grind (arith, at.stage, nat_tests) in
@@ -282,14 +282,14 @@ module _ (w : World) (b : Books) (g : Records) (law : Inv w b g) where
           (rw (e, decaying, outer, inward) refl, i.end, i.there)
 
   pub stop_is : (n from o : ℕ) (side : Side) (in_length out_length : ℕ)
-      (is : IsInHand w n from (messages.StopProxying o side in_length out_length))
-      (a : IsAskedAt w n from (messages.StopProxying o side in_length out_length) (Central o) side) →
+      (is : IsInHand w n from (messages.StopProxying side o in_length out_length))
+      (a : IsAskedAt w n from (messages.StopProxying side o in_length out_length) (Central o) side) →
       (e : LinkEnd) × ((inward_edge a.found.router).decaying ≡ Some e) ×
-      (after_hand w n from (Some (messages.StopProxying o side in_length out_length)) ≡ stop_act w from
+      (after_hand w n from (Some (messages.StopProxying side o in_length out_length)) ≡ stop_act w from
       (record { node = n; serial = a.found.serial }) a.found.router e in_length out_length)
   unfolding handle on_found tell will_stop_message
   stop_is n from o side in_length out_length is a =
-      let m = messages.StopProxying o side in_length out_length in
+      let m = messages.StopProxying side o in_length out_length in
       let r = a.found.router in
       let fit = stop_fits n from o side in_length out_length is a.found a.is_found a.can.here a.has in
       let y = with_router (node_at w n) a.found.serial (stop_proxying r in_length out_length) in

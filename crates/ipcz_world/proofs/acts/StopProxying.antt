@@ -42,7 +42,7 @@ use Rattle.ipcz_world.proofs.frames.Having.{has_at}
 -- what the hand of the message needs: the router that has the old link is asked; its inward decaying link is e
 pub record CanStop (w : World) (from : ℕ) (k : Key) (r : Router) (e : LinkEnd) (o : ℕ) (side : Side) (in_length out_length : ℕ) : Type 0
   where
-    pub hand : CanHand w from k r (messages.StopProxying o side in_length out_length)
+    pub hand : CanHand w from k r (messages.StopProxying side o in_length out_length)
     pub has : router_has r (Central o) side ≡ true
     pub on : (inward_edge r).decaying ≡ Some e
 
@@ -61,7 +61,7 @@ module _ (w : World) (b : Books) (g : Records) (from : ℕ) (k : Key) (r : Route
   pub here : router_at w k ≡ Some r
   here = (opened can).hand.here
 
-  pub in_hand : mail_at w (way w from k.node) ≡ mails.Hand (messages.StopProxying o side in_length out_length)
+  pub in_hand : mail_at w (way w from k.node) ≡ mails.Hand (messages.StopProxying side o in_length out_length)
   in_hand = (opened can).hand.in_hand
 
   pub on : (inward_edge r).decaying ≡ Some e
@@ -125,7 +125,7 @@ module _ (w : World) (b : Books) (g : Records) (from : ℕ) (k : Key) (r : Route
   v = handed_on w from k x e.other sent
 
   abbrev came : Message
-  came = messages.StopProxying o side in_length out_length
+  came = messages.StopProxying side o in_length out_length
 
   like : IsLike r x
   like = record {
@@ -335,7 +335,7 @@ module _ (w : World) (b : Books) (g : Records) (from : ℕ) (k : Key) (r : Route
   expected_before : (t : ℕ → ℕ → Message → ℕ) → control_weight g t o ≡ t from k.node came
   unfolding control_weight
   expected_before t = rw is.stage (λ i. t (sym is.sender i) (sym is.receiver i)
-      (messages.StopProxying o (sym is.at_side i) (sym is.accepted i) (sym is.taken i)))
+      (messages.StopProxying (sym is.at_side i) o (sym is.accepted i) (sym is.taken i)))
 
   expected_after : (t : ℕ → ℕ → Message → ℕ) → control_weight h t o ≡ t k.node e.other sent
   unfolding control_weight
@@ -391,7 +391,7 @@ module _ (w : World) (b : Books) (g : Records) (from : ℕ) (k : Key) (r : Route
       link_of (messages.Item l s n item moves) = l
       link_of (messages.BypassPeer l s old target new) = l
       link_of (messages.AcceptBypass old s new n) = Central old
-      link_of (messages.StopProxying old s i u) = Central old
+      link_of (messages.StopProxying s old i u) = Central old
       link_of (messages.ProxyWillStop l s i) = l
       link_of (messages.Flush l s) = l
 

@@ -100,7 +100,7 @@ module _ (w : World) (b : Books) (g : Records) (law : Inv w b g) where
       let p = passes-tells w _ _ ((law.stages old).across_old (grind (arith, at.stage, nat_tests)) (omega (arith, at.stage))) in
       inl (rw (at.at_side) (found_at (Central old) (across_side g old) (has_primary (Central old) (across_side g old)) to p
       (by_primary (Central old) (across_side g old) p.router p.passed) at.receiver))
-  finds from to i (messages.StopProxying old s in_length out_length) u f =
+  finds from to i (messages.StopProxying s old in_length out_length) u f =
       let at = stop_told w g from to i old s in_length out_length law.told u in
       let p = passes-tells w (Some (g.bypass old).proxy) (has_decaying (Central old) (proxy_side g old))
       ((law.stages old).proxy_old (grind (arith, at.stage, nat_tests)) (omega (arith, at.stage))) in

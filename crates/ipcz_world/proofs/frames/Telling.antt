@@ -56,7 +56,7 @@ is_accept side fresh length (messages.AcceptBypass o s f n) = same_side s side &
 is_accept side fresh length other = false
 
 unfoldable is_stop : Side → ℕ → ℕ → Message → Bool
-is_stop side in_length out_length (messages.StopProxying o s i u) = same_side s side && (nat_eq i in_length && nat_eq u out_length)
+is_stop side in_length out_length (messages.StopProxying s o i u) = same_side s side && (nat_eq i in_length && nat_eq u out_length)
 is_stop side in_length out_length other = false
 
 unfoldable is_will_stop : LinkId → Side → ℕ → Message → Bool
@@ -167,7 +167,7 @@ pub record IsStop (g : Records) (from to o : ℕ) (side : Side) (in_length out_l
   pub taken : out_length ≡ (g.bypass o).taken_at
 
 pub stop_told : (w : World) (g : Records) (from to i o : ℕ) (side : Side) (in_length out_length : ℕ) → Told w g →
-    IsUnderWay w from to i (messages.StopProxying o side in_length out_length) → IsStop g from to o side in_length out_length
+    IsUnderWay w from to i (messages.StopProxying side o in_length out_length) → IsStop g from to o side in_length out_length
 unfolding control_weight of_bypass is_stop
 stop_told w g from to i o side in_length out_length law u = elim (of_four (g.bypass o).stage _ _ _ _ weight) [
   | inl e ↦ absurd (nothing _ e.1)
@@ -186,7 +186,7 @@ stop_told w g from to i o side in_length out_length law u = elim (of_four (g.byp
     h : ℕ → ℕ → Message → ℕ
     h a b m = cond ((nat_eq a from && nat_eq b to) && is_stop side in_length out_length m) 1 0
 
-    one : of_bypass g o (h from to) (messages.StopProxying o side in_length out_length) ≡ 1
+    one : of_bypass g o (h from to) (messages.StopProxying side o in_length out_length) ≡ 1
     one = rw (
       nat_eq-itself o,
       nat_eq-itself from,
@@ -200,7 +200,7 @@ stop_told w g from to i o side in_length out_length law u = elim (of_four (g.byp
     weight = omega (
       arith,
       one,
-      weighed (λ a b. of_bypass g o (h a b)) w from to i (messages.StopProxying o side in_length out_length) u,
+      weighed (λ a b. of_bypass g o (h a b)) w from to i (messages.StopProxying side o in_length out_length) u,
       law.control o h,
     )
 
@@ -271,6 +271,6 @@ old_begun w g from to i (messages.BypassPeer link s old target fresh) o law u e 
     peer_told w g from to i old link s target fresh law u in grind (arith, e, at.stage, nat_tests)
 old_begun w g from to i (messages.AcceptBypass old s fresh length) o law u e = let at =
     accept_told w g from to i old s fresh length law u in grind (arith, e, at.stage, nat_tests)
-old_begun w g from to i (messages.StopProxying old s in_length out_length) o law u e = let at =
+old_begun w g from to i (messages.StopProxying s old in_length out_length) o law u e = let at =
     stop_told w g from to i old s in_length out_length law u in grind (arith, e, at.stage, nat_tests)
 old_begun w g from to i other o law u e = absurd (grind (arith, e))

@@ -153,7 +153,7 @@ module _ (g h : Records) (a : Agree g h) where
   expected-agree t o e = λ i.
       cond (nat_eq (e i).stage 1) (t (e i).proxy.node (inward i) (messages.BypassPeer (inner_link (e i).inner) B o (beyond i) (e i).fresh))
       (cond (nat_eq (e i).stage 2) (t (inward i) (beyond i) (messages.AcceptBypass o (opposite (side i)) (e i).fresh (e i).taken_at))
-      (cond (nat_eq (e i).stage 3) (t (beyond i) (e i).proxy.node (messages.StopProxying o (side i) (e i).accepted_at (e i).taken_at))
+      (cond (nat_eq (e i).stage 3) (t (beyond i) (e i).proxy.node (messages.StopProxying (side i) o (e i).accepted_at (e i).taken_at))
       (cond (nat_eq (e i).stage 4) (t (e i).proxy.node (inward i) (messages.ProxyWillStop (inner_link (e i).inner) B (e i).accepted_at))
       0)))
     where
@@ -258,7 +258,7 @@ module _ (w v : World) (g h : Records) (k : Key) (r x : Router) (c : Changed w v
       (carried.place from to i, carried.was from to i link s n item moves u)
   moving carried from to i j (messages.BypassPeer link s old target fresh) d u e = absurd (none-some d e)
   moving carried from to i j (messages.AcceptBypass old s fresh length) d u e = absurd (none-some d e)
-  moving carried from to i j (messages.StopProxying old s in_length out_length) d u e = absurd (none-some d e)
+  moving carried from to i j (messages.StopProxying s old in_length out_length) d u e = absurd (none-some d e)
   moving carried from to i j (messages.ProxyWillStop link s in_length) d u e = absurd (none-some d e)
   moving carried from to i j (messages.Flush link s) d u e = absurd (none-some d e)
 

@@ -599,7 +599,7 @@ module _ (i : ℕ) (held : Bool) where
 
           off : IsOff i held f.router
           off s on = held_ (same_Some old i (sym (on-central old side f.router fit) ∙ on-central i s f.router on))
-  handle-goes n sender (messages.StopProxying old side in_length out_length) source counted held_ h = go
+  handle-goes n sender (messages.StopProxying side old in_length out_length) source counted held_ h = go
       (link_router n (Central old) side) refl
     where
       left : (r : Router) → IsLeft i held r (stop_proxying r in_length out_length)

@@ -43,7 +43,7 @@ unfolding fits is_flush link_asked side_asked
 fit_named n from (messages.Item link s number item moves) o f = inr (named_item n from link s number item moves (link_router n link s) f)
 fit_named n from (messages.BypassPeer link s old target fresh) o f = inr (named_by (link_router n link s) _ f)
 fit_named n from (messages.AcceptBypass old s fresh length) o f = inr (named_by (link_router n (Central old) s) _ (first_true _ _ f))
-fit_named n from (messages.StopProxying old s in_length out_length) o f = inr (named_by (link_router n (Central old) s) _ f)
+fit_named n from (messages.StopProxying s old in_length out_length) o f = inr (named_by (link_router n (Central old) s) _ f)
 fit_named n from (messages.ProxyWillStop link s in_length) o f = inr (named_by (link_router n link s) _ f)
 fit_named n from (messages.Flush link s) o f = inl refl
 

@@ -61,7 +61,7 @@ module _ (w : World) (b : Books) (g : Routes) (law : Lawful w b g) where
   told_owner from to place (messages.AcceptBypass old side fresh len) i s u h =
       inl (law.word_law.named from to place (messages.AcceptBypass old side fresh len) i u
       (or_right (nat_eq old i) (nat_eq fresh i) (and_first _ _ h)))
-  told_owner from to place (messages.StopProxying old side in_length out_length) i s u h = cc
+  told_owner from to place (messages.StopProxying side old in_length out_length) i s u h = cc
   told_owner from to place (messages.ProxyWillStop link side in_length) i s u h = cc
   told_owner from to place (messages.Flush link side) i s u h = cc
 
@@ -126,11 +126,11 @@ module _ (w : World) (b : Books) (g : Routes) (law : Lawful w b g) (i : ℕ) (s 
       message_holds i s m ≡ true → message_holds i s m' ≡ true → (from' ≡ from) × ((to' ≡ to) × (place' ≡ place))
   unfolding message_holds fresh_count of_bypass control_weight names_link
   of_message f t p f' t' p' (messages.Item link side n item moves) m' u v h k = cc
-  of_message f t p f' t' p' (messages.StopProxying old side in_length out_length) m' u v h k = cc
+  of_message f t p f' t' p' (messages.StopProxying side old in_length out_length) m' u v h k = cc
   of_message f t p f' t' p' (messages.ProxyWillStop link side in_length) m' u v h k = cc
   of_message f t p f' t' p' (messages.Flush link side) m' u v h k = cc
   of_message f t p f' t' p' m (messages.Item link side n item moves) u v h k = cc
-  of_message f t p f' t' p' m (messages.StopProxying old side in_length out_length) u v h k = cc
+  of_message f t p f' t' p' m (messages.StopProxying side old in_length out_length) u v h k = cc
   of_message f t p f' t' p' m (messages.ProxyWillStop link side in_length) u v h k = cc
   of_message f t p f' t' p' m (messages.Flush link side) u v h k = cc
   of_message f t p f' t' p' (messages.BypassPeer link side old target fresh) (messages.BypassPeer link' side' old' target' fresh') u v h k =

@@ -174,7 +174,7 @@ module _ (w : World) (b : Books) (g : Records) (law : Inv w b g) where
 
   -- the proxy of a bypass that StopProxying goes to
   stopped_inner : (from to i old : ℕ) (side : Side) (in_length out_length : ℕ) (k : Key) (r : Router) (e : LinkEnd) →
-      IsUnderWay w from to i (messages.StopProxying old side in_length out_length) → router_at w k ≡ Some r →
+      IsUnderWay w from to i (messages.StopProxying side old in_length out_length) → router_at w k ≡ Some r →
       router_has r (Central old) side ≡ true → (inward_edge r).decaying ≡ Some e →
       (p : Key) × (e.link ≡ inner_link p) × (e.side ≡ A) × ((g.peripheral p).by ≡ Some old) × IsStop g from to old side in_length
       out_length
@@ -433,10 +433,10 @@ module _ (w : World) (b : Books) (g : Records) (law : Inv w b g) where
     pub side : Side
     pub in_length : ℕ
     pub out_length : ℕ
-    pub sent : IsUnderWay w from to place (messages.StopProxying o side in_length out_length)
+    pub sent : IsUnderWay w from to place (messages.StopProxying side o in_length out_length)
 
   counts_stop : Message → ℕ
-  counts_stop (messages.StopProxying old side in_length out_length) = 1
+  counts_stop (messages.StopProxying side old in_length out_length) = 1
   counts_stop other = 0
 
   stops_at : (o : ℕ) → (g.bypass o).stage ≡ 3 → StopsAt o
@@ -455,7 +455,7 @@ module _ (w : World) (b : Books) (g : Records) (law : Inv w b g) where
 
       go : (from to i : ℕ) (m : Message) → IsUnderWay w from to i m → 1 ≤ of_bypass g o counts_stop m → StopsAt o
       go from to i (messages.Item link s n item moves) u l = absurd (omega (arith, l))
-      go from to i (messages.StopProxying old s in_length out_length) u l = at (nat_eq old o) refl
+      go from to i (messages.StopProxying s old in_length out_length) u l = at (nat_eq old o) refl
         where
           at : (c : Bool) → nat_eq old o ≡ c → StopsAt o
           at true e = let same : old ≡ o = grind (arith, e, nat_tests) in
@@ -467,7 +467,7 @@ module _ (w : World) (b : Books) (g : Records) (law : Inv w b g) where
                 in_length = in_length;
                 out_length = out_length;
                 sent =
-                    subst (λ y. IsUnderWay w from to i (messages.StopProxying y s in_length out_length)) same u;
+                    subst (λ y. IsUnderWay w from to i (messages.StopProxying s y in_length out_length)) same u;
               }
           at false e = absurd (grind (arith, e, l))
       go from to i (messages.Flush link s) u l = absurd (omega (arith, l))

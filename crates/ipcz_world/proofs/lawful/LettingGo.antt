@@ -80,7 +80,7 @@ module _ (P : Ends) where
   message_tells (messages.BypassPeer link side old target fresh) i s law h = subst (λ k. P k s) (nat_eq-is fresh i h) (law s)
   message_tells (messages.AcceptBypass old side fresh len) i s law h =
       subst (λ k. P k s) (nat_eq-is fresh i (and_first _ _ h)) (subst (P fresh) (same_side-tells side s (and_second _ _ h)) law)
-  message_tells (messages.StopProxying old side in_length out_length) i s law h = cc
+  message_tells (messages.StopProxying side old in_length out_length) i s law h = cc
   message_tells (messages.ProxyWillStop link side in_length) i s law h = cc
   message_tells (messages.Flush link side) i s law h = cc
 
@@ -131,7 +131,7 @@ module _ (P : Ends) where
   message_all (messages.Item link side n item moves) all = tt
   message_all (messages.BypassPeer link side old target fresh) all = λ s. all fresh s (nat_eq-itself fresh)
   message_all (messages.AcceptBypass old side fresh len) all = all fresh side (let a = nat_eq-itself fresh in let c = same_side-itself side in grind (arith, a, c))
-  message_all (messages.StopProxying old side in_length out_length) all = tt
+  message_all (messages.StopProxying side old in_length out_length) all = tt
   message_all (messages.ProxyWillStop link side in_length) all = tt
   message_all (messages.Flush link side) all = tt
 
@@ -252,7 +252,7 @@ module _ (w : World) (b : Books) (g : Routes) (law : Lawful w b g) where
       )
   brought from to place (messages.AcceptBypass old side fresh len) i s u h =
       inl (law.word_law.named from to place (messages.AcceptBypass old side fresh len) i u (or_right (nat_eq old i) (nat_eq fresh i) (and_first _ _ h)))
-  brought from to place (messages.StopProxying old side in_length out_length) i s u h = cc
+  brought from to place (messages.StopProxying side old in_length out_length) i s u h = cc
   brought from to place (messages.ProxyWillStop link side in_length) i s u h = cc
   brought from to place (messages.Flush link side) i s u h = cc
 
@@ -394,7 +394,7 @@ module _ (w : World) (b : Books) (g : Routes) (law : Lawful w b g) where
         go (inl a) = two _ awaited (has_at w rec k r (Central i) s law.inv.links here a).router
         go (inr a) = apart_owners _ k (law.word_law.named from to place (messages.AcceptBypass old side fresh len) i u
             (or_right (nat_eq old i) (nat_eq fresh i) (and_first (nat_eq fresh i) (same_side side s) h))) (spare_one a)
-    sole_told mine from to place (messages.StopProxying old side in_length out_length) u h = cc
+    sole_told mine from to place (messages.StopProxying side old in_length out_length) u h = cc
     sole_told mine from to place (messages.ProxyWillStop link side in_length) u h = cc
     sole_told mine from to place (messages.Flush link side) u h = cc
 

@@ -297,7 +297,7 @@ module _ (w : World) (b : Books) (g : Routes) (law : Lawful w b g) (none : Carry
       let odd : true ≡ false = sym has ∙ no in cc
   no-move from to i j (messages.BypassPeer l s old target fresh) d u h = cc
   no-move from to i j (messages.AcceptBypass old s fresh n) d u h = cc
-  no-move from to i j (messages.StopProxying old s m n) d u h = cc
+  no-move from to i j (messages.StopProxying s old m n) d u h = cc
   no-move from to i j (messages.ProxyWillStop l s n) d u h = cc
   no-move from to i j (messages.Flush l s) d u h = cc
 
@@ -424,7 +424,7 @@ module _ (w : World) (b : Books) (g : Routes) (law : Lawful w b g) (none : Carry
     ]
     weightless (messages.BypassPeer l s old target fresh) h = refl
     weightless (messages.AcceptBypass old s fresh k) h = refl
-    weightless (messages.StopProxying old s a c) h = refl
+    weightless (messages.StopProxying s old a c) h = refl
     weightless (messages.ProxyWillStop l s a) h = refl
     weightless (messages.Flush l s) h = refl
 

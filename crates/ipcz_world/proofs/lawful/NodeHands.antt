@@ -78,7 +78,7 @@ handed-accept c n sender old side fresh length source h = go (link_router n (Cen
   where
     told : (x : Node) (r : Router) (o : Option LinkEnd) → node_worth c (tell x (stop_message r o old side length)) ≤ node_worth c x + 10
     told x r None = omega arith
-    told x r (Some e) = omega (arith, node-push c x e.other (messages.StopProxying old (opposite side) r.out_queue.current length))
+    told x r (Some e) = omega (arith, node-push c x e.other (messages.StopProxying (opposite side) old r.out_queue.current length))
 
     go : (o : Option Found) → link_router n (Central old) side ≡ o →
         (passes_at o (λ r. fits_accept_bypass r old side && not (is_named n (Central fresh) side)) && is_source sender source) ≡ true →
@@ -96,7 +96,7 @@ handed-accept c n sender old side fresh length source h = go (link_router n (Cen
         )
 
 handed-stop : (c : Rates) (n : Node) (sender old : ℕ) (side : Side) (in_length out_length : ℕ) →
-    node_worth c (handle n sender (messages.StopProxying old side in_length out_length)) ≤ node_worth c n + 7
+    node_worth c (handle n sender (messages.StopProxying side old in_length out_length)) ≤ node_worth c n + 7
 unfolding handle on_found message_worth tell will_stop_message
 handed-stop c n sender old side in_length out_length = go (link_router n (Central old) side) refl
   where
@@ -144,7 +144,7 @@ handed c n sender (messages.BypassPeer link side old target fresh) source h = om
     (arith, handed-peer c n sender link side old target fresh source h)
 handed c n sender (messages.AcceptBypass old side fresh length) source h = omega
     (arith, handed-accept c n sender old side fresh length source h)
-handed c n sender (messages.StopProxying old side in_length out_length) source h = omega
+handed c n sender (messages.StopProxying side old in_length out_length) source h = omega
     (arith, handed-stop c n sender old side in_length out_length)
 handed c n sender (messages.ProxyWillStop link side in_length) source h = omega (arith, handed-end c n sender link side in_length)
 handed c n sender (messages.Flush link side) source h = omega (arith, handed-flush c n sender link side)

@@ -118,7 +118,7 @@ module _ (c : Rates) (n : Node) (sender : ℕ) where
       go (Some f) e = told (with_router n f.serial (accept_bypass f.router sender side fresh length))
           (stop_message f.router f.router.outward.primary old side length)
           (found-same (Central old) side f (accept_bypass f.router sender side fresh length) e refl)
-  handled (messages.StopProxying old side in_length out_length) bare = go (link_router n (Central old) side) refl
+  handled (messages.StopProxying side old in_length out_length) bare = go (link_router n (Central old) side) refl
     where
       go : (o : Option Found) → link_router n (Central old) side ≡ o →
           KeepsBut c n (on_found n o (λ s r. tell (with_router n s (stop_proxying r in_length out_length))

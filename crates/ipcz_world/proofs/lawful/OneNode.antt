@@ -183,7 +183,7 @@ handle-serial n sender (messages.AcceptBypass old side fresh length) law = go (l
         (stop_message r r.outward.primary old side length)))
     go None = law
     go (Some f) = tell-serial _ (stop_message f.router f.router.outward.primary old side length) law
-handle-serial n sender (messages.StopProxying old side in_length out_length) law = go (link_router n (Central old) side)
+handle-serial n sender (messages.StopProxying side old in_length out_length) law = go (link_router n (Central old) side)
   where
     go : (o : Option Found) → HasNone (on_found n o (λ s r. tell (with_router n s (stop_proxying r in_length out_length))
         (will_stop_message (inward_edge r).decaying in_length)))
@@ -384,7 +384,7 @@ module _ (w : World) (b : Books) (g : Records) (law : Inv w b g) (alone : IsAlon
             bare (d ∷ ds) e l = cc
         still_there from to i (messages.BypassPeer link side old target fresh) up some = omega (arith, some)
         still_there from to i (messages.AcceptBypass old side fresh len) up some = omega (arith, some)
-        still_there from to i (messages.StopProxying old side in_length out_length) up some = omega (arith, some)
+        still_there from to i (messages.StopProxying side old in_length out_length) up some = omega (arith, some)
         still_there from to i (messages.ProxyWillStop link side in_length) up some = omega (arith, some)
         still_there from to i (messages.Flush link side) up some = omega (arith, some)
 

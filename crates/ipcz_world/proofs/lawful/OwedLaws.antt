@@ -82,9 +82,9 @@ module _ (w : World) (b : Books) (g : Records) (law : Inv w b g) where
       let at : IsAccept g from to old s fresh length = accept_told w g from to i old s fresh length law.told u in
       let e : old ≡ o = old_is old o h in
       inr (o, one_holds (nat_eq old o) h, inner_of_proxy link o is begun (omega (arith, ap (λ z. (g.bypass z).stage) e, at.stage)))
-  taking link o from to i (messages.StopProxying old s in_length out_length) begun (inl is) u h =
+  taking link o from to i (messages.StopProxying s old in_length out_length) begun (inl is) u h =
       inl (same_as (Central old) link (ap Central (old_is old o h) ∙ sym is.0))
-  taking link o from to i (messages.StopProxying old s in_length out_length) begun (inr is) u h =
+  taking link o from to i (messages.StopProxying s old in_length out_length) begun (inr is) u h =
       let at : IsStop g from to old s in_length out_length = stop_told w g from to i old s in_length out_length law.told u in
       let e : old ≡ o = old_is old o h in
       inr (o, one_holds (nat_eq old o) h, inner_of_proxy link o is begun (omega (arith, ap (λ z. (g.bypass z).stage) e, at.stage)))

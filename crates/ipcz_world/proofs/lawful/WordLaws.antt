@@ -100,7 +100,7 @@ module _ (w : World) (b : Books) (g : Records) (law : Inv w b g) where
       go (inl e) begun new onto = let is : o ≡ i = grind (arith, e, nat_tests) in
           is_link (g.owner i) (subst (λ x. is_linked (g.owner x) ≡ true) is ((law.bypasses o).old begun))
       go (inr e) begun new onto = let is : fresh ≡ i = grind (arith, e, nat_tests) in ap g.owner (sym is ∙ onto) ∙ new
-  named from to j (messages.StopProxying o s in_length out_length) i u h =
+  named from to j (messages.StopProxying s o in_length out_length) i u h =
       let at = stop_told w g from to j o s in_length out_length law.told u in
       let is : o ≡ i = grind (arith, h, nat_tests) in
       is_link (g.owner i) (subst (λ x. is_linked (g.owner x) ≡ true) is ((law.bypasses o).old (grind (arith, at.stage, nat_tests))))

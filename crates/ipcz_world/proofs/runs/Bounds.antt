@@ -217,7 +217,7 @@ module _ (w : World) (b : Books) (g : Records) (law : Inv w b g) where
         boxed-found w.count (node_at w n) (link_router (node_at w n) (Central old) side) _ boxed
         (λ f e. boxed-tell w.count _ _ boxed (stop_goes f.router f.router.outward.primary old side len
         (found_below (Central old) side f e).primary))
-    boxed-handle (messages.StopProxying old side in_length out_length) o fit =
+    boxed-handle (messages.StopProxying side old in_length out_length) o fit =
         boxed-found w.count (node_at w n) (link_router (node_at w n) (Central old) side) _ boxed
         (λ f e. boxed-tell w.count _ _ boxed (will_stop_goes (inward_edge f.router).decaying in_length
         (found_below (Central old) side f e).inner_decaying))

@@ -355,7 +355,7 @@ awake-handle n sender (messages.AcceptBypass old side fresh length) law is = go 
         (stop_message r r.outward.primary old side length)))
     go None = law
     go (Some f) = awake-tell _ _ (awake-with n f.serial _ law (awake-flagged _ refl))
-awake-handle n sender (messages.StopProxying old side in_length out_length) law is = go (link_router n (Central old) side)
+awake-handle n sender (messages.StopProxying side old in_length out_length) law is = go (link_router n (Central old) side)
   where
     go : (o : Option Found) → AreAwake (on_found n o (λ s r. tell (with_router n s (stop_proxying r in_length out_length))
         (will_stop_message (inward_edge r).decaying in_length)))

@@ -269,7 +269,7 @@ agreed-handle n sender (messages.AcceptBypass old side fresh length) law = go (l
     go (Some f) h = agreed-tell _ (stop_message f.router f.router.outward.primary old side length)
         (agreed-with n f.serial (accept_bypass f.router sender side fresh length) law
         (agreed-relinked (law f.serial f.router (found_tells n _ f h).0)))
-agreed-handle n sender (messages.StopProxying old side in_length out_length) law = go (link_router n (Central old) side) refl
+agreed-handle n sender (messages.StopProxying side old in_length out_length) law = go (link_router n (Central old) side) refl
   where
     go : (o : Option Found) → link_router n (Central old) side ≡ o →
         AreAgreed (on_found n o (λ s r. tell (with_router n s (stop_proxying r in_length out_length))

@@ -362,8 +362,8 @@ module _ (w : World) (b : Books) (g : Records) (law : Inv w b g) where
       (routes-accept g k a.found.router o side fresh)
       (inv-accept w b g from k a.found.router t.0 o side fresh length (sealed law)
       (closed (record { hand = a.can; has = a.has; on = t.1 })))
-  hand_kept n from (messages.StopProxying o side in_length out_length) is =
-      let m = messages.StopProxying o side in_length out_length in
+  hand_kept n from (messages.StopProxying side o in_length out_length) is =
+      let m = messages.StopProxying side o in_length out_length in
       let a = asked_at w n from m (Central o) side is (named w b g law n from m is refl) in
       let t = stop_is w b g law n from o side in_length out_length is a in
       kept_as _ _ b b _ (told_records g o) t.2 refl (routes-hand w (routes_of g) n from m is.mail refl) (routes-told g o)

@@ -70,7 +70,7 @@ abbrev pub MessageEnds : Ends → Message → Type 0
 MessageEnds P (messages.Item link side n item moves) = Unit {0}
 MessageEnds P (messages.BypassPeer link side old target fresh) = (s : Side) → P fresh s
 MessageEnds P (messages.AcceptBypass old side fresh length) = P fresh side
-MessageEnds P (messages.StopProxying old side in_length out_length) = Unit {0}
+MessageEnds P (messages.StopProxying side old in_length out_length) = Unit {0}
 MessageEnds P (messages.ProxyWillStop link side in_length) = Unit {0}
 MessageEnds P (messages.Flush link side) = Unit {0}
 
@@ -360,7 +360,7 @@ module _ (P : Ends) where
       found-ends x (link_router x (Central old) side) (λ s r. tell (with_router x s (accept_bypass r sender side fresh length))
       (stop_message r r.outward.primary old side length)) law (λ f h. let r = linked-ends x (Central old) side f law h in
       stop-ends _ f.router f.router.outward.primary old side length (ends-with x f.serial _ law ((is, r.0.0), r.1)))
-  handle-ends x sender (messages.StopProxying old side in_length out_length) law is apart =
+  handle-ends x sender (messages.StopProxying side old in_length out_length) law is apart =
       found-ends x (link_router x (Central old) side) (λ s r. tell (with_router x s (stop_proxying r in_length out_length))
       (will_stop_message (inward_edge r).decaying in_length)) law (λ f h. let r = linked-ends x (Central old) side f law h in
       will_stop-ends _ (inward_edge f.router).decaying in_length

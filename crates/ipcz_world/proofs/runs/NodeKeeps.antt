@@ -400,7 +400,7 @@ module _ (i : ℕ) (s : Side) where
       (found_tells x _ f found).0
       (keep-onto f.router (has_link (accept_bypass f.router sender side fresh len).outward.primary (Central i) s)
       (still-accept f.router old side (and_first _ _ tests))) h))
-  keep-handle x sender (messages.StopProxying old side in_length out_length) source counted fit h =
+  keep-handle x sender (messages.StopProxying side old in_length out_length) source counted fit h =
       keep-found x (link_router x (Central old) side) (λ s r. tell (with_router x s (stop_proxying r in_length out_length))
       (will_stop_message (inward_edge r).decaying in_length)) h (λ f found.
       keep-tell (with_router x f.serial (stop_proxying f.router in_length out_length)) _
@@ -445,7 +445,7 @@ module _ (i : ℕ) (s : Side) where
       keep-tell (with_router x f.serial (accept_bypass f.router sender side fresh len)) _ (there-now x f.serial (accept_bypass f.router sender side fresh len)
       (or_left _ _ (or_left _ _ (has_link-some _ (Central i) s (ap Central (nat_eq-is fresh i (and_first (nat_eq fresh i) (same_side side s) h)))
       (same_side-tells side s (and_second (nat_eq fresh i) (same_side side s) h)))))))
-  bring-handle x sender (messages.StopProxying old side in_length out_length) source fit h = cc
+  bring-handle x sender (messages.StopProxying side old in_length out_length) source fit h = cc
   bring-handle x sender (messages.ProxyWillStop link side in_length) source fit h = cc
   bring-handle x sender (messages.Flush link side) source fit h = cc
 
