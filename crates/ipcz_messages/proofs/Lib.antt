@@ -5,3 +5,4 @@ pub mod Joining
 pub mod Leftovers
 pub mod Naming
 pub mod Placing
+pub mod Telling
