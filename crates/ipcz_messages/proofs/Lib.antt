@@ -5,4 +5,3 @@ pub mod Joining
 pub mod Leftovers
 pub mod Naming
 pub mod Placing
-pub mod Telling

@@ -1,6 +1,6 @@
 -- Which items are closes, and which are Gone.
 use Rattle.std.specs.Prelude.{ℕ, ◌+◌, ◌≡◌, ◌<◌, Bool, true, false, List, length, Option, Some, None, slice_get}
-use Rattle.std.specs.List.{All, AllWithin, Any, HoldsAt}
+use Rattle.std.specs.List.{All, AllWithin, HoldsAt}
 use Rattle.ipcz_lines.specs.declared.line.Line.{Line}
 use Rattle.ipcz_lines.specs.declared.line.Line.TheVariants as lines
 use Rattle.ipcz_lines.specs.declared.line.Event.TheVariants as events
@@ -30,15 +30,15 @@ abbrev pub served_at : List (Option End) → Option ℕ → Option End
 served_at ends None = None
 served_at ends (Some router) = known_end (slice_get ends router)
 
--- a line tells a close: that of a portal, or the retire behind its mark
-abbrev pub IsToldBy : Closed → Line → Type 0
-IsToldBy c (lines.Close at (answers.Number n)) = (c.number ≡ n) × (c.name ≡ Some at)
-IsToldBy c (lines.Turn node (events.Router serial (acts.Retire number link))) = (c.number + 1 ≡ number) × (c.name ≡ None)
-IsToldBy c other = ⊥
+-- a line tells a close with this number: that of a portal, or the retire behind its mark
+abbrev pub TellsClose : ℕ → Line → Type 0
+TellsClose n (lines.Close at (answers.Number number)) = n ≡ number
+TellsClose n (lines.Turn node (events.Router serial (acts.Retire number link))) = n + 1 ≡ number
+TellsClose n other = ⊥
 
--- each of these closes is told by one of the lines
+-- each of these closes is told by its line
 abbrev pub AreToldBy : List ReadLine → List Closed → Type 0
-AreToldBy read closed = All (λ c. Any (λ x. IsToldBy c x.line) read) closed
+AreToldBy read closed = All (λ c. (c.line < length read) × HoldsAt (λ x. TellsClose c.number x.line) read c.line) closed
 
 -- whether a line is a retire, which makes Gone
 abbrev pub is_retire : Line → Bool
@@ -82,7 +82,7 @@ IsPlaceOfClose end number closed None = HasNoMark end number closed
 
 -- an item is the mark of a close that is told, or Gone, the one behind such a mark, or another
 abbrev pub IsNatureOfItem : List Closed → End → ℕ → Nature → Type 0
-IsNatureOfItem closed end number (natures.Close name) = (i : ℕ) × IsFirstClose end number closed i × HoldsAt (λ c. c.name ≡ name) closed i
+IsNatureOfItem closed end number (natures.Close line) = (i : ℕ) × IsFirstClose end number closed i × HoldsAt (λ c. c.line ≡ line) closed i
 IsNatureOfItem closed end number natures.Gone =
     HasNoMark end number closed × ((mark i : ℕ) × (mark + 1 ≡ number) × IsFirstClose end mark closed i)
 IsNatureOfItem closed end number natures.Other = HasNoMark end number closed × ((mark : ℕ) → mark + 1 ≡ number → HasNoMark end mark closed)

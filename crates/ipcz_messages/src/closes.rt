@@ -4,7 +4,7 @@
 //! retires. So the number that a close is answered, and the number of a retire, tell the mark and Gone, wherever they are sent on.
 
 ghost use Rattle.std.specs.Prelude.{◌≡◌, ◌<◌, ◌≤◌, length, IfOk, IfSome};
-ghost use Rattle.ipcz_messages.specs.Closes.{AreToldBy, IsNature, IsNatureOfItem, IsNatureOfMade, IsNatureOfSent, IsPlaceOfClose, IsToldBy};
+ghost use Rattle.ipcz_messages.specs.Closes.{AreToldBy, IsNature, IsNatureOfItem, IsNatureOfMade, IsNatureOfSent, IsPlaceOfClose, TellsClose};
 ghost use Rattle.ipcz_messages.specs.Closes.{end_of_item, is_retire, item_sent, line_at, served_at};
 
 use crate::calls::Portals;
@@ -14,28 +14,20 @@ use crate::routers::{Router, find};
 use ipcz_lines::{Answer, End, Event, Line, ReadLine, RouterEvent, Way};
 use std::alloc::{AllocError, Global};
 
-/// A close: its end, the number of its mark, and the name of the portal that was closed, if a caller closed it.
+/// A close: its end, the number of its mark, and the line that tells it.
 #[derive(Clone, Copy)]
-pub struct Closed<'a> {
+pub struct Closed {
     pub end: End,
     pub number: u64,
-    pub name: Option<&'a [u8]>,
+    pub line: usize,
 }
 
-/// What a message is: a close, Gone, or another.
-#[derive(Clone, Copy)]
-pub enum Nature<'a> {
-    /// The mark of a close, with the name of the portal that was closed, if a caller closed it.
-    Close(Option<&'a [u8]>),
+/// What a message is: the mark of a close, by the line that tells it first, or Gone, or another.
+#[derive(Clone, Copy, Debug, PartialEq, Eq)]
+pub enum Nature {
+    Close { line: usize },
     Gone,
     Other,
-}
-
-/// The closes that the lines tell, and the ends that routers serve.
-#[derive(Drop)]
-pub struct Closes<'a> {
-    pub ends: &'a [Option<End>],
-    pub closed: Vec<Closed<'a>>,
 }
 
 // The end that a router serves.
@@ -45,9 +37,9 @@ fn served_at(ends: &[Option<End>], router: Option<usize>) -> Option<End>
     *ends.get(router?)?
 }
 
-// The close that a call at a portal tells, if it is known which end that is.
-fn close_called<'a>(line: &Line<'a>, portals: &Portals) -> Option<Closed<'a>>
-    ensures { IfSome result (λ c. IsToldBy c line.now) }
+// The end and the number of the close that a call at a portal tells, if it is known which end that is.
+fn close_called(line: &Line, portals: &Portals) -> Option<(End, u64)>
+    ensures { IfSome result (λ c. TellsClose c.1 line.now) }
 {
     let Line::Close {
         name,
@@ -56,20 +48,12 @@ fn close_called<'a>(line: &Line<'a>, portals: &Portals) -> Option<Closed<'a>>
     else {
         return None;
     };
-    Some(Closed {
-        end: portals.end_of(name)?,
-        number: *number,
-        name: Some(name),
-    })
+    Some((portals.end_of(name)?, *number))
 }
 
-// The close that a retire tells: Gone is the item behind its mark.
-fn close_retired<'a>(
-    line: &Line<'a>,
-    routers: &[Router],
-    ends: &[Option<End>],
-) -> Option<Closed<'a>>
-    ensures { IfSome result (λ c. IsToldBy c line.now) }
+// The end and the number of the close that a retire tells: Gone is the item behind its mark.
+fn close_retired(line: &Line, routers: &[Router], ends: &[Option<End>]) -> Option<(End, u64)>
+    ensures { IfSome result (λ c. TellsClose c.1 line.now) }
 {
     let Line::Turn {
         node,
@@ -81,24 +65,23 @@ fn close_retired<'a>(
     else {
         return None;
     };
-    Some(Closed {
-        end: served_at(ends, find(routers, *node, *serial))?,
-        number: number.checked_sub(1)?,
-        name: None,
-    })
+    Some((
+        served_at(ends, find(routers, *node, *serial))?,
+        number.checked_sub(1)?,
+    ))
 }
 
-// The close that a line tells.
-fn close_told<'a>(
-    line: &Line<'a>,
+// The end and the number of the close that a line tells.
+fn close_told(
+    line: &Line,
     routers: &[Router],
     ends: &[Option<End>],
     portals: &Portals,
-) -> Option<Closed<'a>>
-    ensures { IfSome result (λ c. IsToldBy c line.now) }
+) -> Option<(End, u64)>
+    ensures { IfSome result (λ c. TellsClose c.1 line.now) }
 {
     match close_called(line, portals) {
-        Some(closed) => Some(closed),
+        Some(told) => Some(told),
         None => close_retired(line, routers, ends),
     }
 }
@@ -156,11 +139,13 @@ fn close_of(closed: &[Closed], end: End, number: u64) -> Option<usize>
 }
 
 // What the item of an end with this number is.
-fn nature_of_item<'a>(closed: &[Closed<'a>], end: End, number: u64) -> Nature<'a>
+fn nature_of_item(closed: &[Closed], end: End, number: u64) -> Nature
     ensures { IsNatureOfItem closed.now end number result }
 {
     if let Some(index) = close_of(closed, end, number) {
-        return Nature::Close(closed[index].name);
+        return Nature::Close {
+            line: closed[index].line,
+        };
     }
     if let Some(mark) = number.checked_sub(1)
         && close_of(closed, end, mark).is_some()
@@ -171,11 +156,7 @@ fn nature_of_item<'a>(closed: &[Closed<'a>], end: End, number: u64) -> Nature<'a
 }
 
 // What it is that a router of this end has sent, if it is known which end that is and what it has sent.
-fn nature_of_sent<'a>(
-    closed: &[Closed<'a>],
-    served: Option<End>,
-    sent: Option<(Way, u64)>,
-) -> Nature<'a>
+fn nature_of_sent(closed: &[Closed], served: Option<End>, sent: Option<(Way, u64)>) -> Nature
     ensures { IsNatureOfSent closed.now served sent result }
 {
     match (served, sent) {
@@ -187,7 +168,7 @@ fn nature_of_sent<'a>(
 }
 
 // What it is that a router of this end has made at a line.
-fn nature_of_made<'a>(closed: &[Closed<'a>], served: Option<End>, line: &Line) -> Nature<'a>
+fn nature_of_made(closed: &[Closed], served: Option<End>, line: &Line) -> Nature
     ensures { IsNatureOfMade closed.now served line.now (is_retire line.now) result }
 {
     if is_retire(line) {
@@ -196,57 +177,41 @@ fn nature_of_made<'a>(closed: &[Closed<'a>], served: Option<End>, line: &Line) -
     nature_of_sent(closed, served, item_sent(line))
 }
 
-// The closes that the lines tell.
-fn closes_told<'a>(
+/// The closes that the lines tell, by the ends that these routers serve.
+pub fn closes(
     alloc: Global,
-    lines: &[ReadLine<'a>],
+    lines: &[ReadLine],
     routers: &[Router],
     ends: &[Option<End>],
     portals: &Portals,
-) -> Result<Vec<Closed<'a>>, AllocError>
+) -> Result<Vec<Closed>, AllocError>
     ensures few { IfOk result (λ closed. length closed.items ≤ length lines.now) }
     ensures told { IfOk result (λ closed. AreToldBy lines.now closed.items) }
 {
     let mut closed = Vec::new(alloc);
-    for read in lines {
-        if let Some(close) = close_told(&read.line, routers, ends, portals) {
-            closed.push(close)?;
+    for line in 0..lines.len() {
+        if let Some((end, number)) = close_told(&lines[line].line, routers, ends, portals) {
+            closed.push(Closed { end, number, line })?;
         }
     }
     Ok(closed)
 }
 
-impl<'a> Closes<'a> {
-    /// The closes that the lines tell, by the ends that these routers serve.
-    pub fn new(
-        alloc: Global,
-        lines: &[ReadLine<'a>],
-        routers: &[Router],
-        ends: &'a [Option<End>],
-        portals: &Portals,
-    ) -> Result<Self, AllocError>
-        ensures ends { IfOk result (λ closes. closes.ends.now ≡ ends.now) }
-        ensures few { IfOk result (λ closes. length closes.closed.items ≤ length lines.now) }
-        ensures told { IfOk result (λ closes. AreToldBy lines.now closes.closed.items) }
-    {
-        Ok(Closes {
-            ends,
-            closed: closes_told(alloc, lines, routers, ends, portals)?,
-        })
-    }
-
-    /// What a message is, by the line that made it: Gone if that is a retire. Of an item that was sent its number tells it, and the end at
-    /// which it was put, which the way tells that it was sent.
-    pub fn nature_of(&self, lines: &[ReadLine], message: &Message) -> Nature<'a>
-        ensures { IsNature self.now.closed.items (served_at self.now.ends.now message.now.maker) (line_at lines.now message.now.made) result }
-    {
-        let Some(made) = message.made else {
-            return Nature::Other;
-        };
-        let Some(read) = lines.get(made) else {
-            return Nature::Other;
-        };
-        let served = served_at(self.ends, message.maker);
-        nature_of_made(&self.closed, served, &read.line)
-    }
+/// What a message is, by the line that made it: Gone if that is a retire. Of an item that was sent its number tells it, and the end at which it
+/// was put, which the way tells that it was sent.
+pub fn nature_of(
+    closed: &[Closed],
+    ends: &[Option<End>],
+    lines: &[ReadLine],
+    message: &Message,
+) -> Nature
+    ensures { IsNature closed.now (served_at ends.now message.now.maker) (line_at lines.now message.now.made) result }
+{
+    let Some(made) = message.made else {
+        return Nature::Other;
+    };
+    let Some(read) = lines.get(made) else {
+        return Nature::Other;
+    };
+    nature_of_made(closed, served_at(ends, message.maker), &read.line)
 }

@@ -154,8 +154,8 @@ fn opened_by<'a>(line: &Line<'a>) -> Option<(&'a [u8], &'a [u8])>
     }
 }
 
-// The name of the portal that a line closes.
-fn closed_by<'a>(line: &Line<'a>) -> Option<&'a [u8]>
+/// The name of the portal that a line closes.
+pub fn closed_by<'a>(line: &Line<'a>) -> Option<&'a [u8]>
     ensures closed { IfSome result (λ name. IsCloseOf name.now line.now) }
     ensures other { IfNone result ((name : List ℕ) → IsCloseOf name line.now → ⊥) }
 {

@@ -2,7 +2,7 @@
 
 use crate::told::{BOTH_CLOSED, Told, told_by};
 use ipcz_messages::calls::Portals;
-use ipcz_messages::closes::{Closes, Nature};
+use ipcz_messages::closes::{Nature, closes, nature_of};
 use ipcz_messages::ends::ends;
 use ipcz_messages::moves::Moves;
 use std::alloc::Global;
@@ -56,64 +56,54 @@ n1: hand item 3 C0
 words 3
 ";
 
-// What a message is: `close` and the name of the portal, `close` alone, `Gone`, or nothing.
-type Name = (&'static str, &'static [u8]);
-
-static PASSED_ON_NAMES: [Name; 6] = [
-    ("", b""),
-    ("close", b"x"),
-    ("close", b"x"),
-    ("Gone", b""),
-    ("Gone", b""),
-    ("close", b"y"),
+static PASSED_ON_NATURES: [Nature; 6] = [
+    Nature::Other,
+    Nature::Close { line: 7 },
+    Nature::Close { line: 7 },
+    Nature::Gone,
+    Nature::Gone,
+    Nature::Close { line: 8 },
 ];
 
-static UNNAMED_NAMES: [Name; 2] = [("close", b""), ("Gone", b"")];
+static UNNAMED_NATURES: [Nature; 2] = [Nature::Close { line: 5 }, Nature::Gone];
 
-static BOTH_CLOSED_NAMES: [Name; 3] = [("close", b"x"), ("close", b"y"), ("Gone", b"")];
+static BOTH_CLOSED_NATURES: [Nature; 3] = [
+    Nature::Close { line: 1 },
+    Nature::Close { line: 2 },
+    Nature::Gone,
+];
 
-// Whether a message is told as this.
-fn is_told_as(nature: Nature, name: &Name) -> bool {
-    match nature {
-        Nature::Close(Some(portal)) => name.0 == "close" && portal == name.1,
-        Nature::Close(None) => name.0 == "close" && name.1.is_empty(),
-        Nature::Gone => name.0 == "Gone",
-        Nature::Other => name.0.is_empty(),
-    }
-}
-
-// The first message of these that is told as another than its name, or how many messages there are.
-fn first_other_in(alloc: Global, told: &Told, names: &[Name]) -> Option<usize> {
+// The first message of these that is told as another, or how many messages there are.
+fn first_other_in(alloc: Global, told: &Told, natures: &[Nature]) -> Option<usize> {
     let moves = Moves::new(alloc, &told.lines).ok()?;
     let portals = Portals::new(alloc, &told.lines).ok()?;
     let ends = ends(alloc, &told.lines, &told.messages, &told.routers, &moves).ok()?;
-    let closes = Closes::new(alloc, &told.lines, &told.routers, &ends, &portals).ok()?;
+    let closed = closes(alloc, &told.lines, &told.routers, &ends, &portals).ok()?;
     for (index, message) in told.messages.iter().enumerate() {
-        let name = names.get(index)?;
-        if !is_told_as(closes.nature_of(&told.lines, message), name) {
+        if natures.get(index) != Some(&nature_of(&closed, &ends, &told.lines, message)) {
             return Some(index);
         }
     }
     Some(told.messages.len())
 }
 
-// The first message of a transcript that is told as another than its name, or how many messages it has.
-fn first_other(alloc: Global, transcript: &[u8], names: &[Name]) -> Option<usize> {
+// The first message of a transcript that is told as another, or how many messages it has.
+fn first_other(alloc: Global, transcript: &[u8], natures: &[Nature]) -> Option<usize> {
     let told = told_by(alloc, transcript)?;
-    first_other_in(alloc, &told, names)
+    first_other_in(alloc, &told, natures)
 }
 
 #[test]
 fn a_proxy_passes_closes_and_gone_on(rt: HostRuntime) {
-    assert_eq!(rt; first_other(rt.alloc(), PASSED_ON, &PASSED_ON_NAMES), Some(6));
+    assert_eq!(rt; first_other(rt.alloc(), PASSED_ON, &PASSED_ON_NATURES), Some(6));
 }
 
 #[test]
 fn the_close_of_a_node_is_told_by_its_retire(rt: HostRuntime) {
-    assert_eq!(rt; first_other(rt.alloc(), UNNAMED, &UNNAMED_NAMES), Some(2));
+    assert_eq!(rt; first_other(rt.alloc(), UNNAMED, &UNNAMED_NATURES), Some(2));
 }
 
 #[test]
 fn a_close_is_told_on_its_direct_way(rt: HostRuntime) {
-    assert_eq!(rt; first_other(rt.alloc(), BOTH_CLOSED, &BOTH_CLOSED_NAMES), Some(3));
+    assert_eq!(rt; first_other(rt.alloc(), BOTH_CLOSED, &BOTH_CLOSED_NATURES), Some(3));
 }
