@@ -95,7 +95,10 @@ fn first_other(alloc: Global, transcript: &[u8], natures: &[Nature]) -> Option<u
 
 #[test]
 fn a_proxy_passes_closes_and_gone_on(rt: HostRuntime) {
-    assert_eq!(rt; first_other(rt.alloc(), PASSED_ON, &PASSED_ON_NATURES), Some(6));
+    assert_eq!(rt;
+        first_other(rt.alloc(), PASSED_ON, &PASSED_ON_NATURES),
+        Some(6)
+    );
 }
 
 #[test]
@@ -105,5 +108,8 @@ fn the_close_of_a_node_is_told_by_its_retire(rt: HostRuntime) {
 
 #[test]
 fn a_close_is_told_on_its_direct_way(rt: HostRuntime) {
-    assert_eq!(rt; first_other(rt.alloc(), BOTH_CLOSED, &BOTH_CLOSED_NATURES), Some(3));
+    assert_eq!(rt;
+        first_other(rt.alloc(), BOTH_CLOSED, &BOTH_CLOSED_NATURES),
+        Some(3)
+    );
 }

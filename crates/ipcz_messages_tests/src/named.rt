@@ -69,15 +69,9 @@ fn first_other(alloc: Global, transcript: &[u8], rows: &[Row]) -> Option<usize> 
 
 // Runs, and how many portals are named of each: of one that settles first, of one with no more turns than settles, and of two that are neither.
 static COUNTS: [(&[u8], usize); 4] = [
-    (
-        b"open left right ok\nsettled\nn0: idle\nn0: idle\n",
-        2,
-    ),
+    (b"open left right ok\nsettled\nn0: idle\nn0: idle\n", 2),
     (b"open left right ok\nn0: idle\nunsettled\n", 2),
-    (
-        b"open left right ok\nn0: idle\nsettled\nn0: idle\n",
-        0,
-    ),
+    (b"open left right ok\nn0: idle\nsettled\nn0: idle\n", 0),
     (b"open left right ok\nput left 0\nn0: idle\n", 0),
 ];
 

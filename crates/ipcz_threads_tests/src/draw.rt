@@ -382,8 +382,14 @@ fn closes_and_gone_are_called_so_where_they_are_passed_on(rt: HostRuntime) {
 
 const COLUMNS: [(&str, usize); 4] = [
     (" class=\"t10 ink b e h halo\">0&gt;1</text>", 1),
-    ("<text x=\"500\" y=\"193\" class=\"t10 ink b e h halo\">r0</text>", 1),
-    ("<text x=\"580\" y=\"211\" class=\"t10 ink b e h halo\">r1</text>", 1),
+    (
+        "<text x=\"500\" y=\"193\" class=\"t10 ink b e h halo\">r0</text>",
+        1,
+    ),
+    (
+        "<text x=\"580\" y=\"211\" class=\"t10 ink b e h halo\">r1</text>",
+        1,
+    ),
     ("class=\"t9 f-call h halo\">put</text>", 1),
 ];
 
