@@ -1,3 +1,4 @@
+pub mod Closes
 pub mod Ends
 pub mod Joining
 pub mod Leftovers

@@ -1,6 +1,6 @@
--- Which portals a run without turns names.
-use Rattle.std.specs.Prelude.{ℕ, ◌+◌, ◌≡◌, ◌<◌, ◌≢◌, ◌≤◌, ◌==◌, ◌++◌, Bool, true, false, ◌⊎◌, List, [], ◌∷◌, length, take, Option, Some, None}
-use Rattle.std.specs.List.{All, AllPairs, AllWithin, HoldsAt, count_by}
+-- Which portals a run names that tells little of routers.
+use Rattle.std.specs.Prelude.{ℕ, ◌+◌, ◌≡◌, ◌<◌, ◌≢◌, ◌≤◌, ◌==◌, ◌++◌, ◌||◌, Bool, true, false, ◌⊎◌, List, [], ◌∷◌, length, take, Option, Some, None}
+use Rattle.std.specs.List.{All, AllPairs, AllWithin, Any, HoldsAt, count_by}
 use Rattle.std.specs.Option.{IfSome, option_eq}
 use Rattle.ipcz_lines.specs.declared.line.Line.{Line}
 use Rattle.ipcz_lines.specs.declared.line.Line.TheVariants as lines
@@ -10,10 +10,36 @@ use Rattle.ipcz_lines.specs.declared.line.parts.Answer.TheVariants as answers
 use Rattle.ipcz_lines.specs.declared.line.parts.Refusal.{Refusal}
 use Rattle.ipcz_lines.specs.declared.line.parts.Refusal.TheVariants as refusals
 use Rattle.ipcz_messages.specs.declared.named.NamedPortal.{NamedPortal}
+use Rattle.ipcz_messages.specs.Ends.{IsFirstSettle}
+use Rattle.ipcz_messages.specs.Messages.{is_settle}
 
 abbrev pub is_turn : Line → Bool
 is_turn (lines.Turn node event) = true
 is_turn other = false
+
+-- how many of these lines are of turns, and how many are settles
+abbrev pub turn_count : List ReadLine → ℕ
+turn_count read = count_by (λ x. is_turn x.line) read
+
+abbrev pub settle_count : List ReadLine → ℕ
+settle_count read = count_by (λ x. is_settle x.line) read
+
+-- a run tells of the routers that its calls are at: a turn stands before the first settle, and there are more turns than settles
+pub record TellsOfRouters (read : List ReadLine) : Type 0 where
+  pub sight : ℕ
+  pub settled : IsFirstSettle read sight
+  pub turned : Any (λ x. is_turn x.line ≡ true) (take sight read)
+  pub more : settle_count read < turn_count read
+
+-- portals may move at a line: a turn or a settle
+abbrev pub stirs : Line → Bool
+stirs line = is_turn line || is_settle line
+
+-- the first line at which portals may move, or, if there is none, the end
+pub record IsFirstStir (read : List ReadLine) (i : ℕ) : Type 0 where
+  pub within : i ≤ length read
+  pub before : AllWithin (λ x. stirs x.line ≡ false) read 0 i
+  pub there : i < length read → HoldsAt (λ x. stirs x.line ≡ true) read i
 
 -- the call found its portal
 abbrev pub finds : Refusal → Bool

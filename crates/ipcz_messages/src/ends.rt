@@ -5,6 +5,7 @@
 //! that was made for an end that moved is of that end.
 
 ghost use Rattle.std.specs.Prelude.{◌≡◌, ◌<◌, length, vec_len, IfOk};
+ghost use Rattle.ipcz_messages.specs.Closes.{other_end};
 ghost use Rattle.ipcz_messages.specs.Ends.{IsLoneSide};
 
 use crate::calls::{first_end, node_count};
@@ -22,6 +23,7 @@ const WORDS: usize = 4096;
 pub fn opposite(end: End) -> End
     ensures pair { result.pair ≡ end.pair }
     ensures side { (result.side ≡ end.side) → ⊥ }
+    ensures other { result ≡ other_end end }
 {
     let side = match end.side {
         Side::A => Side::B,

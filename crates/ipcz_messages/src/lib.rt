@@ -2,6 +2,7 @@
 #![tactic(auto)]
 
 pub mod calls;
+pub mod closes;
 pub mod ends;
 pub mod messages;
 pub mod moves;

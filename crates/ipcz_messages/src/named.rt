@@ -1,21 +1,24 @@
-//! The portals of a run without turns, by the names that its calls use.
+//! The portals of a run that settles before its first turn, or takes no more turns than it settles, by the names that its calls use.
 //!
-//! Such a run tells nothing of routers. But nothing moves before its first settle: up to there each first portal `i>j` is at node i, and an
-//! opened one at the node that opened it, which no line tells.
+//! Such a run tells little or nothing of the routers that its calls are at. But nothing moves before its first settle or turn: up to there each
+//! first portal `i>j` is at node i, and an opened one at the node that opened it, which no line tells.
 
 ghost use Rattle.std.specs.Prelude.{◌≡◌, ◌+◌, ◌≤◌, ◌<◌, ◌≢◌, ◌⊎◌, ℕ, List, [], length, true, IfSome, IfNone, IfOk, OnOk};
 ghost use Rattle.std.specs.List.{All, AllWithin, Any, HoldsAt};
 ghost use Rattle.ipcz_messages.specs.Named.{AllCallsNamed, AllOpensNamed, AreAllNamed, AreDistinct, ArePlaced, IsCallAt, IsCloseOf, IsFirstName, IsFirstOfName, IsNoted};
-ghost use Rattle.ipcz_messages.specs.Named.{IsOpenOf, IsPlaceOfName, IsTold, KeepsNames, NotesItsClose, is_turn, portals_at};
+ghost use Rattle.ipcz_messages.specs.Named.{IsFirstStir, IsOpenOf, IsPlaceOfName, IsTold, KeepsNames, NotesItsClose, is_turn, portals_at, settle_count, stirs};
+ghost use Rattle.ipcz_messages.specs.Named.{turn_count, TellsOfRouters};
 
 use crate::calls::{nodes_of_name, portal_of};
+use crate::messages::is_settle;
+use crate::moves::lines_in_sight;
 use ipcz_lines::{Answer, Line, ReadLine};
 use std::alloc::{AllocError, Global};
 
 /// At most so many portals are named.
 const MOST_NAMED: usize = 32;
 
-/// A portal by its name: the node that it is at up to the first settle, if its name tells that, its place among those of that node or among the
+/// A portal by its name: the node that it is at up to the first settle or turn, if its name tells that, its place among those of that node or among the
 /// opened ones, its first line, and the line that closes it, if there is one.
 #[derive(Clone, Copy)]
 pub struct NamedPortal<'a> {
@@ -41,6 +44,48 @@ fn has_turns(lines: &[ReadLine]) -> bool
     lines.iter().any(is_turn)
 }
 
+// How many of the lines are of turns.
+fn turn_count(lines: &[ReadLine]) -> usize
+    ensures { result ≡ turn_count lines.now }
+{
+    lines.iter().filter(|it| is_turn(it)).count()
+}
+
+// How many of the lines are settles.
+fn settle_count(lines: &[ReadLine]) -> usize
+    ensures { result ≡ settle_count lines.now }
+{
+    lines.iter().filter(|it| is_settle(&it.line)).count()
+}
+
+// Whether the lines tell of routers: a turn stands before the first settle, and there are more turns than settles.
+fn tells_of_routers(lines: &[ReadLine]) -> bool
+    ensures some { result ≡ true → TellsOfRouters lines.now }
+    ensures all { TellsOfRouters lines.now → result ≡ true }
+{
+    let seen = lines_in_sight(lines);
+    has_turns(&lines[..seen]) && settle_count(lines) < turn_count(lines)
+}
+
+// Whether portals may move at a line: it is a turn or a settle.
+fn stirs(read: &ReadLine) -> bool
+    ensures { result ≡ stirs read.now.line }
+{
+    is_turn(read) || is_settle(&read.line)
+}
+
+/// How many lines stand before the first turn or settle: up to there each portal is where it was first.
+pub fn lines_at_rest(lines: &[ReadLine]) -> usize
+    ensures { IsFirstStir lines.now result }
+{
+    for i in 0..lines.len() {
+        if stirs(&lines[i]) {
+            return i;
+        }
+    }
+    lines.len()
+}
+
 // The node that has a first portal from the start, as 0 has `0>1`, by the portal's name.
 fn first_node(name: &[u8]) -> Option<u8>
     ensures named { IfSome result (λ node. (other : ℕ) × IsFirstName 8 name.now node other) }
@@ -60,8 +105,8 @@ pub fn portal_named(named: &[NamedPortal], name: &[u8]) -> Option<usize>
     named.iter().position(|it| it.name == name)
 }
 
-// How many portals there are of a node, or how many opened ones.
-fn count_of(named: &[NamedPortal], node: Option<u8>) -> usize
+/// How many portals there are of a node, or how many opened ones.
+pub fn count_of(named: &[NamedPortal], node: Option<u8>) -> usize
     ensures { result ≡ portals_at node named.now }
 {
     named.iter().filter(|it| it.node == node).count()
@@ -109,8 +154,8 @@ fn opened_by<'a>(line: &Line<'a>) -> Option<(&'a [u8], &'a [u8])>
     }
 }
 
-// The name of the portal that a line closes.
-fn closed_by<'a>(line: &Line<'a>) -> Option<&'a [u8]>
+/// The name of the portal that a line closes.
+pub fn closed_by<'a>(line: &Line<'a>) -> Option<&'a [u8]>
     ensures closed { IfSome result (λ name. IsCloseOf name.now line.now) }
     ensures other { IfNone result ((name : List ℕ) → IsCloseOf name line.now → ⊥) }
 {
@@ -207,21 +252,22 @@ fn note_closed(named: &mut Vec<NamedPortal>, lines: &[ReadLine], line: usize)
     }
 }
 
-/// The portals of a run without turns, in the order in which its lines name them; of another run none.
+/// The portals of a run that settles before its first turn, or takes no more turns than it settles, in the order in which its lines name them;
+/// of another run none.
 pub fn named_portals<'a>(
     alloc: Global,
     lines: &[ReadLine<'a>],
 ) -> Result<Vec<NamedPortal<'a>>, AllocError>
     ensures few { IfOk result (λ named. length named.items ≤ 32) }
-    ensures turned { IfOk result (λ named. Any (λ x. is_turn x.line ≡ true) lines.now → named.items ≡ []) }
+    ensures turned { IfOk result (λ named. TellsOfRouters lines.now → named.items ≡ []) }
     ensures told { IfOk result (λ named. All (IsTold lines.now) named.items) }
     ensures placed { IfOk result (λ named. ArePlaced named.items) }
     ensures once { IfOk result (λ named. AreDistinct named.items) }
     ensures closes { IfOk result (λ named. All (NotesItsClose lines.now (length lines.now)) named.items) }
-    ensures all { IfOk result (λ named. (Any (λ x. is_turn x.line ≡ true) lines.now → ⊥) → AreAllNamed lines.now (length lines.now) named.items) }
+    ensures all { IfOk result (λ named. (TellsOfRouters lines.now → ⊥) → AreAllNamed lines.now (length lines.now) named.items) }
 {
     let mut named = Vec::new(alloc);
-    if has_turns(lines) {
+    if tells_of_routers(lines) {
         return Ok(named);
     }
     for line in 0..lines.len() {

@@ -6,6 +6,8 @@
 #![tactic(auto)]
 
 #[cfg(test)]
+mod closes;
+#[cfg(test)]
 mod lines;
 #[cfg(test)]
 mod messages;

@@ -1,4 +1,4 @@
-//! The portals that a transcript without turns names.
+//! The portals that a transcript names.
 
 use ipcz_lines::read;
 use ipcz_messages::named::{NamedPortal, named_portals};
@@ -67,11 +67,29 @@ fn first_other(alloc: Global, transcript: &[u8], rows: &[Row]) -> Option<usize> 
     Some(named.len())
 }
 
-// How many portals are named of a run whose last line is a turn.
-fn count_with_a_turn(alloc: Global) -> Option<usize> {
-    let lines = read(alloc, b"open left right ok\nput left 0\nn0: idle\n").ok()?;
+// Runs, and how many portals are named of each: of one that settles first, of one with no more turns than settles, and of two that are neither.
+static COUNTS: [(&[u8], usize); 4] = [
+    (b"open left right ok\nsettled\nn0: idle\nn0: idle\n", 2),
+    (b"open left right ok\nn0: idle\nunsettled\n", 2),
+    (b"open left right ok\nn0: idle\nsettled\nn0: idle\n", 0),
+    (b"open left right ok\nput left 0\nn0: idle\n", 0),
+];
+
+// How many portals are named of a run.
+fn count_of(alloc: Global, transcript: &[u8]) -> Option<usize> {
+    let lines = read(alloc, transcript).ok()?;
     let named = named_portals(alloc, &lines).ok()?;
     Some(named.len())
+}
+
+// The first run of which another number of portals is named.
+fn first_other_count(alloc: Global) -> Option<usize> {
+    for (i, (transcript, count)) in COUNTS.iter().enumerate() {
+        if count_of(alloc, *transcript) != Some(*count) {
+            return Some(i);
+        }
+    }
+    None
 }
 
 #[test]
@@ -85,6 +103,6 @@ fn portals_of_a_node_have_a_place_each(rt: HostRuntime) {
 }
 
 #[test]
-fn portals_of_a_run_with_turns_are_not(rt: HostRuntime) {
-    assert!(rt; count_with_a_turn(rt.alloc()) == Some(0));
+fn portals_are_named_unless_a_run_tells_of_routers(rt: HostRuntime) {
+    assert_eq!(rt; first_other_count(rt.alloc()), None);
 }

@@ -1,3 +1,4 @@
+pub mod Calling
 pub mod Following
 pub mod Seeing
 pub mod Sizing

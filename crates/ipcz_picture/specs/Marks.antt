@@ -1,6 +1,6 @@
 -- What stands in rows.
 use Rattle.std.specs.Prelude.{ℕ, ◌≡◌, ◌+◌, ◌*◌, ◌%◌, ◌<◌, ◌≤◌, ◌==◌, Bool, true, false, List, length, codes, Option, Some, None}
-use Rattle.std.specs.List.{AllWithin, HoldsAt, slice_get}
+use Rattle.std.specs.List.{AllWithin, HoldsAt}
 use Rattle.ipcz_lines.specs.declared.line.Line.{Line}
 use Rattle.ipcz_lines.specs.declared.line.Line.TheVariants as lines
 use Rattle.ipcz_lines.specs.declared.line.Event.TheVariants as events
@@ -51,21 +51,6 @@ has_marks (lines.Turn node (events.Hand kind link unfit)) = true
 has_marks lines.Settled = true
 has_marks lines.Unsettled = true
 has_marks other = false
-
--- whether a line is a retire, which makes Gone
-abbrev pub is_retire : Line → Bool
-is_retire (lines.Turn node (events.Router serial (acts.Retire number link))) = true
-is_retire other = false
-
--- whether there is a line, and it is a retire
-abbrev pub is_retire_read : Option ReadLine → Bool
-is_retire_read None = false
-is_retire_read (Some x) = is_retire x.line
-
--- whether the line at which a message was made is known, and is a retire
-abbrev pub is_retire_at : List ReadLine → Option ℕ → Bool
-is_retire_at read None = false
-is_retire_at read (Some line) = is_retire_read (slice_get read line)
 
 -- whether a call was refused
 abbrev pub is_refused : Line → Bool

@@ -1,12 +1,13 @@
 //! What the title and the label of a message say.
 
-ghost use Rattle.std.specs.Prelude.{◌≡◌, ◌+◌, ◌*◌, ◌≤◌, length};
+ghost use Rattle.std.specs.Prelude.{◌+◌, ◌*◌, ◌≤◌, length};
 ghost use Rattle.ipcz_markup.specs.Markup.{Grows, Keeps};
-ghost use Rattle.ipcz_picture.specs.Marks.{is_retire, is_retire_at};
 
-use ipcz_lines::{Event, Kind, Line, Link, ReadLine, RouterEvent};
+use ipcz_lines::{Kind, Line, Link, ReadLine};
 use ipcz_markup::{Look, Stroke, Tag, Writer};
+use ipcz_messages::closes::Nature;
 use ipcz_messages::messages::Message;
+use ipcz_messages::named::closed_by;
 use ipcz_messages::routers::Router;
 
 /// The look of a message, by its kind.
@@ -44,42 +45,34 @@ fn front(text: &[u8], room: usize) -> &[u8]
     &text[..text.len().min(room)]
 }
 
-// Whether a line is a retire.
-fn is_retire(line: &Line) -> bool
-    ensures { result ≡ is_retire line.now }
+// The close that a line tells, with the name of the portal if the line closes it.
+fn write_close(out: &mut Writer, line: &Line)
+    ensures keeps { Keeps out.old out.new }
+    ensures few { Grows out.old out.new 170 }
 {
-    matches!(
-        line,
-        Line::Turn {
-            event: Event::Router {
-                event: RouterEvent::Retire { .. },
-                ..
-            },
-            ..
+    match closed_by(line) {
+        Some(name) => {
+            out.text(b"the close of ");
+            out.text(front(name, 10));
+            out.text(b", ");
         }
-    )
-}
-
-// Whether a message is Gone: a retire made it, and makes nothing else.
-fn is_gone(lines: &[ReadLine], message: &Message) -> bool
-    ensures { result ≡ is_retire_at lines.now message.now.made }
-{
-    let Some(made) = message.made else {
-        return false;
-    };
-    match lines.get(made) {
-        Some(read) => is_retire(&read.line),
-        None => false,
+        None => out.text(b"a close, "),
     }
 }
 
-// Gone by its name, before its kind.
-fn write_gone(out: &mut Writer, lines: &[ReadLine], message: &Message)
+// A close or Gone by its name, before its kind.
+fn write_nature(out: &mut Writer, lines: &[ReadLine], nature: Nature)
     ensures keeps { Keeps out.old out.new }
-    ensures few { Grows out.old out.new 40 }
+    ensures few { Grows out.old out.new 170 }
 {
-    if is_gone(lines, message) {
-        out.text(b"Gone ");
+    match nature {
+        Nature::Close { line } => {
+            if let Some(read) = lines.get(line) {
+                write_close(out, &read.line);
+            }
+        }
+        Nature::Gone => out.text(b"Gone "),
+        Nature::Other => {}
     }
 }
 
@@ -157,11 +150,17 @@ fn write_line(out: &mut Writer, words: &[u8], line: Option<usize>)
 }
 
 // What a message is, from which router to which it goes, and at which lines it is seen.
-fn write_history(out: &mut Writer, lines: &[ReadLine], routers: &[Router], message: &Message)
+fn write_history(
+    out: &mut Writer,
+    lines: &[ReadLine],
+    routers: &[Router],
+    message: &Message,
+    nature: Nature,
+)
     ensures keeps { Keeps out.old out.new }
     ensures few { Grows out.old out.new 1140 }
 {
-    write_gone(out, lines, message);
+    write_nature(out, lines, nature);
     write_kind(out, &message.kind);
     if let Some(link) = &message.link {
         write_link(out, link);
@@ -178,13 +177,19 @@ fn write_history(out: &mut Writer, lines: &[ReadLine], routers: &[Router], messa
 }
 
 /// The title of a message.
-pub fn draw_arrow_title(out: &mut Writer, lines: &[ReadLine], routers: &[Router], message: &Message)
+pub fn draw_arrow_title(
+    out: &mut Writer,
+    lines: &[ReadLine],
+    routers: &[Router],
+    message: &Message,
+    nature: Nature,
+)
     ensures keeps { Keeps out.old out.new }
     ensures few { Grows out.old out.new 1155 }
 {
     out.open(Tag::Title);
     out.enter();
-    write_history(out, lines, routers, message);
+    write_history(out, lines, routers, message, nature);
     out.close(Tag::Title);
 }
 
@@ -207,11 +212,29 @@ fn write_short_kind(out: &mut Writer, kind: &Option<Kind>)
     }
 }
 
-/// The label of a message: its kind, of Gone also its name, and the ends that move with it.
+// What a message is, in short: of a close and of Gone the name.
+fn write_short_name(out: &mut Writer, kind: &Option<Kind>, nature: Nature)
+    ensures keeps { Keeps out.old out.new }
+    ensures few { Grows out.old out.new 100 }
+{
+    match (nature, kind) {
+        (Nature::Close { .. }, Some(Kind::Item(number))) => {
+            out.text(b"close ");
+            out.number(*number);
+        }
+        (Nature::Gone, _) => {
+            out.text(b"Gone ");
+            write_short_kind(out, kind);
+        }
+        _ => write_short_kind(out, kind),
+    }
+}
+
+/// The label of a message: its kind, or the name of a close or of Gone, and the ends that move with it.
 pub fn draw_arrow_label(
     out: &mut Writer,
-    lines: &[ReadLine],
     message: &Message,
+    nature: Nature,
     x: u64,
     y: u64,
     is_right: bool,
@@ -220,8 +243,7 @@ pub fn draw_arrow_label(
     ensures few { Grows out.old out.new 500 }
 {
     out.begin_arrow_label(x, y, look_of(message), number_of(message), is_right);
-    write_gone(out, lines, message);
-    write_short_kind(out, &message.kind);
+    write_short_name(out, &message.kind, nature);
     if !message.moves.is_empty() {
         out.text(b" +");
         out.text(front(message.moves, 14));

@@ -8,7 +8,9 @@ ghost use Rattle.ipcz_markup.specs.Markup.{Grows, InText, InValue, Keeps, KeepsV
 use crate::arrow_title::{draw_arrow_label, draw_arrow_title, look_of, number_of, stroke_of};
 use crate::rows::UNIT;
 use crate::scene::Scene;
+use ipcz_lines::End;
 use ipcz_markup::{Stroke, Tag, Writer};
+use ipcz_messages::closes::{Closed, Nature, nature_of};
 use ipcz_messages::messages::Message;
 
 // A place at a node's wall: how far across the wall is, and whether it is the right one.
@@ -117,14 +119,14 @@ fn draw_outbox(
 }
 
 // Ends a path with the title of its message.
-fn end_titled(out: &mut Writer, scene: &Scene, message: &Message)
+fn end_titled(out: &mut Writer, scene: &Scene, message: &Message, nature: Nature)
     ensures ends { (rows : List Row) (s : List Tag) →
         Stands out.old rows InValue (Tag.Path ∷ s) → Stands out.new rows InText s }
     ensures few { Grows out.old out.new 1165 }
 {
     out.end_value();
     out.enter();
-    draw_arrow_title(out, scene.lines, scene.routers, message);
+    draw_arrow_title(out, scene.lines, scene.routers, message, nature);
     out.close(Tag::Path);
 }
 
@@ -133,6 +135,7 @@ fn draw_way(
     out: &mut Writer,
     scene: &Scene,
     message: &Message,
+    nature: Nature,
     from: Wall,
     posted: usize,
     to: Wall,
@@ -150,7 +153,7 @@ fn draw_way(
         out.point(b'M', from.across, scene.middle_of(posted));
         out.point(b'L', to.across, scene.middle_of(looked));
     }
-    end_titled(out, scene, message);
+    end_titled(out, scene, message, nature);
 }
 
 // The line at which a message is lost from sight: a settle, or the one behind the last.
@@ -173,14 +176,21 @@ fn end_of_sight(scene: &Scene, message: &Message) -> u64 {
 }
 
 // From a wall to where a message is lost from sight.
-fn draw_lost(out: &mut Writer, scene: &Scene, message: &Message, from: Wall, posted: usize)
+fn draw_lost(
+    out: &mut Writer,
+    scene: &Scene,
+    message: &Message,
+    nature: Nature,
+    from: Wall,
+    posted: usize,
+)
     ensures keeps { Keeps out.old out.new }
     ensures few { Grows out.old out.new 1500 }
 {
     out.begin_way(look_of(message), Stroke::Dotted, number_of(message));
     out.point(b'M', from.across, scene.middle_of(posted));
     out.point(b'L', from.outside(12), end_of_sight(scene, message));
-    end_titled(out, scene, message);
+    end_titled(out, scene, message, nature);
 }
 
 // Where the arrow of a message ends at the router that it was handed to.
@@ -244,7 +254,14 @@ fn begin_of_sight(scene: &Scene, settle: usize) -> u64 {
 }
 
 // The way of a message that comes out of a settle, or out of nowhere.
-fn draw_gained(out: &mut Writer, scene: &Scene, message: &Message, wall: Wall, looked: usize)
+fn draw_gained(
+    out: &mut Writer,
+    scene: &Scene,
+    message: &Message,
+    nature: Nature,
+    wall: Wall,
+    looked: usize,
+)
     ensures keeps { Keeps out.old out.new }
     ensures few { Grows out.old out.new 1500 }
 {
@@ -255,7 +272,7 @@ fn draw_gained(out: &mut Writer, scene: &Scene, message: &Message, wall: Wall, l
     out.begin_way(look_of(message), Stroke::Dotted, number_of(message));
     out.point(b'M', wall.outside(14), begin);
     out.point(b'L', wall.across, scene.middle_of(looked));
-    end_titled(out, scene, message);
+    end_titled(out, scene, message, nature);
 }
 
 // How far down the label of a message stands at a line: above the begin of its way, at its post, and else below its end. Since each way goes
@@ -270,13 +287,20 @@ fn label_height(scene: &Scene, message: &Message, line: usize) -> u64 {
 }
 
 // The label of a message at a wall, if a line has a row.
-fn draw_label_at(out: &mut Writer, scene: &Scene, message: &Message, wall: Wall, line: usize)
+fn draw_label_at(
+    out: &mut Writer,
+    scene: &Scene,
+    message: &Message,
+    nature: Nature,
+    wall: Wall,
+    line: usize,
+)
     ensures keeps { Keeps out.old out.new }
     ensures few { Grows out.old out.new 500 }
 {
     if scene.shows(line) {
         let y = label_height(scene, message, line);
-        draw_arrow_label(out, scene.lines, message, wall.outside(4), y, wall.is_right);
+        draw_arrow_label(out, message, nature, wall.outside(4), y, wall.is_right);
     }
 }
 
@@ -285,6 +309,7 @@ fn draw_posted(
     out: &mut Writer,
     scene: &Scene,
     message: &Message,
+    nature: Nature,
     wall: Wall,
     from: u8,
     posted: usize,
@@ -296,14 +321,14 @@ fn draw_posted(
     match message.looked {
         Some(looked) => {
             let other = Wall::facing(scene, message.to, from);
-            draw_way(out, scene, message, wall, posted, other, looked);
+            draw_way(out, scene, message, nature, wall, posted, other, looked);
             if !scene.shows(posted) {
                 label = (other, looked);
             }
         }
-        None => draw_lost(out, scene, message, wall, posted),
+        None => draw_lost(out, scene, message, nature, wall, posted),
     }
-    draw_label_at(out, scene, message, label.0, label.1);
+    draw_label_at(out, scene, message, nature, label.0, label.1);
 }
 
 // The part of a message's way on its sender's side, as far as it is seen.
@@ -311,6 +336,7 @@ fn draw_sent(
     out: &mut Writer,
     scene: &Scene,
     message: &Message,
+    nature: Nature,
     slot: usize,
     from: u8,
     posted: usize,
@@ -323,12 +349,12 @@ fn draw_sent(
         draw_outbox(out, scene, message, slot, wall, posted);
     }
     if scene.sees(posted, message.looked.unwrap_or(lost_at(scene, message))) {
-        draw_posted(out, scene, message, wall, from, posted);
+        draw_posted(out, scene, message, nature, wall, from, posted);
     }
 }
 
 // The part of a message's way on its receiver's side, from the line at which it is seen there first, as far as it is seen.
-fn draw_received(out: &mut Writer, scene: &Scene, message: &Message, seen: usize)
+fn draw_received(out: &mut Writer, scene: &Scene, message: &Message, nature: Nature, seen: usize)
     ensures keeps { Keeps out.old out.new }
     ensures few { Grows out.old out.new 2500 }
 {
@@ -338,7 +364,7 @@ fn draw_received(out: &mut Writer, scene: &Scene, message: &Message, seen: usize
     };
     let wall = Wall::facing(scene, message.to, other);
     if message.posted.is_none() && scene.sees(message.gained.unwrap_or(seen), seen) {
-        draw_gained(out, scene, message, wall, seen);
+        draw_gained(out, scene, message, nature, wall, seen);
     }
     if scene.sees(seen, message.handled.unwrap_or(lost_at(scene, message))) {
         match message.handled {
@@ -349,25 +375,33 @@ fn draw_received(out: &mut Writer, scene: &Scene, message: &Message, seen: usize
 }
 
 // A message.
-fn draw_message(out: &mut Writer, scene: &Scene, message: &Message, slot: usize)
+fn draw_message(out: &mut Writer, scene: &Scene, message: &Message, nature: Nature, slot: usize)
     ensures keeps { Keeps out.old out.new }
     ensures few { Grows out.old out.new 5500 }
 {
     if let (Some(from), Some(posted)) = (message.from, message.posted) {
-        draw_sent(out, scene, message, slot, from, posted);
+        draw_sent(out, scene, message, nature, slot, from, posted);
     }
     if let Some(seen) = message.looked.or(message.handled) {
-        draw_received(out, scene, message, seen);
+        draw_received(out, scene, message, nature, seen);
     }
 }
 
-/// All messages, each with its place in its outbox.
-pub fn draw_messages(out: &mut Writer, scene: &Scene, messages: &[Message], slots: &[usize])
+/// All messages, each with its place in its outbox, and by its name if it is a close that is told, or Gone.
+pub fn draw_messages(
+    out: &mut Writer,
+    scene: &Scene,
+    messages: &[Message],
+    slots: &[usize],
+    ends: &[Option<End>],
+    closed: &[Closed],
+)
     ensures keeps { Keeps out.old out.new }
     ensures few { Grows out.old out.new (5500 * length messages.now) }
 {
     for (index, message) in messages.iter().enumerate() {
         let slot = slots.get(index).copied().unwrap_or(0);
-        draw_message(out, scene, message, slot);
+        let nature = nature_of(closed, ends, scene.lines, message);
+        draw_message(out, scene, message, nature, slot);
     }
 }

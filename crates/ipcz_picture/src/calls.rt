@@ -87,13 +87,13 @@ pub fn draw_call(out: &mut Writer, scene: &Scene, x: u64, line: usize)
     );
 }
 
-/// All calls that are shown whose routers are known.
+/// All calls that are shown whose routers are known, but for those that stand at their portals.
 pub fn draw_calls(out: &mut Writer, scene: &Scene, calls: &[Call])
     ensures keeps { Keeps out.old out.new }
     ensures few { Grows out.old out.new (740 * length calls.now) }
 {
     for (index, call) in calls.iter().enumerate() {
-        if scene.shows(call.line) {
+        if scene.shows(call.line) && scene.portal_called(call.line).is_none() {
             draw_call(out, scene, scene.across_of(call.router), call.line);
         }
     }

@@ -40,7 +40,7 @@ fn draw_band(out: &mut Writer, node: u64, walls: Walls, bottom: u64)
     out.close(Tag::Text);
 }
 
-// The band of the opened portals of a run without turns, whose nodes aren't known.
+// The band of the opened portals that are named, whose nodes aren't known.
 fn draw_opened_band(out: &mut Writer, walls: Walls, bottom: u64)
     ensures keeps { Keeps out.old out.new }
     ensures few { Grows out.old out.new 1400 }

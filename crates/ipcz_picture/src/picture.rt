@@ -25,6 +25,7 @@ use crate::word_bars::{draw_head_words, draw_word_bars};
 use ipcz_lines::ReadLine;
 use ipcz_markup::{Key, Tag, Writer, style};
 use ipcz_messages::calls::{Portals, calls};
+use ipcz_messages::closes::closes;
 use ipcz_messages::ends::ends;
 use ipcz_messages::messages::{messages, note_births};
 use ipcz_messages::moves::{Moves, lines_in_sight};
@@ -137,6 +138,7 @@ pub fn picture(alloc: Global, lines: &[ReadLine], bounds: Bounds) -> Result<Vec<
     let lanes = lanes(alloc, lines, &routers)?;
     let slots = slots(alloc, &messages, lines.len())?;
     let named = named(alloc, lines)?;
+    let closed = closes(alloc, lines, &routers, &ends, &portals)?;
     let scene = Scene::new(
         alloc, lines, bounds, &routers, &lanes, &named, &placed, bottom,
     )?;
@@ -150,7 +152,7 @@ pub fn picture(alloc: Global, lines: &[ReadLine], bounds: Bounds) -> Result<Vec<
     draw_word_bars(&mut out, &scene);
     draw_head_words(&mut out, &scene);
     draw_lifelines(&mut out, &scene);
-    draw_messages(&mut out, &scene, &messages, &slots);
+    draw_messages(&mut out, &scene, &messages, &slots, &ends, &closed);
     draw_calls(&mut out, &scene, &calls);
     draw_portals(&mut out, &scene);
     draw_portal_calls(&mut out, &scene);

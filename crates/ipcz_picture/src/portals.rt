@@ -1,4 +1,4 @@
-//! The portals of a run without turns: a bar up to the first settle, from where on their nodes aren't known a hair, and the calls at them.
+//! The portals that are named: a bar up to the first turn or settle, from where on their nodes aren't known a hair, and the calls at them.
 
 ghost use Rattle.std.specs.Prelude.{◌+◌, ◌*◌, length};
 ghost use Rattle.ipcz_markup.specs.Markup.{Grows, Keeps};
@@ -7,9 +7,7 @@ use crate::calls::{draw_call, front};
 use crate::rows::TOP;
 use crate::scene::Scene;
 use ipcz_markup::{Class, Tag, Writer};
-use ipcz_messages::calls::portal_of;
-use ipcz_messages::moves::lines_in_sight;
-use ipcz_messages::named::{NamedPortal, portal_named};
+use ipcz_messages::named::{NamedPortal, lines_at_rest};
 
 // How far down the bar of a portal ends, and then its hair.
 fn ends_of(scene: &Scene, portal: &NamedPortal) -> (u64, u64) {
@@ -17,7 +15,7 @@ fn ends_of(scene: &Scene, portal: &NamedPortal) -> (u64, u64) {
         Some(line) => scene.middle_of(line),
         None => scene.bottom,
     };
-    (scene.top_of(lines_in_sight(scene.lines)).min(end), end)
+    (scene.top_of(lines_at_rest(scene.lines)).min(end), end)
 }
 
 // The bar and the hair of a portal.
@@ -27,18 +25,18 @@ fn draw_bar(out: &mut Writer, scene: &Scene, portal: &NamedPortal)
 {
     let x = scene.across_of_portal(portal);
     let begin = scene.middle_of(portal.first);
-    let (settled, end) = ends_of(scene, portal);
-    if begin < settled {
+    let (stirred, end) = ends_of(scene, portal);
+    if begin < stirred {
         out.rect(
             x.saturating_sub(3),
             begin,
             6,
-            settled - begin,
+            stirred - begin,
             Class::Router,
         );
     }
-    if settled.max(begin) < end {
-        out.line(x, settled.max(begin), x, end, Class::Hair);
+    if stirred.max(begin) < end {
+        out.line(x, stirred.max(begin), x, end, Class::Hair);
     }
 }
 
@@ -82,9 +80,7 @@ fn draw_portal_call(out: &mut Writer, scene: &Scene, line: usize)
     ensures keeps { Keeps out.old out.new }
     ensures few { Grows out.old out.new 740 }
 {
-    if let Some(read) = scene.lines.get(line)
-        && let Some(name) = portal_of(&read.line)
-        && let Some(index) = portal_named(scene.named, name)
+    if let Some(index) = scene.portal_called(line)
         && let Some(portal) = scene.named.get(index)
     {
         draw_call(out, scene, scene.across_of_portal(portal), line);

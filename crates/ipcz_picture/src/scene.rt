@@ -1,14 +1,15 @@
 //! Where things stand in a picture.
 
-ghost use Rattle.std.specs.Prelude.{◌≡◌, ◌≤◌, ◌<◌, ◌↔◌, length, IfOk, IsTrue};
+ghost use Rattle.std.specs.Prelude.{◌≡◌, ◌≤◌, ◌<◌, ◌↔◌, length, slice_get, IfOk, IsTrue};
 ghost use Rattle.ipcz_picture.specs.Parts.{IsWithin, Meets};
-ghost use Rattle.ipcz_picture.specs.Scenes.{across_of_portal, column_at, walls_of};
+ghost use Rattle.ipcz_picture.specs.Scenes.{across_of_portal, across_of_router, column_at, walls_of, IsPlaceOfCall, IsPortalCalled};
 
 use crate::lanes::Lane;
 use crate::part::Bounds;
 use crate::rows::{Place, TOP, UNIT, value_count};
 use ipcz_lines::{Event, Line, Link, ReadLine, RouterEvent};
-use ipcz_messages::named::NamedPortal;
+use ipcz_messages::calls::portal_of;
+use ipcz_messages::named::{NamedPortal, count_of, portal_named};
 use ipcz_messages::routers::{Router, find};
 use std::alloc::{AllocError, Global};
 
@@ -159,17 +160,6 @@ fn router_columns(routers: &[Router], lanes: &[Lane], node: u8) -> usize {
     count
 }
 
-// How many columns the portals of a node take, or the opened ones.
-fn portal_columns(named: &[NamedPortal], node: Option<u8>) -> usize {
-    let mut count = 0;
-    for portal in named {
-        if portal.node == node {
-            count = count.max(portal.place.saturating_add(1));
-        }
-    }
-    count
-}
-
 // The walls of a band of so many columns, at least one, that begins after the band before it.
 fn walls_behind(before: Option<&Walls>, columns: usize) -> Walls {
     let left = match before {
@@ -198,7 +188,8 @@ fn node_walls(
 {
     let mut walls = Vec::new(alloc);
     for node in 0..node_count(lines, named) {
-        let columns = router_columns(routers, lanes, node).max(portal_columns(named, Some(node)));
+        let portals = count_of(named, Some(node));
+        let columns = portals.saturating_add(router_columns(routers, lanes, node));
         let next = walls_behind(walls.as_slice().last(), columns);
         walls.push(next)?;
     }
@@ -207,7 +198,7 @@ fn node_walls(
 
 // The walls of the opened portals, if there are any, behind those of the nodes.
 fn opened_walls(nodes: &[Walls], named: &[NamedPortal]) -> Option<Walls> {
-    match portal_columns(named, None) {
+    match count_of(named, None) {
         0 => None,
         columns => Some(walls_behind(nodes.last(), columns)),
     }
@@ -230,6 +221,16 @@ fn tops(alloc: Global, placed: &[Place]) -> Result<Vec<u64>, AllocError> {
         }
     }
     Ok(tops)
+}
+
+// The index of the portal at which a line is a call that found it.
+fn place_of_call(named: &[NamedPortal], line: &Line) -> Option<usize>
+    ensures { IsPlaceOfCall named.now line.now result }
+{
+    let Some(name) = portal_of(line) else {
+        return None;
+    };
+    portal_named(named, name)
 }
 
 impl<'a> Scene<'a> {
@@ -331,11 +332,17 @@ impl<'a> Scene<'a> {
         }
     }
 
-    /// How far to the right a router stands.
-    pub fn across_of(&self, router: usize) -> u64 {
+    /// How far to the right a router stands: behind the portals that are named of its node.
+    pub fn across_of(&self, router: usize) -> u64
+        ensures { result ≡ across_of_router self.now.nodes.items self.now.named.now (slice_get self.now.routers.now router) (slice_get self.now.lanes.now router) }
+    {
         match (self.routers.get(router), self.lanes.get(router)) {
             (Some(router), Some(lane)) => {
-                column_at(self.walls_of(router.node).left, lane.column)
+                let portals = count_of(self.named, Some(router.node));
+                column_at(
+                    self.walls_of(router.node).left,
+                    portals.saturating_add(lane.column),
+                )
             }
             _ => 0,
         }
@@ -349,6 +356,16 @@ impl<'a> Scene<'a> {
             (Some(node), _) => column_at(self.walls_of(node).left, portal.place),
             (None, Some(walls)) => column_at(walls.left, portal.place),
             (None, None) => 0,
+        }
+    }
+
+    /// The index of the portal, of those that are named, at which a line is a call that found it.
+    pub fn portal_called(&self, line: usize) -> Option<usize>
+        ensures { IsPortalCalled self.now.named.now (slice_get self.now.lines.now line) result }
+    {
+        match self.lines.get(line) {
+            Some(read) => place_of_call(self.named, &read.line),
+            None => None,
         }
     }
 

@@ -326,6 +326,80 @@ fn gone_is_called_so(rt: HostRuntime) {
     assert_eq!(rt; first_lacking(rt.alloc(), transcript, &GONE), None);
 }
 
+// The end of a portal moves, and its proxy passes on the close of its peer, and Gone behind that; its own close comes to the proxy.
+const PASSED_ON: &[u8] = b"open x y ok
+put 0>1 0
+n0: r0 send out 0 C0 moves 1B
+n0: post 1
+n1: look 0
+n1: hand item 0 C0
+get 1>0 0 [y] \"m\"
+close x 0
+close y 0
+n0: r1 send out 0 C1
+n0: post 0
+n0: look 0
+n0: hand item 0 C1
+n0: r2 send in 0 P0.0
+n0: post 1
+n1: look 0
+n1: hand item 0 P0.0
+n0: r1 lock C1 19
+n0: r1 retire 1 C1
+n0: post 0
+n0: look 0
+n0: hand item 1 C1
+n0: r2 send in 1 P0.0
+n0: post 1
+n1: look 0
+n1: hand item 1 P0.0
+n1: r1 send out 0 P0.0
+n1: post 0
+n0: look 1
+n0: hand item 0 P0.0
+words 3 1
+";
+
+// The item that carries the end is the one whose label has its number alone.
+const PASSED_ON_NAMES: [(&str, usize); 7] = [
+    (">item 0 +1B</text>", 1),
+    (">close 0</text>", 3),
+    (">Gone item 1</text>", 2),
+    ("<title>the close of x, item 0 C1 from n0 r1", 1),
+    ("<title>the close of x, item 0 P0.0 from n0 r2", 1),
+    ("<title>the close of y, item 0 P0.0 from n1 r1", 1),
+    ("<title>Gone item 1 P0.0 from n0 r2", 1),
+];
+
+// A close and Gone are told by name, also where a proxy passes them on.
+#[test]
+fn closes_and_gone_are_called_so_where_they_are_passed_on(rt: HostRuntime) {
+    assert_eq!(rt;
+        first_other(rt.alloc(), None, PASSED_ON, &PASSED_ON_NAMES),
+        None
+    );
+}
+
+const COLUMNS: [(&str, usize); 4] = [
+    (" class=\"t10 ink b e h halo\">0&gt;1</text>", 1),
+    (
+        "<text x=\"500\" y=\"193\" class=\"t10 ink b e h halo\">r0</text>",
+        1,
+    ),
+    (
+        "<text x=\"580\" y=\"211\" class=\"t10 ink b e h halo\">r1</text>",
+        1,
+    ),
+    ("class=\"t9 f-call h halo\">put</text>", 1),
+];
+
+// Behind a settle turns leave the portals their columns, and the routers stand on the right of them.
+#[test]
+fn routers_stand_beside_portals(rt: HostRuntime) {
+    let transcript = b"put 0>1 0\nsettled\nn0: r0 rest\nn0: r1 rest\n";
+    assert_eq!(rt; first_other(rt.alloc(), None, transcript, &COLUMNS), None);
+}
+
 const GROUNDS: [(&str, usize); 2] = [
     (
         "<rect x=\"8\" y=\"154\" width=\"1094\" height=\"18\" class=\"zb\"/>",

@@ -15,6 +15,3 @@ loop-line-preserved c = (
       c.note_closed.new.named.items c.in_ok-note_opened.ensures.kept c.in_ok-note_called.ensures.kept c.note_closed.ensures.kept
       c.in_ok-note_opened.ensures.all c.in_ok-note_called.ensures.all c.loop-line.invariant.5,
 )
-
-pub returns-then-has_turns-clause-all : goal.returns-then-has_turns-clause-all
-returns-then-has_turns-clause-all c none = absurd (none (c.has_turns.ensures.some c.if-has_turns.true))
