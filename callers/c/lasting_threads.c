@@ -1,27 +1,32 @@
 /* Four threads, each with its node's cell, on a table whose link words come back: requests with a fresh portal for their answer, pairs that are opened and
- * closed, and a portal that goes round all nodes. In the end each slot for links is to be had again. */
+ * closed, and portals that go round all nodes; 20,000 of each. In the end each slot for links is to be had again. */
 #include "ipcz_portals.h"
 
 #include <pthread.h>
 #include <sched.h>
 #include <stdio.h>
 
-enum { NODES = 4, FIRST_PAIRS = NODES * (NODES - 1) / 2, SLOTS = 64, ROUNDS = 5000, HOPS = 20000 };
+enum { NODES = 4, FIRST_PAIRS = NODES * (NODES - 1) / 2, SLOTS = 256, ROUNDS = 5000, AT_ONCE = 16, TRAVELLERS = 20, HOPS = 1000 };
 
-/* What a thread has: its cell, the portal at which it awaits an answer, and what it has done and served so far. */
+/* A request under way: the portal at which its answer is awaited. */
+typedef struct request {
+    ipcz_portal kept;
+    bool awaits;
+} request;
+
+/* What a thread has: its cell, its requests under way, and what it has done and served so far. */
 typedef struct worker {
     ipcz_cell cell;
     uint8_t node;
-    ipcz_portal kept;
-    bool awaits;
-    int answered, served, churned;
+    request requests[AT_ONCE];
+    int asked, answered, served, churned;
     ipcz_status wrong;
 } worker;
 
 static worker workers[NODES];
 static pthread_mutex_t lock = PTHREAD_MUTEX_INITIALIZER;
-static int threads_done;
-static bool has_travelled, has_failed;
+static int threads_done, travelled;
+static bool has_failed;
 
 static uint8_t node_behind(uint8_t node) { return (uint8_t)((node + 1) % NODES); }
 static uint8_t node_before(uint8_t node) { return (uint8_t)((node + NODES - 1) % NODES); }
@@ -34,22 +39,23 @@ static ipcz_status open_pair(worker *of, ipcz_portal *kept, ipcz_portal *sent) {
 }
 
 /* Asks the next node, with a fresh portal for the answer. */
-static ipcz_status ask(worker *of) {
+static ipcz_status ask(worker *of, request *it) {
     ipcz_portal sent;
-    ipcz_status status = open_pair(of, &of->kept, &sent);
+    ipcz_status status = open_pair(of, &it->kept, &sent);
     if (status == IPCZ_NO_WORD) return IPCZ_OK;
     if (!status) status = ipcz_cell_put(&of->cell, ipcz_first(of->node, node_behind(of->node), NODES), "?", 1, &sent, 1, NULL);
-    of->awaits = !status;
+    it->awaits = !status;
+    of->asked++;
     return status;
 }
 
 /* Takes the answer, if it has come. */
-static ipcz_status hear(worker *of) {
+static ipcz_status hear(worker *of, request *it) {
     uint8_t byte;
-    ipcz_status status = ipcz_cell_get(&of->cell, of->kept, &byte, 1, NULL, NULL, 0, NULL, NULL);
+    ipcz_status status = ipcz_cell_get(&of->cell, it->kept, &byte, 1, NULL, NULL, 0, NULL, NULL);
     if (status == IPCZ_EMPTY) return IPCZ_OK;
-    if (!status) status = ipcz_cell_close(&of->cell, of->kept);
-    of->awaits = false;
+    if (!status) status = ipcz_cell_close(&of->cell, it->kept);
+    it->awaits = false;
     of->answered++;
     return status;
 }
@@ -69,7 +75,7 @@ static ipcz_status churn(worker *of) {
 static ipcz_status pass_on(worker *of, ipcz_portal portal, int hops) {
     if (hops == HOPS) {
         pthread_mutex_lock(&lock);
-        has_travelled = true;
+        travelled++;
         pthread_mutex_unlock(&lock);
         return ipcz_cell_close(&of->cell, portal);
     }
@@ -77,12 +83,13 @@ static ipcz_status pass_on(worker *of, ipcz_portal portal, int hops) {
     return ipcz_cell_put(&of->cell, ipcz_first(of->node, node_behind(of->node), NODES), text, sizeof text, &portal, 1, NULL);
 }
 
-/* Serves what has come from the node before. */
-static ipcz_status serve(worker *of) {
+/* Serves a parcel that has come from the node before, if there is one, and tells whether there was. */
+static ipcz_status serve(worker *of, bool *came) {
     uint8_t text[4];
     size_t size, count;
     ipcz_portal portal;
     ipcz_status status = ipcz_cell_get(&of->cell, ipcz_first(of->node, node_before(of->node), NODES), text, sizeof text, &size, &portal, 1, &count, NULL);
+    *came = !status;
     if (status == IPCZ_EMPTY) return IPCZ_OK;
     if (status || count != 1) return status ? status : IPCZ_STRANGER;
     if (text[0] == '>') return pass_on(of, portal, (text[1] | text[2] << 8 | text[3] << 16) + 1);
@@ -91,14 +98,18 @@ static ipcz_status serve(worker *of) {
     return status ? status : ipcz_cell_close(&of->cell, portal);
 }
 
-/* One round of a thread: turns of its node, what has come, and what it has to do itself. */
+/* One round of a thread: turns of its node, all that has come, and what it has to do itself. */
 static ipcz_status go_on(worker *of) {
+    bool came = true;
     ipcz_status status = ipcz_cell_acts(&of->cell, 1000, NULL);
     if (status == IPCZ_RACED) status = IPCZ_OK;
     ipcz_cell_retry(&of->cell);
-    if (!status) status = serve(of);
-    if (!status && of->awaits) return hear(of);
-    if (!status && of->answered < ROUNDS) status = ask(of);
+    while (!status && came) status = serve(of, &came);
+    for (int i = 0; i < AT_ONCE && !status; i++) {
+        request *it = &of->requests[i];
+        if (it->awaits) status = hear(of, it);
+        else if (of->asked < ROUNDS) status = ask(of, it);
+    }
     if (!status && of->churned < ROUNDS) status = churn(of);
     return status;
 }
@@ -106,7 +117,7 @@ static ipcz_status go_on(worker *of) {
 /* Whether all threads have done what they have to do; each says so once. */
 static bool are_done(worker *of, bool *told) {
     pthread_mutex_lock(&lock);
-    if (!*told && of->answered == ROUNDS && of->served == ROUNDS && of->churned == ROUNDS && has_travelled) {
+    if (!*told && of->answered == ROUNDS && of->served == ROUNDS && of->churned == ROUNDS && travelled == TRAVELLERS) {
         *told = true;
         threads_done++;
     }
@@ -147,12 +158,13 @@ static bool rest(void) {
 int main(void) {
     ipcz_cell cells[NODES];
     pthread_t threads[NODES];
-    ipcz_portal kept, sent;
+    ipcz_portal kept[TRAVELLERS], sent;
     int opened = 0;
     for (int i = 0; i < NODES; i++) cells[i] = (ipcz_cell)IPCZ_CELL_INIT;
     if (ipcz_cells_create_lasting(SLOTS, cells, NODES)) return 1;
     for (uint8_t i = 0; i < NODES; i++) workers[i] = (worker){ .cell = cells[i], .node = i };
-    if (ipcz_cell_open(&workers[0].cell, &kept, &sent) || pass_on(&workers[0], sent, 0)) return 1;
+    for (int i = 0; i < TRAVELLERS; i++)
+        if (ipcz_cell_open(&workers[0].cell, &kept[i], &sent) || pass_on(&workers[0], sent, 0)) return 1;
     for (int i = 0; i < NODES; i++)
         if (pthread_create(&threads[i], NULL, work, &workers[i])) return 1;
     for (int i = 0; i < NODES; i++) {
@@ -160,9 +172,11 @@ int main(void) {
         printf("node %d: answered %d, served %d, opened and closed %d\n", i, workers[i].answered, workers[i].served, workers[i].churned);
         if (workers[i].wrong) printf("refused %s\n", ipcz_status_name(workers[i].wrong));
     }
-    if (ipcz_cell_close(&workers[0].cell, kept) || !rest()) return 1;
-    while (!ipcz_cell_open(&workers[0].cell, &kept, &sent)) opened++;
-    printf("a portal made %d hops: %s\n", HOPS, has_travelled ? "yes" : "no");
+    for (int i = 0; i < TRAVELLERS; i++)
+        if (ipcz_cell_close(&workers[0].cell, kept[i])) return 1;
+    if (!rest()) return 1;
+    while (!ipcz_cell_open(&workers[0].cell, &kept[0], &sent)) opened++;
+    printf("portals that made %d hops: %d of %d\n", HOPS, travelled, TRAVELLERS);
     printf("slots that are to be had again: %d of %d\n", opened, SLOTS - FIRST_PAIRS);
     for (int i = 0; i < NODES; i++) ipcz_cell_destroy(&workers[i].cell);
     return 0;
