@@ -27,7 +27,7 @@ static void limits(void) {
     tell("version", !strcmp(ipcz_version(), IPCZ_VERSION));
     printf("\nlimits:");
     say(ipcz_loop_create(0, 0, &loop));
-    say(ipcz_loop_create(9, 0, &loop));
+    say(ipcz_loop_create(65, 0, &loop));
     say(ipcz_loop_create(8, 27, &loop));
     tell("no loop", loop == NULL);
     ipcz_loop_destroy(loop);
