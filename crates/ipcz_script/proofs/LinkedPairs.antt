@@ -20,7 +20,8 @@ use Rattle.ipcz_world.specs.Laws.{WordLaw}
 use Rattle.ipcz_world.specs.Steps.{StepFirst, first_step, open_on, open_with, unless}
 use Rattle.ipcz_world.specs.Settling.{AreVisits, next_node}
 use Rattle.ipcz_world.specs.Holding.{holder_of}
-use Rattle.ipcz_world.specs.Lawful.{IsReached, IsWithinLimits, Lawful}
+use Rattle.ipcz_world.specs.Lawful.{IsReached, Lawful}
+use Rattle.ipcz_script.specs.ScriptLimits.{HasScriptLimits}
 use Rattle.ipcz_world.proofs.Whole.{first_acts_are_possible, links_stay}
 use Rattle.ipcz_script.specs.declared.command.Command.{Command}
 use Rattle.ipcz_script.specs.declared.command.Command.TheVariants as commands
@@ -111,12 +112,12 @@ fewer-linked nodes words P Q w each at = record {
 }
 
 -- the world at the start
-pub start-linked : (nodes words : ℕ) (P : ℕ → Type 0) → IsWithinLimits nodes words →
+pub start-linked : (nodes words : ℕ) (P : ℕ → Type 0) → HasScriptLimits nodes words →
     ((pair : ℕ) → P pair → (first_routes nodes).is_link pair ≡ true) → Linked nodes words P (new_world nodes words)
 start-linked nodes words P limits each = record {
   books = no_books;
   routes = first_routes nodes;
-  reached = record { limits = limits; steps = []; replies = []; run = (refl, refl, refl) };
+  reached = record { limits = limits.world; steps = []; replies = []; run = (refl, refl, refl) };
   links = each;
 }
 

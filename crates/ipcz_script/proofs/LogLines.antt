@@ -21,7 +21,7 @@ use Rattle.ipcz_world.specs.declared.step.Reply.{Reply}
 use Rattle.ipcz_world.specs.declared.step.Reply.TheVariants as replies
 use Rattle.ipcz_world.specs.World.{World, has_unclaimed_word, new_world, node_at, set_claimed}
 use Rattle.ipcz_world.specs.Steps.{first_step, open_on, open_with, unless}
-use Rattle.ipcz_world.specs.Lawful.{IsWithinLimits}
+use Rattle.ipcz_script.specs.ScriptLimits.{HasScriptLimits}
 use Rattle.ipcz_world.proofs.facts.LinkTests.{opposite_end-twice, same_end-itself}
 use Rattle.ipcz_script.specs.declared.command.Command.{Command}
 use Rattle.ipcz_script.specs.declared.command.Command.TheVariants as commands
@@ -139,7 +139,7 @@ puts-plain s (c ∷ cs) (a ∷ log) t is e =
     (put-plain a.before a.command a.said a.after e (subst (λ x. Runs x a.command a.said a.after) (sym is.0)
     (subst (λ x. Runs s x a.said a.after) (sym is.1) is.2))) (puts-plain a.after cs log t is.3 e)
 
-gots-plain : (nodes words : ℕ) (cs : List Command) (log : List Answered) (t : Session) → IsWithinLimits nodes words →
+gots-plain : (nodes words : ℕ) (cs : List Command) (log : List Answered) (t : Session) → HasScriptLimits nodes words →
     AreAnswered (new_session nodes words) cs log t → (e : End) → ArePlain (gots_in log e)
 gots-plain nodes words cs log t limits is e =
     subst (λ d. ArePlain (gots_in log d)) (opposite_end-twice e)
@@ -303,7 +303,7 @@ log-feeds s (c ∷ cs) (a ∷ log) t is h are plain =
     (log-feeds a.after cs log t is.3 h.1 there (λ e. plain-back (got_said a.before.names a.command a.said e) (gots_in log e) (plain e)))
 
 -- the lines of a script's answers are the lines of its transcript
-pub script-lines : (nodes words : ℕ) (cs : List Command) (log : List Answered) (t : Session) → IsWithinLimits nodes words → HaveNames cs →
+pub script-lines : (nodes words : ℕ) (cs : List Command) (log : List Answered) (t : Session) → HasScriptLimits nodes words → HaveNames cs →
     AreAnswered (new_session nodes words) cs log t → AreLines (lines_in log) (rows_in log)
 script-lines nodes words cs log t limits h is = record {
   whole = sym (lines-text log);

@@ -13,7 +13,7 @@ use Rattle.ipcz_base.specs.Ends.{end_at, opposite_end}
 use Rattle.ipcz_world.specs.declared.step.Step.TheVariants as steps
 use Rattle.ipcz_world.specs.declared.step.Reply.{Reply}
 use Rattle.ipcz_world.specs.Steps.{first_step}
-use Rattle.ipcz_world.specs.Lawful.{IsWithinLimits}
+use Rattle.ipcz_script.specs.ScriptLimits.{HasScriptLimits}
 use Rattle.ipcz_script.specs.declared.command.Command.{Command}
 use Rattle.ipcz_script.specs.declared.command.Command.TheVariants as commands
 use Rattle.ipcz_script.specs.declared.said.Said.{Said}
@@ -156,7 +156,7 @@ log-paired before s (c ∷ cs) (a ∷ log) t is new named x y h =
         subst (λ z. Runs s (commands.Open as_open.node x y) z a.after) as_open.said (subst (λ z. Runs s z a.said a.after) same is.2) in
         paired-stays a.after t x y named.0.stays_after (open-paired s a.after as_open.node x y run free.2)
 
-pub script-peers : (nodes words : ℕ) (cs : List Command) (log : List Answered) (t : Session) → IsWithinLimits nodes words →
+pub script-peers : (nodes words : ℕ) (cs : List Command) (log : List Answered) (t : Session) → HasScriptLimits nodes words →
     HaveNew [] cs → AreAnswered (new_session nodes words) cs log t → (x y : List ℕ) → ArePeers nodes (sayings_in log) x y → AreEndsOf t x y
 script-peers nodes words cs log t limits new is x y peers = go peers
   where
@@ -166,7 +166,7 @@ script-peers nodes words cs log t limits new is x y peers = go peers
     of_first : (p : AreOfFirstPair nodes x y) (c : Bool) → nat_lt p.one p.other ≡ c → AreEndsOf t x y
     of_first p true e =
         let mid : p.one < p.other = grind (arith, e, nat_tests) in
-        let pair = first-paired nodes words p.one p.other limits.nodes mid p.other_within in
+        let pair = first-paired nodes words p.one p.other limits.few mid p.other_within in
         subst (λ z. AreEndsOf t z y) (sym p.first) (subst (AreEndsOf t (pair_name p.one p.other)) (sym p.second)
         (paired-ends t (pair_name p.one p.other) (pair_name p.other p.one)
         (paired-stays (new_session nodes words) t (pair_name p.one p.other) (pair_name p.other p.one) named.stays pair)))
@@ -176,7 +176,7 @@ script-peers nodes words cs log t limits new is x y peers = go peers
         apart true one = absurd (p.apart (grind (arith, one, nat_tests)))
         apart false two =
             let mid : p.other < p.one = grind (arith, e, two, nat_tests) in
-            let pair = first-paired nodes words p.other p.one limits.nodes mid p.one_within in
+            let pair = first-paired nodes words p.other p.one limits.few mid p.one_within in
             subst (λ z. AreEndsOf t z y) (sym p.first) (subst (AreEndsOf t (pair_name p.one p.other)) (sym p.second)
             (swapped-ends t (pair_name p.one p.other) (pair_name p.other p.one)
             (paired-stays (new_session nodes words) t (pair_name p.other p.one) (pair_name p.one p.other) named.stays pair)))

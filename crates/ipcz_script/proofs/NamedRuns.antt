@@ -14,7 +14,7 @@ use Rattle.ipcz_world.specs.World.{World, new_world}
 use Rattle.ipcz_world.specs.Routes.{first_routes}
 use Rattle.ipcz_world.specs.Steps.{first_step}
 use Rattle.ipcz_world.specs.Holding.{holder_of}
-use Rattle.ipcz_world.specs.Lawful.{IsWithinLimits}
+use Rattle.ipcz_script.specs.ScriptLimits.{HasScriptLimits}
 use Rattle.ipcz_node.specs.FirstPairs.{first_pairs}
 use Rattle.ipcz_script.specs.declared.command.Command.{Command}
 use Rattle.ipcz_script.specs.declared.command.Command.TheVariants as commands
@@ -41,18 +41,18 @@ pub record AreNames (nodes words : ℕ) (before : List Command) (s : Session) : 
   pub known : (name : List ℕ) (e : End) → IsBound s name e → (has_angle name ≡ true) ⊎ (is_taken before name ≡ true)
   pub linked : Linked nodes words (NamesPair s) s.world
 
-pub start-names : (nodes words : ℕ) → IsWithinLimits nodes words → AreNames nodes words [] (new_session nodes words)
+pub start-names : (nodes words : ℕ) → HasScriptLimits nodes words → AreNames nodes words [] (new_session nodes words)
 start-names nodes words limits = record {
-  told = (start-binds nodes words limits.nodes).told;
-  known = λ name e h. inl (start-good nodes words limits.nodes name e h).0;
+  told = (start-binds nodes words limits.few).told;
+  known = λ name e h. inl (start-good nodes words limits.few name e h).0;
   linked = subst (Linked nodes words (NamesPair (new_session nodes words)))
       (sym (bind_pairs-world (nameless (new_world nodes words)) 0 (first_pairs nodes)))
       (start-linked nodes words (NamesPair (new_session nodes words)) limits
       (λ pair h. subst (λ x. (first_routes nodes).is_link x ≡ true) h.3
-      (start-good nodes words limits.nodes h.0 h.1 h.2).1));
+      (start-good nodes words limits.few h.0 h.1 h.2).1));
 }
 
-pub start-told : (nodes words : ℕ) → IsWithinLimits nodes words → AreTold (new_session nodes words)
+pub start-told : (nodes words : ℕ) → HasScriptLimits nodes words → AreTold (new_session nodes words)
 start-told nodes words limits = (start-names nodes words limits).told
 
 -- ---- one command
@@ -264,7 +264,7 @@ log-named nodes words before s (c ∷ cs) (a ∷ log) t is new are =
       );
     }
 
-pub script-named : (nodes words : ℕ) (cs : List Command) (log : List Answered) (t : Session) → IsWithinLimits nodes words →
+pub script-named : (nodes words : ℕ) (cs : List Command) (log : List Answered) (t : Session) → HasScriptLimits nodes words →
     HaveNew [] cs → AreAnswered (new_session nodes words) cs log t → RunsNamed (new_session nodes words) t log
 script-named nodes words cs log t limits new is =
     log-named nodes words [] (new_session nodes words) cs log t is new (start-names nodes words limits)

@@ -11,7 +11,7 @@ use Rattle.ipcz_base.specs.declared.parcel.Parcel as parcels
 use Rattle.ipcz_base.specs.declared.refusal.Refusal.{Refusal}
 use Rattle.ipcz_base.specs.Ends.{opposite_end, same_end}
 use Rattle.ipcz_world.specs.declared.step.Reply.{Reply}
-use Rattle.ipcz_world.specs.Lawful.{IsWithinLimits}
+use Rattle.ipcz_script.specs.ScriptLimits.{HasScriptLimits}
 use Rattle.ipcz_world.proofs.facts.LinkTests.{same_end-itself, same_end-tells}
 use Rattle.ipcz_script.specs.declared.command.Command.{Command}
 use Rattle.ipcz_script.specs.declared.command.Command.TheVariants as commands
@@ -317,7 +317,7 @@ commands-same s (c ∷ cs) (a ∷ log) t is =
     let more = commands-same a.after cs log t is.3 in
     λ i. sym is.1 i ∷ more i
 
-module _ (nodes words : ℕ) (cs : List Command) (t : Session) (limits : IsWithinLimits nodes words) (told : AreTold t) where
+module _ (nodes words : ℕ) (cs : List Command) (t : Session) (limits : HasScriptLimits nodes words) (told : AreTold t) where
   pushed : (earlier : List Answered) (a : Answered) (rest : List Answered) →
       AreAnswered (new_session nodes words) cs (earlier ++ a ∷ rest) t →
       AreAnswered (new_session nodes words) cs ((earlier ++ a ∷ []) ++ rest) t

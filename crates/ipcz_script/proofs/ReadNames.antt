@@ -8,7 +8,7 @@ use Rattle.std.proofs.lemmas.Bool.{and_parts}
 use Rattle.std.proofs.lemmas.Bool.Decides.{nat_tests}
 use Rattle.serde_json.specs.Data.{Data}
 use Rattle.serde_json.specs.Find.{as_number, as_str, as_u64, get}
-use Rattle.ipcz_world.specs.Lawful.{IsWithinLimits}
+use Rattle.ipcz_script.specs.ScriptLimits.{HasScriptLimits}
 use Rattle.ipcz_script.specs.declared.command.Command.{Command}
 use Rattle.ipcz_script.specs.declared.command.Command.TheVariants as commands
 use Rattle.ipcz_script.specs.declared.script.Script.{Script}
@@ -207,9 +207,9 @@ module _ (P : Command → Type 0) (holds : Holds P) where
       go (Some c) k rest = rest c (all-append before (c ∷ []) h (k, tt))
 
   abbrev IsGood : Script → Type 0
-  IsGood script = IsWithinLimits script.nodes script.words × (script.words ≤ 4096) × AllByRecursion P script.commands
+  IsGood script = HasScriptLimits script.nodes script.words × (script.words ≤ 4096) × AllByRecursion P script.commands
 
-  commands-good : (nodes words : ℕ) (r : Result (List Command) ScriptFault) → IsWithinLimits nodes words → words ≤ 4096 →
+  commands-good : (nodes words : ℕ) (r : Result (List Command) ScriptFault) → HasScriptLimits nodes words → words ≤ 4096 →
       Reads (AllByRecursion P) r → Reads IsGood (with_commands nodes words r)
   commands-good nodes words (Ok cs) limits few h = (limits, few, h)
   commands-good nodes words (Err why) limits few h = tt
@@ -224,7 +224,7 @@ module _ (P : Command → Type 0) (holds : Holds P) where
       go None vs k = tt
       go (Some words) None k = tt
       go (Some words) (Some ds) k = commands-good nodes words (commands_from nodes [] ds)
-          (record { some_node = h.0; nodes = h.1; pairs = k.0; words = omega (arith, k.1) }) k.1 (all-read nodes [] ds h.1 tt)
+          (record { world = record { some_node = h.0; nodes = omega (arith, h.1); pairs = k.0; words = omega (arith, k.1) }; few = h.1 }) k.1 (all-read nodes [] ds h.1 tt)
 
   script-good : (d : Data) → Reads IsGood (script_of d)
   script-good d = go (has_three_members d)
@@ -235,7 +235,7 @@ module _ (P : Command → Type 0) (holds : Holds P) where
       go false = tt
 
   pub read-good : (input : List ℕ) (script : Script) → IsScript input (Ok script) →
-      IsWithinLimits script.nodes script.words × (script.words ≤ 4096) × AllByRecursion P script.commands
+      HasScriptLimits script.nodes script.words × (script.words ≤ 4096) × AllByRecursion P script.commands
   read-good input script (inl h) = let never : Ok script ≡ Err _ = h.1 in cc
   read-good input script (inr h) = go h.1 h.3
     where

@@ -13,7 +13,7 @@ use Rattle.ipcz_base.specs.Limits.{last_number}
 use Rattle.ipcz_world.specs.declared.step.Reply.{Reply}
 use Rattle.ipcz_world.specs.World.{World}
 use Rattle.ipcz_world.specs.Books.{is_closed, is_retired}
-use Rattle.ipcz_world.specs.Lawful.{IsWithinLimits}
+use Rattle.ipcz_script.specs.ScriptLimits.{HasScriptLimits}
 use Rattle.ipcz_script.specs.declared.command.Command.{Command}
 use Rattle.ipcz_script.specs.declared.command.Command.TheVariants as commands
 use Rattle.ipcz_script.specs.declared.said.Said.{Said}
@@ -223,7 +223,7 @@ get-bits nodes words s earlier at c answer t run count name k p same_command sam
     let most = kept-bits nodes words s.world (puts_in earlier) (gots_in earlier) at (opposite_end there.0) in
     omega (arith, number, within, most)
 
-rest-bits : (nodes words : ℕ) (cs : List Command) (earlier rest : List Answered) (t : Session) → IsWithinLimits nodes words →
+rest-bits : (nodes words : ℕ) (cs : List Command) (earlier rest : List Answered) (t : Session) → HasScriptLimits nodes words →
     AreAnswered (new_session nodes words) cs (earlier ++ rest) t → AllByRecursion CallHasBits (sayings_in rest)
 rest-bits nodes words cs earlier [] t limits is = tt
 rest-bits nodes words cs earlier (a ∷ rest) t limits is =
@@ -239,6 +239,6 @@ rest-bits nodes words cs earlier (a ∷ rest) t limits is =
     (subst (λ l. AreAnswered (new_session nodes words) cs l t) (sym same) is))
 
 -- the numbers of a transcript's opens, puts and gets have 64 bits
-pub script-bits : (nodes words : ℕ) (cs : List Command) (log : List Answered) (t : Session) → IsWithinLimits nodes words →
+pub script-bits : (nodes words : ℕ) (cs : List Command) (log : List Answered) (t : Session) → HasScriptLimits nodes words →
     AreAnswered (new_session nodes words) cs log t → AllByRecursion CallHasBits (sayings_in log)
 script-bits nodes words cs log t limits is = rest-bits nodes words cs [] log t limits is

@@ -13,7 +13,7 @@ use Rattle.ipcz_world.specs.declared.step.Reply.{Reply}
 use Rattle.ipcz_world.specs.World.{World, word_at, numbers_from}
 use Rattle.ipcz_world.specs.Books.{is_closed, is_retired}
 use Rattle.ipcz_world.specs.Holding.{shown_words}
-use Rattle.ipcz_world.specs.Lawful.{IsWithinLimits}
+use Rattle.ipcz_script.specs.ScriptLimits.{HasScriptLimits}
 use Rattle.ipcz_world.proofs.facts.LinkTests.{opposite_end-twice}
 use Rattle.ipcz_world.proofs.code.WordSources.{NameNodes, named-reached, named-small}
 use Rattle.ipcz_script.specs.declared.command.Command.{Command}
@@ -142,7 +142,7 @@ bits-append [] ys h k = k
 bits-append (x ∷ xs) ys h k = (h.0, bits-append xs ys h.1 k)
 
 -- the numbers in what is said of the answers behind some others
-rest-bits : (nodes words : ℕ) (cs : List Command) (earlier rest : List Answered) (t : Session) → IsWithinLimits nodes words →
+rest-bits : (nodes words : ℕ) (cs : List Command) (earlier rest : List Answered) (t : Session) → HasScriptLimits nodes words →
     AreAnswered (new_session nodes words) cs (earlier ++ rest) t → AllByRecursion (λ a. NodeHasBits a.command) rest →
     AllByRecursion NumbersHaveBits (sayings_in rest)
 rest-bits nodes words cs earlier [] t limits is h = tt

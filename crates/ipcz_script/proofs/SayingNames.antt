@@ -21,7 +21,7 @@ use Rattle.ipcz_world.specs.declared.step.Reply.{Reply}
 use Rattle.ipcz_world.specs.declared.step.Reply.TheVariants as replies
 use Rattle.ipcz_world.specs.World.{new_world}
 use Rattle.ipcz_world.specs.Steps.{first_step}
-use Rattle.ipcz_world.specs.Lawful.{IsWithinLimits}
+use Rattle.ipcz_script.specs.ScriptLimits.{HasScriptLimits}
 use Rattle.ipcz_script.specs.declared.command.Command.{Command}
 use Rattle.ipcz_script.specs.declared.command.Command.TheVariants as commands
 use Rattle.ipcz_script.specs.declared.said.Said.{Said}
@@ -120,9 +120,9 @@ first-names (suc (suc (suc (suc (suc (suc (suc zero))))))) h = refl
 first-names (suc (suc (suc (suc (suc (suc (suc (suc zero)))))))) h = refl
 first-names (suc (suc (suc (suc (suc (suc (suc (suc (suc n))))))))) h = absurd (omega (arith, h))
 
-start-titled : (nodes words : ℕ) → IsWithinLimits nodes words → AreTitled (new_session nodes words)
+start-titled : (nodes words : ℕ) → HasScriptLimits nodes words → AreTitled (new_session nodes words)
 start-titled nodes words limits =
-    (pairs-go (nameless (new_world nodes words)) 0 (first_pairs nodes) (first-names nodes limits.nodes)).bound
+    (pairs-go (nameless (new_world nodes words)) 0 (first_pairs nodes) (first-names nodes limits.few)).bound
     (λ name e h. let never : None ≡ Some e = sym (get-empty (slice_cmp nat_cmp) name) ∙ h in cc)
 
 -- ---- one command
@@ -243,7 +243,7 @@ log-titled s (c ∷ cs) (a ∷ log) t is h are =
           (more.puts e);
     }
 
-pub script-titled : (nodes words : ℕ) (cs : List Command) (log : List Answered) (t : Session) → IsWithinLimits nodes words →
+pub script-titled : (nodes words : ℕ) (cs : List Command) (log : List Answered) (t : Session) → HasScriptLimits nodes words →
     AreAnswered (new_session nodes words) cs log t → LogNames log → Titled (new_session nodes words) t log
 script-titled nodes words cs log t limits is h = log-titled (new_session nodes words) cs log t is h (start-titled nodes words limits)
 
@@ -319,7 +319,7 @@ back-names [] ys h = h
 back-names (x ∷ xs) ys h = back-names xs ys h.1
 
 -- the names in what is said of the answers behind some others
-rest-names : (nodes words : ℕ) (cs : List Command) (earlier rest : List Answered) (t : Session) → IsWithinLimits nodes words →
+rest-names : (nodes words : ℕ) (cs : List Command) (earlier rest : List Answered) (t : Session) → HasScriptLimits nodes words →
     AreAnswered (new_session nodes words) cs (earlier ++ rest) t → LogNames (earlier ++ rest) →
     AllByRecursion NamesAreNames (sayings_in rest)
 rest-names nodes words cs earlier [] t limits is h = tt

@@ -18,7 +18,8 @@ use Rattle.ipcz_world.specs.Routes.{Routes, first_routes, routes_after}
 use Rattle.ipcz_world.specs.Steps.{StepAny, StepFirst, first_step}
 use Rattle.ipcz_world.specs.Settling.{AreVisits, next_node}
 use Rattle.ipcz_world.specs.Holding.{holder_of}
-use Rattle.ipcz_world.specs.Lawful.{Headline, IsReached, IsWithinLimits, Lawful, RunAny}
+use Rattle.ipcz_world.specs.Lawful.{Headline, IsReached, Lawful, RunAny}
+use Rattle.ipcz_script.specs.ScriptLimits.{HasScriptLimits}
 use Rattle.ipcz_world.proofs.Whole.{world_starts_lawful, each_step_keeps_lawful, first_acts_are_possible, the_headline_holds}
 use Rattle.ipcz_world.proofs.Whole.{each_quiet_delivers, ends_stand_once, held_have_terminals, held_are_open, lawful_worlds_stray_nothing}
 use Rattle.ipcz_world.proofs.Whole.{one_node_is_direct, replies_plainly, terminals_keep_books}
@@ -273,19 +274,19 @@ kept-commands nodes words s (c ∷ cs) (a ∷ log) t puts gots at is =
     (λ e. append_assoc (gots e) (got_said a.before.names a.command a.said e) (gots_in log e))
 
 -- the world at the start is reached by no step, and nothing was put
-pub kept-start : (nodes words : ℕ) → IsWithinLimits nodes words → Kept nodes words (new_session nodes words).world none none
+pub kept-start : (nodes words : ℕ) → HasScriptLimits nodes words → Kept nodes words (new_session nodes words).world none none
 kept-start nodes words limits =
     kept-in nodes words (new_world nodes words) (new_session nodes words).world none none
     (bind_pairs-world (nameless (new_world nodes words)) 0 (first_pairs nodes))
     (record {
       books = no_books;
       routes = first_routes nodes;
-      reached = record { limits = limits; steps = []; replies = []; run = (refl, refl, refl) };
+      reached = record { limits = limits.world; steps = []; replies = []; run = (refl, refl, refl) };
       put = λ e. refl;
       got = λ e. refl;
     })
 
-pub kept-script : (nodes words : ℕ) (cs : List Command) (log : List Answered) (t : Session) → IsWithinLimits nodes words →
+pub kept-script : (nodes words : ℕ) (cs : List Command) (log : List Answered) (t : Session) → HasScriptLimits nodes words →
     AreAnswered (new_session nodes words) cs log t → Kept nodes words t.world (puts_in log) (gots_in log)
 kept-script nodes words cs log t limits is =
     kept-commands nodes words (new_session nodes words) cs log t none none (kept-start nodes words limits) is

@@ -25,7 +25,7 @@ use Rattle.ipcz_world.specs.declared.step.Reply.{Reply}
 use Rattle.ipcz_world.specs.declared.step.Reply.TheVariants as replies
 use Rattle.ipcz_world.specs.World.{World}
 use Rattle.ipcz_world.specs.WorldLaws.{OnlyFlushesStray}
-use Rattle.ipcz_world.specs.Lawful.{IsWithinLimits}
+use Rattle.ipcz_script.specs.ScriptLimits.{HasScriptLimits}
 use Rattle.ipcz_world.proofs.Whole.{first_acts_are_possible, only_flushes_stray}
 use Rattle.ipcz_script.specs.declared.script.Script.{Script}
 use Rattle.ipcz_script.specs.declared.outcome.Outcome.TheVariants as outcomes
@@ -320,7 +320,7 @@ strays : (line : List ℕ) → EndsWith line (codes " stray") → stray_end line
 unfolding stray_end
 strays line h = ap stray_end (sym h.whole) ∙ tell h.front 32 115 116 (114 ∷ 97 ∷ 121 ∷ [])
 
-transcript-apart : (script : Script) (unsettled : Bool) (lines : List (List ℕ)) → IsWithinLimits script.nodes script.words →
+transcript-apart : (script : Script) (unsettled : Bool) (lines : List (List ℕ)) → HasScriptLimits script.nodes script.words →
     AreRows script unsettled lines → (line : List ℕ) → HasLine lines line → EndsWith line (codes " stray") → ⊥
 transcript-apart script unsettled lines limits rows line h ends =
     let still = log-apart script.nodes script.words (new_session script.nodes script.words) script.commands rows.log rows.after _ _

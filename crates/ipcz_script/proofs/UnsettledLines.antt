@@ -5,7 +5,7 @@ use Rattle.ipcz_world.specs.declared.step.Reply.{Reply}
 use Rattle.ipcz_world.specs.declared.step.Reply.TheVariants as replies
 use Rattle.ipcz_world.specs.declared.step.Step.TheVariants as steps
 use Rattle.ipcz_world.specs.Steps.{first_step}
-use Rattle.ipcz_world.specs.Lawful.{IsWithinLimits}
+use Rattle.ipcz_script.specs.ScriptLimits.{HasScriptLimits}
 use Rattle.ipcz_script.specs.declared.script.Script.{Script}
 use Rattle.ipcz_script.specs.declared.outcome.Outcome.TheVariants as outcomes
 use Rattle.ipcz_script.specs.declared.command.Command.{Command}
@@ -161,7 +161,7 @@ pub record AreRows (script : Script) (unsettled : Bool) (lines : List (List ℕ)
   pub rows : lines ≡ rows_in log
 
 pub transcript-rows : (script : Script) (text : List ℕ) (unsettled : Bool) (lines : List (List ℕ)) →
-    IsWithinLimits script.nodes script.words → HaveNames script.commands → IsTranscript script text unsettled → AreLines text lines →
+    HasScriptLimits script.nodes script.words → HaveNames script.commands → IsTranscript script text unsettled → AreLines text lines →
     AreRows script unsettled lines
 transcript-rows script text unsettled lines limits plain is are = record {
   after = is.0;
@@ -172,7 +172,7 @@ transcript-rows script text unsettled lines limits plain is are = record {
       (script-lines script.nodes script.words script.commands is.1.0 is.0 limits plain is.1.1));
 }
 
-transcript-line : (script : Script) (text : List ℕ) (unsettled : Bool) (lines : List (List ℕ)) → IsWithinLimits script.nodes script.words →
+transcript-line : (script : Script) (text : List ℕ) (unsettled : Bool) (lines : List (List ℕ)) → HasScriptLimits script.nodes script.words →
     HaveNames script.commands → IsTranscript script text unsettled → AreLines text lines → HasLine lines U ↔ (unsettled ≡ true)
 transcript-line script text unsettled lines limits plain is are =
     let rows = transcript-rows script text unsettled lines limits plain is are in

@@ -5,7 +5,7 @@ use Rattle.std.specs.FinMap.{get}
 use Rattle.ipcz_base.specs.declared.end.End.{End}
 use Rattle.ipcz_base.specs.declared.parcel.Parcel as parcels
 use Rattle.ipcz_base.specs.Ends.{opposite_end}
-use Rattle.ipcz_world.specs.Lawful.{IsWithinLimits}
+use Rattle.ipcz_script.specs.ScriptLimits.{HasScriptLimits}
 use Rattle.ipcz_script.specs.declared.command.Command.{Command}
 use Rattle.ipcz_script.specs.declared.command.Command.TheVariants as commands
 use Rattle.ipcz_script.specs.declared.said.Said.{Said}
@@ -38,7 +38,7 @@ AreCounted earlier names command answer lines = Unit {0}
 abbrev pub LinesAreCounted : Type 0
 LinesAreCounted =
     (nodes words : ℕ) (cs : List Command) (earlier : List Answered) (a : Answered) (later : List Answered) (t : Session)
-    (lines : List (List ℕ)) → IsWithinLimits nodes words → HaveNames cs → AreAnswered (new_session nodes words) cs (earlier ++ a ∷ later)
+    (lines : List (List ℕ)) → HasScriptLimits nodes words → HaveNames cs → AreAnswered (new_session nodes words) cs (earlier ++ a ∷ later)
     t →
     AreLines (lines_in (earlier ++ a ∷ later)) lines →
     (before own behind : List (List ℕ)) × (lines ≡ before ++ (own ++ behind)) × AreLines (lines_in earlier) before ×

@@ -14,6 +14,7 @@ pub mod Reading
 pub mod Sayings
 pub mod ScriptBooks
 pub mod ScriptLaws
+pub mod ScriptLimits
 pub mod ScriptNames
 pub mod Scripts
 pub mod SendLines

@@ -4,7 +4,7 @@ use Rattle.std.specs.List.{AllByRecursion}
 use Rattle.std.specs.Fmt.{decimal}
 use Rattle.ipcz_base.specs.declared.refusal.Refusal.{Refusal}
 use Rattle.ipcz_base.specs.Refusals.{name_of}
-use Rattle.ipcz_world.specs.Lawful.{IsWithinLimits}
+use Rattle.ipcz_script.specs.ScriptLimits.{HasScriptLimits}
 use Rattle.ipcz_script.specs.declared.command.Command.{Command}
 use Rattle.ipcz_script.specs.declared.command.Command.TheVariants as commands
 use Rattle.ipcz_script.specs.declared.script.Script.{Script}
@@ -137,7 +137,7 @@ sayings_in (a ∷ rest) = sayings_of a.after.titles a.command a.said ++ sayings_
 -- law: the lines that answers to a script make say just these answers
 abbrev pub LinesSayAnswers : Type 0
 LinesSayAnswers =
-    (nodes words : ℕ) (cs : List Command) (log : List Answered) (t : Session) → IsWithinLimits nodes words → HaveNames cs →
+    (nodes words : ℕ) (cs : List Command) (log : List Answered) (t : Session) → HasScriptLimits nodes words → HaveNames cs →
     AreAnswered (new_session nodes words) cs log t → Says (lines_in log) (sayings_in log)
 
 -- the node of a turn command has a number of 64 bits
@@ -152,5 +152,5 @@ TurnsHaveBits = (input : List ℕ) (script : Script) → IsScript input (Ok scri
 -- law: so each number that the lines say has 64 bits
 abbrev pub SaidNumbersHaveBits : Type 0
 SaidNumbersHaveBits =
-    (nodes words : ℕ) (cs : List Command) (log : List Answered) (t : Session) → IsWithinLimits nodes words → AllByRecursion NodeHasBits cs →
+    (nodes words : ℕ) (cs : List Command) (log : List Answered) (t : Session) → HasScriptLimits nodes words → AllByRecursion NodeHasBits cs →
     AreAnswered (new_session nodes words) cs log t → AllByRecursion NumbersHaveBits (sayings_in log)

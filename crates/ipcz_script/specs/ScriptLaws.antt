@@ -18,7 +18,8 @@ use Rattle.ipcz_world.specs.Plain.{Plain}
 use Rattle.ipcz_world.specs.Routes.{Routes, is_opened}
 use Rattle.ipcz_world.specs.Laws.{StrayLaw, EndLaw}
 use Rattle.ipcz_world.specs.Owed.{IsDirectPair}
-use Rattle.ipcz_world.specs.Lawful.{Headline, IsReached, IsWithinLimits}
+use Rattle.ipcz_world.specs.Lawful.{Headline, IsReached}
+use Rattle.ipcz_script.specs.ScriptLimits.{HasScriptLimits}
 use Rattle.ipcz_script.specs.declared.command.Command.{Command}
 use Rattle.ipcz_script.specs.Sessions.{Session, new_session}
 use Rattle.ipcz_script.specs.Transcript.{Answered, AreAnswered}
@@ -28,13 +29,13 @@ use Rattle.ipcz_script.specs.ScriptBooks.{AreSaid, IsCount, puts_in, gots_in}
 -- parcels that the answers say, and some routes
 abbrev pub AfterScripts : (ℕ → ℕ → World → Books → Routes → Type 0) → Type 0
 AfterScripts Holds =
-    (nodes words : ℕ) (cs : List Command) (log : List Answered) (t : Session) → IsWithinLimits nodes words →
+    (nodes words : ℕ) (cs : List Command) (log : List Answered) (t : Session) → HasScriptLimits nodes words →
     AreAnswered (new_session nodes words) cs log t → (b : Books) × (g : Routes) × AreSaid b log × Holds nodes words t.world b g
 
 -- law: a portal has got a prefix of what its peer was answered to have put, whatever nodes they were on
 abbrev pub GetsFollowPuts : Type 0
 GetsFollowPuts =
-    (nodes words : ℕ) (cs : List Command) (log : List Answered) (t : Session) → IsWithinLimits nodes words →
+    (nodes words : ℕ) (cs : List Command) (log : List Answered) (t : Session) → HasScriptLimits nodes words →
     AreAnswered (new_session nodes words) cs log t →
     (e : End) → take (length (gots_in log (opposite_end e))) (puts_in log e) ≡ gots_in log (opposite_end e)
 
@@ -42,7 +43,7 @@ GetsFollowPuts =
 abbrev pub NumbersCountUp : Type 0
 NumbersCountUp =
     (nodes words : ℕ) (cs : List Command) (earlier : List Answered) (a : Answered) (later : List Answered) (t : Session) →
-    IsWithinLimits nodes words → AreAnswered (new_session nodes words) cs (earlier ++ a ∷ later) t →
+    HasScriptLimits nodes words → AreAnswered (new_session nodes words) cs (earlier ++ a ∷ later) t →
     IsCount earlier a.before.names a.command a.said
 
 -- law: some list of steps leads to the world after a script

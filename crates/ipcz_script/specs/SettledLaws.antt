@@ -9,7 +9,8 @@ use Rattle.ipcz_world.specs.Holding.{holder_of}
 use Rattle.ipcz_world.specs.Books.{Books, is_closed}
 use Rattle.ipcz_world.specs.Routes.{Routes}
 use Rattle.ipcz_world.specs.Owed.{IsWet}
-use Rattle.ipcz_world.specs.Lawful.{IsReached, IsWithinLimits}
+use Rattle.ipcz_world.specs.Lawful.{IsReached}
+use Rattle.ipcz_script.specs.ScriptLimits.{HasScriptLimits}
 use Rattle.ipcz_script.specs.declared.command.Command.{Command}
 use Rattle.ipcz_script.specs.declared.command.Command.TheVariants as commands
 use Rattle.ipcz_script.specs.declared.said.Said.{Said}
@@ -53,7 +54,7 @@ GetsGiveNext s b log =
 abbrev pub SettledGetsGiveAll : Type 0
 SettledGetsGiveAll =
     (nodes words : ℕ) (cs : List Command) (earlier : List Answered) (settle : Answered) (gets : List Answered) (s : Session) →
-    IsWithinLimits nodes words → AreAnswered (new_session nodes words) cs (earlier ++ settle ∷ gets) s →
+    HasScriptLimits nodes words → AreAnswered (new_session nodes words) cs (earlier ++ settle ∷ gets) s →
     HasSettled settle → AreGets gets → IsWet s.world →
     (b : Books) × (g : Routes) × AreSaid b (earlier ++ settle ∷ gets) × IsReached nodes words s.world b g ×
     GetsGiveNext s b (earlier ++ settle ∷ gets)

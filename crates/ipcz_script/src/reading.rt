@@ -9,7 +9,7 @@ ghost use Rattle.ipcz_node.specs.FirstPairs.{first_pair_count};
 ghost use Rattle.ipcz_script.specs.Faults.{Gives};
 ghost use Rattle.ipcz_script.specs.Reading.{max_bytes, IsScript, IsAnswer};
 ghost use Rattle.ipcz_script.specs.Scripts.{commands_from, nodes_in, words_in, values_in, has_three_members, script_of};
-ghost use Rattle.ipcz_world.specs.Lawful.{IsWithinLimits};
+ghost use Rattle.ipcz_script.specs.ScriptLimits.{HasScriptLimits};
 ghost use Rattle.ipcz_script.specs.Shapes.{command_of};
 
 use crate::command::Command;
@@ -101,7 +101,7 @@ fn script_of(alloc: Global, value: &Value) -> Result<Script, ScriptFault>
     requires few { (values : List Data) →
         values_in (view value.now) ≡ Some values → length values ≤ max_bytes }
     ensures gives { Gives result (script_of (view value.now)) }
-    ensures limits { IfOk result (λ script. IsWithinLimits script.nodes script.words) }
+    ensures limits { IfOk result (λ script. HasScriptLimits script.nodes script.words) }
     ensures words { IfOk result (λ script. script.words ≤ 4096) }
 {
     if !has_three_members(value) {
@@ -131,7 +131,7 @@ fn script_of(alloc: Global, value: &Value) -> Result<Script, ScriptFault>
 /// first value that is no command. `OutOfMemory` says nothing of the bytes.
 pub fn read_script(alloc: Global, bytes: &[u8]) -> Result<Script, ScriptFault>
     ensures answer { IsAnswer bytes.now result }
-    ensures limits { IfOk result (λ script. IsWithinLimits script.nodes script.words) }
+    ensures limits { IfOk result (λ script. HasScriptLimits script.nodes script.words) }
     ensures words { IfOk result (λ script. script.words ≤ 4096) }
     ensures too_long { max_bytes < length bytes.now → result ≡ Err fault.TooLong }
 {

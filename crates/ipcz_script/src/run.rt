@@ -1,5 +1,5 @@
 ghost use Rattle.std.specs.Prelude.{◌≡◌, ◌↔◌, ◌++◌, false, IsTrue, IsErrOf, IfOk, OnOk};
-ghost use Rattle.ipcz_world.specs.Lawful.{IsWithinLimits};
+ghost use Rattle.ipcz_script.specs.ScriptLimits.{HasScriptLimits};
 ghost use Rattle.ipcz_script.specs.Lines.{lines_of, refused_line};
 ghost use Rattle.ipcz_script.specs.Transcript.{is_unsettled, IsOutput, IsRunOutput, IsTranscript, ReadsAndWrites, Writes};
 
@@ -59,7 +59,7 @@ fn run_commands(
 
 // A transcript of a script; and whether some settle came to its limit.
 fn transcript(alloc: Global, script: &Script) -> Result<(bool, Vec<u8>), AllocError>
-    requires { IsWithinLimits script.now.nodes script.now.words }
+    requires { HasScriptLimits script.now.nodes script.now.words }
     ensures { IfOk result (λ written. IsTranscript script.now written.1.items written.0) }
 {
     let mut session = Session::new(alloc, script.nodes, script.words)?;
@@ -67,7 +67,7 @@ fn transcript(alloc: Global, script: &Script) -> Result<(bool, Vec<u8>), AllocEr
 }
 
 fn run_output(alloc: Global, script: &Script) -> Result<(Outcome, Vec<u8>), AllocError>
-    requires { IsWithinLimits script.now.nodes script.now.words }
+    requires { HasScriptLimits script.now.nodes script.now.words }
     ensures { IfOk result (λ written. IsRunOutput script.now written.0 written.1.items) }
 {
     let (unsettled, text) = transcript(alloc, script)?;

@@ -1,5 +1,5 @@
 ghost use Rattle.std.specs.Prelude.{◌≡◌, false, OnOk, IfOk};
-ghost use Rattle.ipcz_world.specs.Lawful.{IsWithinLimits};
+ghost use Rattle.ipcz_script.specs.ScriptLimits.{HasScriptLimits};
 ghost use Rattle.ipcz_world.specs.Steps.{first_step};
 ghost use Rattle.ipcz_script.specs.Sessions.{AreTurns, Is, Runs, SettlesTo, TurnsTo, bind, answer_to};
 ghost use Rattle.ipcz_script.specs.Sessions.{is_idle_reply, is_turn, is_want, new_session, replied_close, replied_get, replied_open};
@@ -41,7 +41,7 @@ impl Model for Session {
 impl Session {
     /// The opening world of so many nodes and link words, in which the names of the first pairs are bound.
     pub fn new(alloc: Global, nodes: u8, words: u32) -> Result<Self, AllocError>
-        requires within { IsWithinLimits nodes words }
+        requires within { HasScriptLimits nodes words }
         ensures session { IfOk result (λ session. session ≡ new_session nodes words) }
     {
         let Ok(world) = World::new(alloc, nodes, words) else {

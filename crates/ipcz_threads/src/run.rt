@@ -1,6 +1,6 @@
 ghost use Rattle.std.specs.Prelude.{◌≡◌, ◌≤◌, ◌↔◌, false, length, IsTrue, IsErrOf, IfOk, vec_len};
 ghost use Rattle.ipcz_cell.specs.Making.{AreFirst};
-ghost use Rattle.ipcz_world.specs.Lawful.{IsWithinLimits};
+ghost use Rattle.ipcz_script.specs.ScriptLimits.{HasScriptLimits};
 ghost use Rattle.ipcz_threads.specs.Rounds.{OpenGates};
 ghost use Rattle.ipcz_threads.specs.Transcripts.{IsFirst, IsOutput, IsRunOutput, IsTranscript, ReadsAndWrites, Writes};
 
@@ -70,7 +70,7 @@ fn transcript<R: Threads + Sync, F: FabricName + Send + Sync, G: Gate + Send>(
     blank: Blank,
     gates: &mut [G],
 ) -> Result<(bool, Vec<u8>), AllocError>
-    requires within { IsWithinLimits script.now.nodes script.now.words }
+    requires within { HasScriptLimits script.now.nodes script.now.words }
     requires table { blank ≡ F.table }
     requires size { (F.table.count ≡ script.now.nodes) × (F.table.size ≡ script.now.words) × (F.table.reuses ≡ false) }
     requires gates { length gates.old ≡ 8 }
@@ -89,7 +89,7 @@ fn run_output<R: Threads + Sync, G: Gate + Send>(
     script: &Script,
     gates: &mut [G],
 ) -> Result<(Outcome, Vec<u8>), AllocError>
-    requires within { IsWithinLimits script.now.nodes script.now.words }
+    requires within { HasScriptLimits script.now.nodes script.now.words }
     requires gates { length gates.old ≡ 8 }
     ensures { IfOk result (λ written. IsRunOutput G.answers script.now written.0 written.1.items) }
 {
