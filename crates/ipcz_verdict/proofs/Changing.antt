@@ -1,5 +1,5 @@
 -- A change of one of the books.
-use Rattle.std.specs.Prelude.{◌≡◌, ◌⊎◌, ◌≤◌, ◌<◌, ◌+◌, ◌*◌, ℕ, zero, suc, Bool, true, false, cond, ◌||◌, Option, List, [], ◌∷◌, ◌++◌, length, slice_get, refl}
+use Rattle.std.specs.Prelude.{◌≡◌, ◌⊎◌, ◌≤◌, ◌<◌, ◌+◌, ◌*◌, ℕ, zero, suc, Bool, true, false, cond, ◌||◌, Option, None, List, [], ◌∷◌, ◌++◌, length, slice_get, refl}
 use Rattle.std.specs.Prelude.{slice_index_or, slice_set}
 use Rattle.std.proofs.Common.{arith, ap, ap₂, ◌∙◌, sym, subst, inl, inr}
 use Rattle.std.specs.Option.{unwrap_or}
@@ -8,7 +8,7 @@ use Rattle.ipcz_base.specs.declared.side.Side.TheVariants.{A, B}
 use Rattle.ipcz_base.specs.declared.end.End.{End}
 use Rattle.ipcz_base.specs.Ends.{same_end, has_end, end_at}
 use Rattle.ipcz_verdict.specs.declared.portal.Portal.{Portal}
-use Rattle.ipcz_verdict.specs.Desks.{absent, change, index, portal_at, side_index, ends_in, holding, holding_each}
+use Rattle.ipcz_verdict.specs.Desks.{IsIndex, absent, change, index, portal_at, side_index, ends_in, holding, holding_each}
 use Rattle.ipcz_verdict.proofs.Facts.{end_is, end_itself}
 
 -- a write at an index is a change
@@ -25,8 +25,8 @@ change_out (p ∷ s) (suc i) f h = ap (λ t. p ∷ t) (change_out s i f (omega (
 pub write_is : (s : List Portal) (i j : ℕ) (f : Portal → Portal) (d x : Portal) → i < length s → x ≡ f (slice_index_or s i d) → i ≡ j → slice_set s i x ≡ change s j f
 write_is s i j f d x h e q = ap (slice_set s i) e ∙ change_set s i f d h ∙ ap (λ n. change s n f) q
 
-pub no_write : (s : List Portal) (i j : ℕ) (f : Portal → Portal) → length s ≤ i → i ≡ j → s ≡ change s j f
-no_write s i j f h q = sym (change_out s i f h) ∙ ap (λ n. change s n f) q
+pub no_write : (s : List Portal) (i : ℕ) (f : Portal → Portal) → length s ≤ i → s ≡ change s i f
+no_write s i f h = sym (change_out s i f h)
 
 pub change_length : (s : List Portal) (i : ℕ) (f : Portal → Portal) → length (change s i f) ≡ length s
 change_length [] i f = refl
@@ -116,8 +116,8 @@ absent_beyond [] i h = refl
 absent_beyond (p ∷ s) zero h = absurd (omega (arith, h))
 absent_beyond (p ∷ s) (suc i) h = absent_beyond s i (omega (arith, h))
 
-pub nothing_beyond : (s : List Portal) (i : ℕ) (e : End) (es : List End) → length s ≤ i → i ≡ index e → es ≡ es ++ ends_in (portal_at s e).waiting
-nothing_beyond s i e es h q = sym (ap (λ (p : Portal). es ++ ends_in p.waiting) (sym (at_index s i e q) ∙ absent_beyond s i h) ∙ none es)
+pub nothing_beyond : (s : List Portal) (e : End) (es : List End) → length s ≤ index e → es ≡ es ++ ends_in (portal_at s e).waiting
+nothing_beyond s e es h = sym (ap (λ (p : Portal). es ++ ends_in p.waiting) (absent_beyond s (index e) h) ∙ none es)
   where
     none : (es : List End) → es ++ [] ≡ es
     none [] = refl
@@ -128,3 +128,23 @@ seen_same s e d f h same = changed_at s e d f h ∙ ap (λ c. cond c (f (portal_
 
 pub seen_apart : (s : List Portal) (e d : End) (f : Portal → Portal) → index e < length s → same_end d e ≡ false → portal_at (change s (index e) f) d ≡ portal_at s d
 seen_apart s e d f h apart = changed_at s e d f h ∙ ap (λ c. cond c (f (portal_at s e)) (portal_at s d)) apart
+
+-- a look at a place that `IsIndex` is a look at the portal's own
+pub seen_at : (s : List Portal) (i : ℕ) (e : End) → IsIndex (length s) e i → slice_get s i ≡ slice_get s (index e)
+seen_at s i e h = elim (in_or_out i (length s)) [
+  | inl inside ↦ ap (slice_get s) (h.0 inside)
+  | inr out ↦ none s i out ∙ sym (none s (index e) (h.1 out))
+]
+  where
+    in_or_out : (i n : ℕ) → (i < n) ⊎ (n ≤ i)
+    in_or_out i zero = inr (omega (arith))
+    in_or_out zero (suc n) = inl (omega (arith))
+    in_or_out (suc i) (suc n) = elim (in_or_out i n) [
+      | inl h ↦ inl (omega (arith, h))
+      | inr h ↦ inr (omega (arith, h))
+    ]
+
+    none : (s : List Portal) (i : ℕ) → length s ≤ i → slice_get s i ≡ None
+    none [] i h = refl
+    none (p ∷ s) zero h = absurd (omega (arith, h))
+    none (p ∷ s) (suc i) h = none s i (omega (arith, h))

@@ -1,5 +1,5 @@
 -- The judge's own books, and what they have to do with the machine's accounts.
-use Rattle.std.specs.Prelude.{◌≡◌, ◌⊎◌, ◌<◌, ◌+◌, ◌*◌, ℕ, zero, suc, Bool, true, false, not, ◌&&◌, ◌||◌, nat_eq, nat_lt, nat_le, Option, Some, None, is_none, List, [], ◌∷◌, ◌++◌}
+use Rattle.std.specs.Prelude.{◌≡◌, ◌⊎◌, ◌≤◌, ◌<◌, ◌+◌, ◌*◌, ℕ, zero, suc, Bool, true, false, not, ◌&&◌, ◌||◌, nat_eq, nat_lt, nat_le, Option, Some, None, is_none, List, [], ◌∷◌, ◌++◌}
 use Rattle.std.specs.Prelude.{length, drop, slice_get, bytes_eq, MatchBool, if◌then◌else◌}
 use Rattle.std.specs.Option.{unwrap_or}
 use Rattle.std.specs.FinMap.{get}
@@ -36,6 +36,10 @@ side_index B = 1
 
 abbrev pub index : End → ℕ
 index e = 2 * e.pair + side_index e.side
+
+-- among so many books that of the portal stands here, or it is not among them
+abbrev pub IsIndex : ℕ → End → ℕ → Type 0
+IsIndex count e i = (i < count → i ≡ index e) × (count ≤ i → count ≤ index e)
 
 -- a portal of a new pair
 abbrev pub held_by : ℕ → Portal

@@ -5,7 +5,7 @@ ghost use Rattle.std.specs.Option.{option_copied};
 ghost use Rattle.ipcz_base.specs.Ends.{has_end};
 ghost use Rattle.ipcz_base.specs.Limits.{is_printable, most_bytes, most_ends, takes_bytes};
 ghost use Rattle.ipcz_promise.specs.Promise.{first_refusal, hold_each, holds};
-ghost use Rattle.ipcz_verdict.specs.Desks.{account_of, closing, ClosesDropped, counting_put, ends_in, holding, holding_each, index, portal_at, pushing, taking};
+ghost use Rattle.ipcz_verdict.specs.Desks.{account_of, closing, ClosesDropped, counting_put, ends_in, holding, holding_each, index, IsIndex, portal_at, pushing, taking};
 
 use crate::portal::Portal;
 use ipcz_base::{End, Parcel, Profile, Refusal, Side};
@@ -13,10 +13,14 @@ use std::alloc::AllocError;
 
 // ---- what the books say
 
-// Where the book of a portal stands.
-fn index(end: End) -> usize
-    ensures { result ≡ index end }
+// Where the book of a portal stands among so many; beyond them if there is none.
+fn index(count: usize, end: End) -> usize
+    ensures { IsIndex count end result }
 {
+    let half = count / 2 + count % 2;
+    if half as u64 <= end.pair {
+        return count;
+    }
     let pair = end.pair as usize;
     match end.side {
         Side::A => 2 * pair,
@@ -24,11 +28,18 @@ fn index(end: End) -> usize
     }
 }
 
+// The book of a portal, if there is one.
+fn book(portals: &[Portal], end: End) -> Option<&Portal>
+    ensures { option_copied result ≡ slice_get portals.now (index end) }
+{
+    portals.get(index(portals.len(), end))
+}
+
 /// Whether callers of the node hold the portal.
 pub(crate) fn holds(portals: &[Portal], node: u8, end: End) -> bool
     ensures { result ≡ holds (account_of portals.now) node end }
 {
-    match portals.get(index(end)) {
+    match book(portals, end) {
         Some(portal) => portal.holder == Some(node),
         None => false,
     }
@@ -38,7 +49,7 @@ pub(crate) fn holds(portals: &[Portal], node: u8, end: End) -> bool
 pub(crate) fn is_closed(portals: &[Portal], end: End) -> bool
     ensures { result ≡ (portal_at portals.now end).closed }
 {
-    match portals.get(index(end)) {
+    match book(portals, end) {
         Some(portal) => portal.closed,
         None => false,
     }
@@ -48,7 +59,7 @@ pub(crate) fn is_closed(portals: &[Portal], end: End) -> bool
 pub(crate) fn put_count(portals: &[Portal], end: End) -> u64
     ensures { result ≡ (portal_at portals.now end).put }
 {
-    match portals.get(index(end)) {
+    match book(portals, end) {
         Some(portal) => portal.put,
         None => 0,
     }
@@ -58,7 +69,7 @@ pub(crate) fn put_count(portals: &[Portal], end: End) -> u64
 pub(crate) fn got_count(portals: &[Portal], end: End) -> u64
     ensures { result ≡ (portal_at portals.now end).got }
 {
-    match portals.get(index(end)) {
+    match book(portals, end) {
         Some(portal) => portal.got,
         None => 0,
     }
@@ -68,7 +79,7 @@ pub(crate) fn got_count(portals: &[Portal], end: End) -> u64
 pub(crate) fn first_waiting(portals: &[Portal], end: End) -> Option<&Parcel>
     ensures { option_copied result ≡ slice_get (portal_at portals.now end).waiting 0 }
 {
-    match portals.get(index(end)) {
+    match book(portals, end) {
         Some(portal) => portal.waiting.first(),
         None => None,
     }
@@ -162,7 +173,7 @@ pub(crate) fn first_refusal(
 fn hold(portals: &mut [Portal], end: End, holder: Option<u8>)
     ensures { portals.new ≡ holding portals.old end holder }
 {
-    let i = index(end);
+    let i = index(portals.len(), end);
     if i < portals.len() {
         portals[i].holder = holder;
     }
@@ -181,7 +192,7 @@ pub(crate) fn hold_all(portals: &mut [Portal], ends: &[End], holder: Option<u8>)
 pub(crate) fn count_put(portals: &mut [Portal], end: End) -> Result<(), AllocError>
     ensures { OnOk result (portals.new ≡ counting_put portals.old end) }
 {
-    let i = index(end);
+    let i = index(portals.len(), end);
     if i < portals.len() {
         portals[i].count_put()?;
     }
@@ -192,7 +203,7 @@ pub(crate) fn count_put(portals: &mut [Portal], end: End) -> Result<(), AllocErr
 pub(crate) fn push(portals: &mut [Portal], end: End, parcel: Parcel) -> Result<(), AllocError>
     ensures { OnOk result (portals.new ≡ pushing portals.old end parcel) }
 {
-    let i = index(end);
+    let i = index(portals.len(), end);
     if i < portals.len() {
         portals[i].waiting.push(parcel)?;
     }
@@ -203,7 +214,7 @@ pub(crate) fn push(portals: &mut [Portal], end: End, parcel: Parcel) -> Result<(
 pub(crate) fn take(portals: &mut [Portal], end: End) -> Result<(), AllocError>
     ensures { OnOk result (portals.new ≡ taking portals.old end) }
 {
-    let i = index(end);
+    let i = index(portals.len(), end);
     if i < portals.len() {
         portals[i].take()?;
     }
@@ -219,7 +230,7 @@ pub(crate) fn shut(
     ensures portals { OnOk result (portals.new ≡ closing portals.old end) }
     ensures dropped { OnOk result (dropped.new.items ≡ dropped.old.items ++ ends_in (portal_at portals.old end).waiting) }
 {
-    let i = index(end);
+    let i = index(portals.len(), end);
     if i < portals.len() {
         portals[i].close(dropped)?;
     }

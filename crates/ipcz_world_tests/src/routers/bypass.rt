@@ -164,7 +164,7 @@ static X_TURNS: [Step; 14] = [
         Some(2),
         Ok(Some((
             1,
-            "StopProxying { old: 0, side: B, in_length: 5, out_length: 2 }",
+            "StopProxying { side: B, old: 0, in_length: 5, out_length: 2 }",
         ))),
     ),
     Is(X, Flagged(true)),
