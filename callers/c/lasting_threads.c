@@ -4,6 +4,7 @@
 
 #include <pthread.h>
 #include <sched.h>
+#include <stdatomic.h>
 #include <stdio.h>
 
 enum { NODES = 4, FIRST_PAIRS = NODES * (NODES - 1) / 2, SLOTS = 256, ROUNDS = 5000, AT_ONCE = 16, TRAVELLERS = 20, HOPS = 1000 };
@@ -24,9 +25,8 @@ typedef struct worker {
 } worker;
 
 static worker workers[NODES];
-static pthread_mutex_t lock = PTHREAD_MUTEX_INITIALIZER;
-static int threads_done, travelled;
-static bool has_failed;
+static atomic_int threads_done, travelled;
+static atomic_bool has_failed;
 
 static uint8_t node_behind(uint8_t node) { return (uint8_t)((node + 1) % NODES); }
 static uint8_t node_before(uint8_t node) { return (uint8_t)((node + NODES - 1) % NODES); }
@@ -74,9 +74,7 @@ static ipcz_status churn(worker *of) {
 /* Passes a portal on that has made so many hops, or closes it behind the last. */
 static ipcz_status pass_on(worker *of, ipcz_portal portal, int hops) {
     if (hops == HOPS) {
-        pthread_mutex_lock(&lock);
         travelled++;
-        pthread_mutex_unlock(&lock);
         return ipcz_cell_close(&of->cell, portal);
     }
     const uint8_t text[4] = { '>', (uint8_t)hops, (uint8_t)(hops >> 8), (uint8_t)(hops >> 16) };
@@ -116,14 +114,11 @@ static ipcz_status go_on(worker *of) {
 
 /* Whether all threads have done what they have to do; each says so once. */
 static bool are_done(worker *of, bool *told) {
-    pthread_mutex_lock(&lock);
     if (!*told && of->answered == ROUNDS && of->served == ROUNDS && of->churned == ROUNDS && travelled == TRAVELLERS) {
         *told = true;
         threads_done++;
     }
-    const bool done = threads_done == NODES || has_failed;
-    pthread_mutex_unlock(&lock);
-    return done;
+    return threads_done == NODES || has_failed;
 }
 
 static void *work(void *of) {
@@ -133,11 +128,7 @@ static void *work(void *of) {
         mine->wrong = go_on(mine);
         sched_yield();
     }
-    if (mine->wrong) {
-        pthread_mutex_lock(&lock);
-        has_failed = true;
-        pthread_mutex_unlock(&lock);
-    }
+    if (mine->wrong) has_failed = true;
     return NULL;
 }
 
