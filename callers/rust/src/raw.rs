@@ -84,13 +84,6 @@ unsafe extern "C" {
         count: usize,
         number: *mut u64,
     ) -> u32;
-    pub fn ipcz_next_sizes(
-        world: *mut Handle,
-        node: u8,
-        at: Portal,
-        size: *mut usize,
-        count: *mut usize,
-    ) -> bool;
     pub fn ipcz_get_parcel(
         world: *mut Handle,
         node: u8,
@@ -137,12 +130,6 @@ unsafe extern "C" {
         count: usize,
         number: *mut u64,
     ) -> u32;
-    pub fn ipcz_cell_next_sizes(
-        cell: *mut CellHandle,
-        at: Portal,
-        size: *mut usize,
-        count: *mut usize,
-    ) -> bool;
     pub fn ipcz_cell_get_parcel(
         cell: *mut CellHandle,
         at: Portal,
