@@ -1,9 +1,10 @@
 -- What the loads of a turn have found, and which act comes first by it.
-use Rattle.std.specs.Prelude.{◌≡◌, ◌≢◌, ◌<◌, ◌+◌, ℕ, zero, suc, Bool, true, false, not, ◌&&◌, List, [], ◌∷◌, ◌++◌, replicate, eqb, MatchBool, Option, Some, None}
-use Rattle.std.proofs.Common.{ap, sym, subst, ◌∙◌, refl, arith, append_assoc, append-nil}
+use Rattle.std.specs.Prelude.{◌≡◌, ◌≢◌, ◌≤◌, ◌<◌, ◌+◌, ℕ, zero, suc, Bool, true, false, not, ◌&&◌, List, [], ◌∷◌, ◌++◌, replicate, eqb, MatchBool, Option, Some, None}
+use Rattle.std.proofs.Common.{inl, inr, ⊎_elim, ap, sym, subst, ◌∙◌, refl, arith, append_assoc, append-nil}
 use Rattle.std.proofs.lemmas.Bool.Decides.{nat_tests}
+use Rattle.std.specs.Int.{bit_at}
 use mathlib.Core.Logic.{dite}
-use native.Mathlib.Decide.{ℕ_discrete}
+use native.Mathlib.Decide.{ℕ_discrete, dec_lt}
 use Rattle.ipcz_base.specs.declared.end.End.{End}
 use Rattle.ipcz_base.specs.Indexed.{place_at}
 use Rattle.ipcz_node.specs.declared.act.Act.{Act}
@@ -15,8 +16,8 @@ use Rattle.ipcz_rule.specs.declared.view.Part.{Part}
 use Rattle.ipcz_rule.specs.Rule.{has_number}
 use Rattle.ipcz_cell.specs.TableNames.{TableName}
 use Rattle.ipcz_cell.specs.CellStates.{CellState}
-use Rattle.ipcz_cell.specs.Mails.{HasSeen, mail_word}
-use Rattle.ipcz_cell.specs.Turns.{WasFound, WasFoundOther, IsLast, NoneFull, NoneEmpty, IsOpen, IsShut, nothing_seen, IsFirstElse, IsFirst, HasLooked, Chooses, FindsFull, CanPost, FindsEmpty}
+use Rattle.ipcz_cell.specs.Mails.{HasSeen, mail_word, inbox_word}
+use Rattle.ipcz_cell.specs.Turns.{WasFound, WasFoundClear, WasFoundOther, IsLast, NoneFull, NoneEmpty, IsOpen, IsShut, nothing_seen, IsFirstElse, IsFirst, HasLooked, Chooses, FindsFull, CanPost, FindsEmpty}
 
 abbrev Loads : Type 0
 Loads = List (ℕ × ℕ)
@@ -48,8 +49,11 @@ last_later first found word n w = record {
   last = ap (λ (l : Loads). first ++ l) w.last ∙ sym (append_assoc first w.before ((word, n) ∷ []));
 }
 
+clear_more : (t : TableName) (node sender : ℕ) (found more : Loads) → WasFoundClear t node sender found → WasFoundClear t node sender (found ++ more)
+clear_more t node sender found more c = record { at = c.at; clear = c.clear; load = found_more found more (inbox_word t node) c.at c.load }
+
 none_full_more : (t : TableName) (node end : ℕ) (found more : Loads) → NoneFull t node end found → NoneFull t node end (found ++ more)
-none_full_more t node end found more h sender low = other_more found more (mail_word t sender node) 1 (h sender low)
+none_full_more t node end found more h sender low = ⊎_elim (λ w. inl (other_more found more (mail_word t sender node) 1 w)) (λ c. inr (clear_more t node sender found more c)) (h sender low)
 
 shut_more : (t : TableName) (p : Part) (to : ℕ) (found more : Loads) → IsShut t p to found → IsShut t p to (found ++ more)
 shut_more t p to found more h mail = let w = h mail in (w.0, other_more found more (mail_word t p.node to) 0 w.1)
@@ -75,16 +79,33 @@ looked_more first found a b c h k = record {
 looked_one : (word n : ℕ) (a b : CellState) → HasSeen word n a b → HasLooked ((word, n) ∷ []) a b
 looked_one word n a b h = record { part = h.part; room = h.room; looked = h.looked; seen = h.seen }
 
--- the mailboxes to a node from each below another were loaded, and none was full
-pub record LooksFull (t : TableName) (old now : CellState) (end : ℕ) : Type 0 where
+-- the mailboxes to a node from each below another were loaded, and none was full, or the sender's bit wasn't set; of the others it is known if
+-- their bits aren't set
+pub record LooksFull (t : TableName) (old now : CellState) (inbox end : ℕ) : Type 0 where
   pub found : Loads
   pub looked : HasLooked found old now
   pub none : NoneFull t old.part.node end found
+  pub clear : (from : ℕ) → bit_at inbox from ≡ 0 → WasFoundClear t old.part.node from found
 
-pub full_none : (t : TableName) (a : CellState) → LooksFull t a a 0
-full_none t a = record { found = []; looked = looked_none a; none = λ sender low. absurd (omega (arith, low)) }
+-- at first the inbox is loaded
+pub full_none : (t : TableName) (a b : CellState) (node n : ℕ) → node ≡ a.part.node → HasSeen (inbox_word t node) n a b → LooksFull t a b n 0
+full_none t a b node n own h = record {
+  found = (inbox_word t node, n) ∷ [];
+  looked = looked_one (inbox_word t node) n a b h;
+  none = λ sender low. absurd (omega (arith, low));
+  clear = λ sender bit. record { at = n; clear = bit; load = record { before = []; after = []; there = λ j. (inbox_word t (own j), n) ∷ [] } };
+}
 
-module _ (t : TableName) (a b c : CellState) (end n node : ℕ) (own : node ≡ a.part.node) (l : LooksFull t a b end) (h : HasSeen (mail_word t end node) n b c) where
+-- senders whose bits aren't set
+pub full_pass : (t : TableName) (a b : CellState) (inbox end next : ℕ) → LooksFull t a b inbox end → ((j : ℕ) → end ≤ j → j < next → bit_at inbox j ≡ 0) → LooksFull t a b inbox next
+full_pass t a b inbox end next l zeros = record {
+  found = l.found;
+  looked = l.looked;
+  none = λ sender below. dite (dec_lt sender end) (λ low. l.none sender low) (λ high. inr (l.clear sender (zeros sender (omega (arith, high)) below)));
+  clear = l.clear;
+}
+
+module _ (t : TableName) (a b c : CellState) (inbox end n node : ℕ) (own : node ≡ a.part.node) (l : LooksFull t a b inbox end) (h : HasSeen (mail_word t end node) n b c) where
   abbrev one : Loads
   one = (mail_word t end a.part.node, n) ∷ []
 
@@ -92,13 +113,14 @@ module _ (t : TableName) (a b c : CellState) (end n node : ℕ) (own : node ≡ 
   seen = looked_one (mail_word t end a.part.node) n b c (subst (λ (k : ℕ). HasSeen (mail_word t end k) n b c) own h)
 
   -- one load more, which found the mailbox not full
-  pub full_more : n ≢ 1 → LooksFull t a c (end + 1)
+  pub full_more : n ≢ 1 → LooksFull t a c inbox (end + 1)
   full_more other = record {
     found = l.found ++ one;
     looked = looked_more l.found one a b c l.looked seen;
     none = λ sender low. dite (ℕ_discrete sender end)
-        (λ same. subst (λ (k : ℕ). WasFoundOther (l.found ++ one) (mail_word t k a.part.node) 1) (sym same) (record { at = n; other = other; load = record { before = l.found; after = []; there = refl } }))
+        (λ same. inl (subst (λ (k : ℕ). WasFoundOther (l.found ++ one) (mail_word t k a.part.node) 1) (sym same) (record { at = n; other = other; load = record { before = l.found; after = []; there = refl } })))
         (λ apart. none_full_more t a.part.node end l.found one l.none sender (omega (arith, low, apart)));
+    clear = λ sender bit. clear_more t a.part.node sender l.found one (l.clear sender bit);
   }
 
   -- or found it full
@@ -109,8 +131,8 @@ module _ (t : TableName) (a b c : CellState) (end n node : ℕ) (own : node ≡ 
     first = (low, none_full_more t a.part.node end l.found one l.none, record { before = l.found; last = λ j. l.found ++ (mail_word t end a.part.node, is j) ∷ [] });
   }
 
-pub full_end : (t : TableName) (a b : CellState) (end : ℕ) → end ≡ t.count → LooksFull t a b end → FindsFull t a None b
-full_end t a b end is l = record { found = l.found; looked = l.looked; first = subst (λ (k : ℕ). NoneFull t a.part.node k l.found) is l.none }
+pub full_end : (t : TableName) (a b : CellState) (inbox end : ℕ) → t.count ≤ end → LooksFull t a b inbox end → FindsFull t a None b
+full_end t a b inbox end most l = record { found = l.found; looked = l.looked; first = λ sender low. l.none sender (omega (arith, low, most)) }
 
 -- to no node below another can a message be posted
 pub record LooksEmpty (t : TableName) (old now : CellState) (end : ℕ) : Type 0 where

@@ -3,6 +3,7 @@ pub mod Telling
 pub mod Seating
 pub mod Keeping
 pub mod Few
+pub mod Inboxing
 pub mod Onces
 pub mod Sources
 pub mod Taking

@@ -9,7 +9,7 @@ use Rattle.ipcz_base.specs.declared.message.Message.{Message}
 use Rattle.ipcz_node.specs.Node.{Node}
 use Rattle.ipcz_rule.specs.declared.view.View.{View}
 use Rattle.ipcz_rule.specs.declared.view.Part.{Part}
-use Rattle.ipcz_rule.specs.Rule.{Mine, saw, has_number}
+use Rattle.ipcz_rule.specs.Rule.{Slot, Mine, saw, has_number}
 use Rattle.ipcz_rule.specs.Steps.{probe_part, post_part, look_part, old_word, trusted, hand_part}
 use Rattle.ipcz_rule.proofs.Probing.{probes}
 use Rattle.ipcz_rule.proofs.Posting.{posts, looks}
@@ -92,10 +92,10 @@ load_tells {l} {l'} i i' found me me' room room' old view kept still at done =
 
 -- the step of a post
 pub post_may : (t : TableName) (id word : ℕ) (m : Mine) (node to : ℕ) (told : Tells) → IsPicked told (posted to) → m.0.parts ≡ part_in m.0 ∷ [] → (part_in m.0).node ≡ node → to < t.count →
-    has_number (part_in m.0).probed to ≡ true → has_mail_for (part_in m.0).state to ≡ true → (x : Message) → post_of (part_in m.0).state (acts.Post to) ≡ Some x → m.1 ≡ (slot_of t node to, Some x) ∷ rest m.1 →
+    has_number (part_in m.0).probed to ≡ true → m.0.announced ≡ Some to → has_mail_for (part_in m.0).state to ≡ true → (x : Message) → post_of (part_in m.0).state (acts.Post to) ≡ Some x → m.1 ≡ (slot_of t node to, Some x) ∷ rest m.1 →
     mail_word t node to ≡ word → Keeps t.reuses t.count t.size t.id.slots id m word (λ _. 1) (λ _. told m 1)
-post_may t id word m node to told picked whole is small has mail x first slot at s r deep there low =
-    let may = posts t.reuses t.count t.size t.id.slots id (mail_word t node to) (slot_of t node to) to m (part_in m.0) x (rest m.1) whole (ap (λ (k : ℕ). k * t.count + to) (sym is)) refl small has mail first slot in
+post_may t id word m node to told picked whole is small has announced mail x first slot at s r deep there low =
+    let may = posts t.reuses t.count t.size t.id.slots id (mail_word t node to) (slot_of t node to) to m (part_in m.0) x (rest m.1) whole (ap (λ (k : ℕ). k * t.count + to) (sym is)) refl small has announced mail first slot in
     let h = subst (λ (i : ℕ). Keeps t.reuses t.count t.size t.id.slots id m i (λ _. 1) (λ n m'. m' ≡ (change_part (post_part to) m.0, rest m.1))) at may s r deep there low in
     (h.0, h.1, h.2, h.3, picked.said m 1 _ h.4)
 
@@ -121,6 +121,16 @@ hand_may t id word m node sender source told picked whole is hand x message seri
     inside : (o : Option ℕ) → old_word x ≡ o → IfSome o (λ old. old < t.size)
     inside None e = tt
     inside (Some old) e = old_links_are_words t.count t.size s r id m.0 0 (part_in m.0) sender old x there (ap (λ (l : List Part). get_elem? l 0) whole) hand message e
+
+-- the same where the seat may have forgotten what it has announced
+pub hand_may_after : (t : TableName) (id word : ℕ) (m m' : Mine) (node from : ℕ) (source : Option ℕ) (told : Tells) → IsPicked told (handed from source) → m'.0.parts ≡ m.0.parts → m'.1 ≡ m.1 → m.0.parts ≡ part_in m.0 ∷ [] → (part_in m.0).node ≡ node →
+    (part_in m.0).state.hand ≡ Some from → (x : Message) → (part_in m.0).message ≡ Some x → message_lacks_serials (part_in m.0).state from x source ≡ false → IsKnown t.size from x source → m.1 ≡ (slot_of t from node, None) ∷ rest m.1 →
+    mail_word t from node ≡ word → Keeps t.reuses t.count t.size t.id.slots id m' word (λ _. 0) (λ _. told m' 0)
+hand_may_after t id word m m' node sender source told picked parts held whole is hand x message serials known slot at =
+    let v : List Part → View = λ ps. record { parts = ps; seen = m'.0.seen; announced = m'.0.announced } in
+    subst (λ (h : List (ℕ × Slot)). Keeps t.reuses t.count t.size t.id.slots id (m'.0, h) word (λ _. 0) (λ _. told (m'.0, h) 0)) (sym held)
+    (subst (λ (ps : List Part). Keeps t.reuses t.count t.size t.id.slots id (v ps, m.1) word (λ _. 0) (λ _. told (v ps, m.1) 0)) (sym parts)
+    (hand_may t id word (v m.0.parts, m.1) node sender source told picked whole is hand x message serials known slot at))
 
 -- the step of a load before a hand
 pub source_may : (t : TableName) (id old : ℕ) (m : Mine) (from : ℕ) (told : Tells) → IsPicked told (sourced old from) → m.0.parts ≡ part_in m.0 ∷ [] → (part_in m.0).state.hand ≡ Some from →

@@ -22,6 +22,10 @@ slot_of t from to = from * t.count + to
 abbrev pub mail_word : TableName → ℕ → ℕ → ℕ
 mail_word t from to = t.size + 1 + t.count + slot_of t from to
 
+-- the word of a node's inbox
+abbrev pub inbox_word : TableName → ℕ → ℕ
+inbox_word t node = t.size + 1 + node
+
 -- a load or an exchange of the word i found n, and nothing else has changed
 pub record HasSeen (i n : ℕ) (old new : CellState) : Type 0 where
   pub part : new.part ≡ old.part

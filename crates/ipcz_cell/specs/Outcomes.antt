@@ -1,5 +1,6 @@
 -- What each kind of step tells of its seat, which has had m and has m' now, if n was found.
-use Rattle.std.specs.Prelude.{◌≡◌, ℕ, zero, suc, ◌∷◌, Bool, true, eqb, List, Option, Some, None, MatchBool}
+use Rattle.std.specs.Prelude.{◌≡◌, ℕ, zero, suc, ◌∷◌, Bool, true, eqb, List, Option, Some, None, MatchBool, if◌then◌else◌}
+use Rattle.std.specs.Int.{bit_at}
 use Rattle.atomic_table.specs.Table.{rest, turned}
 use Rattle.ipcz_base.specs.declared.side.Side.{Side}
 use Rattle.ipcz_base.specs.declared.message.Message.{Message}
@@ -12,7 +13,7 @@ use Rattle.ipcz_world.specs.Coding.{IsLinkNumber}
 use Rattle.ipcz_world.specs.WordAnswers.{word_answer}
 use Rattle.ipcz_rule.specs.declared.view.View.{View}
 use Rattle.ipcz_rule.specs.declared.view.Part.{Part}
-use Rattle.ipcz_rule.specs.Rule.{Slot, Mine, saw}
+use Rattle.ipcz_rule.specs.Rule.{Slot, Mine, saw, announcing, forgetting}
 use Rattle.ipcz_rule.specs.Kinds.{is_refusal}
 use Rattle.ipcz_rule.specs.Steps.{act_part, probe_part, post_part, look_part}
 use Rattle.ipcz_cell.specs.CellStates.{change_part}
@@ -30,7 +31,7 @@ pub record IsPicked (t u : Tells) : Type 0 where
 abbrev pub is_itself : (t : Tells) → IsPicked t t
 is_itself t = record { says = λ m n m' h. h; said = λ m n m' h. h }
 
--- a step on the touch word
+-- a step on the node's inbox that changes its part
 abbrev pub touched : (Part → Part) → Tells
 touched f m n m' = m' ≡ (change_part f m.0, m.1)
 
@@ -41,6 +42,18 @@ loaded i m n m' = m' ≡ (saw i n m.0, m.1)
 -- an exchange 0 to 3 of the mailbox word i
 abbrev pub probed : ℕ → ℕ → ℕ → Tells
 probed i k to m n m' = MatchBool (eqb n 0) (m' ≡ (change_part (probe_part to) (saw i n m.0), (k, None) ∷ m.1)) (m' ≡ (saw i n m.0, m.1))
+
+-- a load of a node's inbox before a post to it, and whether the sender's bit was found set there
+abbrev pub peeked : ℕ → ℕ → Tells
+peeked node to m n m' = m' ≡ (if eqb (bit_at n node) 1 then announcing to m.0 else forgetting m.0, m.1)
+
+-- the sender's bit is set in a node's inbox
+abbrev pub announced : ℕ → Tells
+announced to m n m' = m' ≡ (announcing to m.0, m.1)
+
+-- a sender's bit is cleared in the own inbox
+abbrev pub cleared : Tells
+cleared m n m' = m' ≡ (forgetting m.0, m.1)
 
 -- a store 1 at a mailbox that was probed
 abbrev pub posted : ℕ → Tells

@@ -1,6 +1,7 @@
 -- A turn of a cell: which act it takes by what its own loads have found of the mailboxes, and what it answers and leaves.
-use Rattle.std.specs.Prelude.{◌≡◌, ◌≢◌, ◌<◌, ℕ, [], ◌∷◌, ◌++◌, List, Bool, true, false, replicate, Option, Some, None, MatchBool}
+use Rattle.std.specs.Prelude.{◌≡◌, ◌≢◌, ◌<◌, ◌⊎◌, ℕ, [], ◌∷◌, ◌++◌, List, Bool, true, false, replicate, Option, Some, None, MatchBool}
 use Rattle.std.specs.Prelude.{MatchOption}
+use Rattle.std.specs.Int.{bit_at}
 use Rattle.ipcz_node.specs.declared.act.Act.{Act}
 use Rattle.ipcz_node.specs.declared.act.Act.TheVariants.{Hand, Look, Post}
 use Rattle.ipcz_node.specs.declared.act.MailSeen.{MailSeen}
@@ -9,7 +10,7 @@ use Rattle.ipcz_rule.specs.declared.view.Part.{Part}
 use Rattle.ipcz_rule.specs.Rule.{has_number}
 use Rattle.ipcz_cell.specs.TableNames.{TableName}
 use Rattle.ipcz_cell.specs.CellStates.{CellState}
-use Rattle.ipcz_cell.specs.Mails.{mail_word}
+use Rattle.ipcz_cell.specs.Mails.{mail_word, inbox_word}
 
 -- one of these loads found the word at a number
 pub record WasFound (found : List (ℕ × ℕ)) (word n : ℕ) : Type 0 where
@@ -28,9 +29,15 @@ pub record IsLast (found : List (ℕ × ℕ)) (word n : ℕ) : Type 0 where
   pub before : List (ℕ × ℕ)
   pub last : found ≡ before ++ (word, n) ∷ []
 
--- the mailbox to a node from each that is below another was loaded, and was not found full
+-- one of these loads found a node's inbox without the bit of a sender: then that sender's mailbox wasn't full, by the rule of the table
+pub record WasFoundClear (t : TableName) (node from : ℕ) (found : List (ℕ × ℕ)) : Type 0 where
+  pub at : ℕ
+  pub clear : bit_at at from ≡ 0
+  pub load : WasFound found (inbox_word t node) at
+
+-- the mailbox to a node from each that is below another was loaded, and was not found full, or the sender's bit wasn't set
 abbrev pub NoneFull : TableName → ℕ → ℕ → List (ℕ × ℕ) → Type 0
-NoneFull t node end found = (from : ℕ) → from < end → WasFoundOther found (mail_word t from node) 1
+NoneFull t node end found = (from : ℕ) → from < end → WasFoundOther found (mail_word t from node) 1 ⊎ WasFoundClear t node from found
 
 -- messages wait for a node whose mailbox is this node's already, or was found empty by the last load
 pub record IsOpen (t : TableName) (p : Part) (to : ℕ) (found : List (ℕ × ℕ)) : Type 0 where

@@ -54,7 +54,7 @@ impl<F: FabricName> Model for NodeCell<F> {
     ghost invariant = { λ c. IsCell F.table c.state.node c.message c.probed c.seat.table_id (mine_of c.seat.me) × HasNoSlots c.seat.me.0 };
 }
 
-/// A step on the node's touch word.
+/// A step on the node's inbox, which it leaves as it is.
 pub(crate) fn touch<F: FabricName, X: Outcome>(
     seat: &mut TableSeat,
     fabric: &Fabric<F>,
@@ -73,7 +73,7 @@ pub(crate) fn touch<F: FabricName, X: Outcome>(
     load_step::<F, X>(seat, fabric, 1 + node as usize)
 }
 
-// A claim that finds no slot, as a step on the touch word: the proxy is dry. X is what it tells.
+// A claim that finds no slot, as a step on the node's inbox: the proxy is dry. X is what it tells.
 pub(crate) fn dry_here<F: FabricName, X: Outcome>(
     seat: &mut TableSeat,
     fabric: &Fabric<F>,
@@ -94,7 +94,7 @@ pub(crate) fn dry_here<F: FabricName, X: Outcome>(
     touch::<F, X>(seat, fabric, node);
 }
 
-// A put, as a step on the touch word. X is what it tells.
+// A put, as a step on the node's inbox. X is what it tells.
 fn put_here<F: FabricName, X: Outcome>(
     state: &mut NodeState,
     seat: &mut TableSeat,
@@ -121,7 +121,7 @@ fn put_here<F: FabricName, X: Outcome>(
     Ok(n)
 }
 
-// A get, as a step on the touch word. X is what it tells.
+// A get, as a step on the node's inbox. X is what it tells.
 fn get_here<F: FabricName, X: Outcome>(
     state: &mut NodeState,
     seat: &mut TableSeat,
@@ -144,7 +144,7 @@ fn get_here<F: FabricName, X: Outcome>(
     Ok(got)
 }
 
-// A caller's close, as a step on the touch word. X is what it tells.
+// A caller's close, as a step on the node's inbox. X is what it tells.
 fn close_here<F: FabricName, X: Outcome>(
     state: &mut NodeState,
     seat: &mut TableSeat,
@@ -167,7 +167,7 @@ fn close_here<F: FabricName, X: Outcome>(
     Ok(n)
 }
 
-// An act that touches no word, as a step on the touch word, or on the let-go word of what it gives up. X is what it tells.
+// An act that touches no word, as a step on the node's inbox, or on the let-go word of what it gives up. X is what it tells.
 fn act_here<F: FabricName, X: Outcome>(
     state: &mut NodeState,
     seat: &mut TableSeat,

@@ -162,7 +162,7 @@ fn leave_step<F: FabricName, X: Outcome, S: SlotName>(
         .fetch_or::<Leaves<F, X, S>>(seat, word, side_bit(side));
 }
 
-/// The step of an act that touches no link word: on the node's touch word, or, if it gives an end of a link word up, on the let-go word of
+/// The step of an act that touches no link word: on the node's inbox, or, if it gives an end of a link word up, on the let-go word of
 /// that word's slot. A slot that only the act's router had is given back then. X is what the step tells.
 #[inline(always)]
 pub(crate) fn act_step<F: FabricName, X: Outcome>(

@@ -9,6 +9,7 @@ mod claims;
 mod ending;
 mod fabric;
 mod holds;
+mod inbox;
 pub mod laws;
 mod letting;
 mod mail;

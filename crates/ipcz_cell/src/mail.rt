@@ -20,6 +20,7 @@ ghost use Rattle.ipcz_cell.specs.Outcomes.{IsPicked, probed, posted, looked, sou
 use crate::bells::{Ringer, Waking};
 use crate::cell::NodeCell;
 use crate::fabric::{Fabric, FabricName};
+use crate::inbox::{announce, clear};
 use crate::plays::{Outcome, exchange_step, load_behind, load_link, store_step};
 use crate::seat::TableSeat;
 use ipcz_base::{Message, Refusal};
@@ -105,7 +106,7 @@ fn probe_here<F: FabricName, X: Outcome>(
     exchange_step::<F, X>(seat, fabric, place, 0, 3)
 }
 
-// A store 1 at a mailbox that was probed, whose slot has the message. X is what it tells.
+// A store 1 at a mailbox that was probed, whose slot has the message, behind the announcement of it. X is what the store tells.
 fn post_here<F: FabricName, X: Outcome>(node: u8, seat: &mut TableSeat, fabric: &Fabric<F>, to: u8)
     requires picked { IsPicked X.tells (posted to) }
     requires own { seat.old.table_id ≡ F.table.id }
@@ -123,6 +124,7 @@ fn post_here<F: FabricName, X: Outcome>(node: u8, seat: &mut TableSeat, fabric: 
 {
     let slot = slot_of(fabric, node, to);
     let place = place_of(fabric, slot);
+    announce(node, seat, fabric, to);
     store_step::<F, X>(seat, fabric, place, 1);
 }
 
@@ -188,7 +190,7 @@ fn source_here<F: FabricName, X: Outcome>(
     load_link::<F, X>(seat, fabric, old)
 }
 
-// A store 0 at the mailbox whose message is in hand, for which the source is known. X is what it tells.
+// A store 0 at the mailbox whose message is in hand, for which the source is known, once its sender's bit is cleared. X is what the store tells.
 fn hand_here<F: FabricName, X: Outcome>(
     node: u8,
     seat: &mut TableSeat,
@@ -213,6 +215,7 @@ fn hand_here<F: FabricName, X: Outcome>(
     let _source = source;
     let slot = slot_of(fabric, from, node);
     let place = place_of(fabric, slot);
+    clear(node, seat, fabric, from);
     store_step::<F, X>(seat, fabric, place, 0);
 }
 

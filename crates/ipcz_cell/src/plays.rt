@@ -135,7 +135,7 @@ pub(crate) fn keep_link<F: FabricName, X: Outcome>(
     fabric.table.shared.fetch_and::<By<F, X>>(seat, word, bits)
 }
 
-/// Loads a word behind the link words: the claim count is at 0, then come the touch words, and then the mailboxes.
+/// Loads a word behind the link words: the claim count is at 0, then come the inboxes, and then the mailboxes.
 pub(crate) fn load_step<F: FabricName, X: Outcome>(
     seat: &mut TableSeat,
     fabric: &Fabric<F>,
@@ -195,6 +195,46 @@ pub(crate) fn store_step<F: FabricName, X: Outcome>(
 {
     let word = fabric.slots as usize + place;
     fabric.table.shared.store::<By<F, X>>(seat, word, new);
+}
+
+/// Sets bits of a word behind the claim count.
+pub(crate) fn set_step<F: FabricName, X: Outcome>(
+    seat: &mut TableSeat,
+    fabric: &Fabric<F>,
+    place: usize,
+    bits: u64,
+) -> u64
+    requires own { seat.old.table_id ≡ F.table.id }
+    requires behind { 1 ≤ place }
+    requires inside { place < 1 + F.table.count + F.table.count * F.table.count }
+    requires may { Keeps F.table.reuses F.table.count F.table.size F.table.id.slots seat.old.id (mine_of seat.old.me) (F.table.size + place)
+        (λ n. bit_or n bits) (X.tells (mine_of seat.old.me)) }
+    ensures table { seat.new.table_id ≡ seat.old.table_id }
+    ensures done { X.tells (mine_of seat.old.me) result (mine_of seat.new.me) }
+    ensures slots { SlotsStay seat.old.me seat.new.me }
+{
+    let word = fabric.slots as usize + place;
+    fabric.table.shared.fetch_or::<By<F, X>>(seat, word, bits)
+}
+
+/// Keeps bits of a word behind the claim count.
+pub(crate) fn keep_step<F: FabricName, X: Outcome>(
+    seat: &mut TableSeat,
+    fabric: &Fabric<F>,
+    place: usize,
+    bits: u64,
+) -> u64
+    requires own { seat.old.table_id ≡ F.table.id }
+    requires behind { 1 ≤ place }
+    requires inside { place < 1 + F.table.count + F.table.count * F.table.count }
+    requires may { Keeps F.table.reuses F.table.count F.table.size F.table.id.slots seat.old.id (mine_of seat.old.me) (F.table.size + place)
+        (λ n. bit_and n bits) (X.tells (mine_of seat.old.me)) }
+    ensures table { seat.new.table_id ≡ seat.old.table_id }
+    ensures done { X.tells (mine_of seat.old.me) result (mine_of seat.new.me) }
+    ensures slots { SlotsStay seat.old.me seat.new.me }
+{
+    let word = fabric.slots as usize + place;
+    fabric.table.shared.fetch_and::<By<F, X>>(seat, word, bits)
 }
 
 /// Exchanges a number of a word behind the claim count for another, and answers what was found.

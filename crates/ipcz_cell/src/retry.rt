@@ -27,7 +27,7 @@ pub enum Retry {
     Again(u64),
 }
 
-// A router may claim again, as a step on the touch word. X is what it tells.
+// A router may claim again, as a step on the node's inbox. X is what it tells.
 fn wet_here<F: FabricName, X: Outcome>(
     seat: &mut TableSeat,
     fabric: &Fabric<F>,

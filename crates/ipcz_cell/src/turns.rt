@@ -10,6 +10,7 @@ ghost use Rattle.ipcz_rule.specs.Steps.{is_touch_act};
 
 use crate::cell::NodeCell;
 use crate::fabric::{Fabric, FabricName};
+use crate::inbox::{inbox_place, next_set};
 use crate::mail::mail_place;
 use crate::words::LockTry;
 use ipcz_base::{LinkId, Refusal};
@@ -18,19 +19,26 @@ use ipcz_router::act::RouterAct;
 use ipcz_word::LockPlan;
 
 impl<F: FabricName> NodeCell<F> {
-    // The lowest node whose mailbox to this one is found full. The mailboxes are loaded in order, up to that one. The table's numbers are
-    // read once, not again after each load.
+    // The lowest node whose mailbox to this one is found full. The inbox is loaded, and then the mailboxes of those whose bits are set there, in
+    // order, up to that one. The table's numbers are read once, not again after each load.
     fn first_full(&mut self, fabric: &Fabric<F>) -> Option<u8>
         ensures { FindsFull F.table self.old result self.new }
     {
         let node = self.node();
         let nodes = fabric.nodes;
         let slots = fabric.slots;
-        for from in 0..nodes {
+        let inbox = self.load_at(fabric, slots, inbox_place::<F>(node));
+        let mut from = next_set(inbox, 0);
+        for looked in 0..nodes {
+            let _looked = looked;
+            if from >= nodes {
+                return None;
+            }
             let place = mail_place::<F>(nodes, from, node);
             if self.load_at(fabric, slots, place) == 1 {
                 return Some(from);
             }
+            from = next_set(inbox, from + 1);
         }
         None
     }

@@ -1,12 +1,13 @@
 -- The portals that a hub begins with: one for each end that callers of its nodes hold, by node and then by the serial of the end's
 -- terminal. What its calls answer: what the call of some cell of the node answers.
-use Rattle.std.specs.Prelude.{◌≡◌, ◌⊎◌, ◌<◌, ◌≤◌, ◌+◌, ◌^◌, ℕ, Bool, true, false, List, [], ◌∷◌, ◌++◌, Some, None, Result, Ok, Err}
+use Rattle.std.specs.Prelude.{◌≡◌, ◌⊎◌, ◌<◌, ◌≤◌, ◌+◌, ◌^◌, ℕ, Bool, true, false, List, [], ◌∷◌, ◌++◌, Some, None, Result, Ok, Err, MatchBool}
 use Rattle.ipcz_base.specs.declared.end.End.{End}
 use Rattle.ipcz_base.specs.declared.side.Side.TheVariants.{A, B}
 use Rattle.ipcz_base.specs.declared.refusal.Refusal.{Refusal}
 use Rattle.ipcz_base.specs.declared.refusal.Refusal.TheVariants as refusals
 use Rattle.ipcz_base.specs.Ends.{end_at}
 use Rattle.ipcz_node.specs.declared.happened.Happened.{Happened}
+use Rattle.ipcz_node.specs.declared.happened.Happened.TheVariants.{Idle}
 use Rattle.ipcz_node.specs.Node.{Node}
 use Rattle.ipcz_node.specs.Finding.{IsNextHeld}
 use Rattle.ipcz_cell.specs.TableNames.{TableName}
@@ -62,10 +63,15 @@ abbrev pub is_again : Retry → Bool
 is_again (retries.Again serial) = true
 is_again other = false
 
--- a turn of a cell answers this and leaves the cell, in which a proxy may have been let ask again; it tells whether one does
+-- whether a turn found nothing to do
+abbrev pub is_idle : Result Happened Refusal → Bool
+is_idle (Ok Idle) = true
+is_idle other = false
+
+-- a turn of a cell answers this and leaves the cell; behind an idle one a proxy was let ask again, and it is told whether one does
 abbrev pub TurnsAsking : TableName → CellState → Result Happened Refusal → Bool → CellState → Type 0
 TurnsAsking t old answer asks new = (turned : CellState) × Turns t old answer turned ×
-    (((new ≡ turned) × (asks ≡ false)) ⊎ ((found : Retry) × Retries t turned found new × (asks ≡ is_again found)))
+    MatchBool (is_idle answer) ((found : Retry) × Retries t turned found new × (asks ≡ is_again found)) ((new ≡ turned) × (asks ≡ false))
 
 -- a turn of a node, and a proxy of it that may have been let ask again, are told so
 abbrev pub IsAskingAnswer : TableName → ℕ → Result Happened Refusal → Bool → Type 0

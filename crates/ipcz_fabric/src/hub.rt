@@ -7,7 +7,7 @@ ghost use Rattle.ipcz_cell.specs.TurnEnds.{Turns};
 ghost use Rattle.ipcz_cell.specs.Retries.{Retries};
 ghost use Rattle.ipcz_fabric.specs.Places.{IsCellOf};
 ghost use Rattle.ipcz_fabric.specs.Hubs.{AddsFirst, AddsHeld, AreFirstPortals, ArePair, OpensPortals};
-ghost use Rattle.ipcz_fabric.specs.Hubs.{AreTurnAnswers, IsOpenAnswer, IsOpenRefusal, IsRetryAnswer, IsTurnAnswer, IsTurnRefusal, IsAskingAnswer, TurnsAsking, is_again};
+ghost use Rattle.ipcz_fabric.specs.Hubs.{AreTurnAnswers, IsOpenAnswer, IsOpenRefusal, IsRetryAnswer, IsTurnAnswer, IsTurnRefusal, IsAskingAnswer, TurnsAsking, is_again, is_idle};
 
 use crate::portal::Portal;
 use ipcz_base::Refusal;
@@ -150,7 +150,9 @@ fn turn_here<F: FabricName>(cell: &mut NodeCell<F>, fabric: &Fabric<F>) -> Resul
 }
 
 // Whether a turn found nothing to do.
-fn is_idle(answer: &Result<Happened, Refusal>) -> bool {
+fn is_idle(answer: &Result<Happened, Refusal>) -> bool
+    ensures { result ≡ is_idle answer.now }
+{
     matches!(answer, Ok(Happened::Idle))
 }
 

@@ -13,7 +13,7 @@ use Rattle.ipcz_router.specs.declared.act.Answer.TheVariants as answers
 use Rattle.ipcz_node.specs.declared.act.Act.TheVariants.{Router as OfRouter}
 use Rattle.ipcz_node.specs.Node.{Node}
 use Rattle.ipcz_node.specs.Acts.{commit}
-use Rattle.ipcz_world.specs.World.{World, node_at, word_at, set_node, set_claimed}
+use Rattle.ipcz_world.specs.World.{World, node_at, word_at, way, set_node, set_claimed}
 use Rattle.ipcz_world.specs.WordAnswers.{answer_of, touch}
 use Rattle.ipcz_world.specs.Turns.{after_router_act}
 use Rattle.ipcz_world.specs.Steps.{claim_for_open}
@@ -27,16 +27,17 @@ use Rattle.ipcz_rule.specs.declared.view.View.{View}
 use Rattle.ipcz_rule.specs.declared.view.Part.{Part}
 use Rattle.ipcz_world.specs.HeldEnds.{IsEndHeld}
 use Rattle.ipcz_world.proofs.lawful.LettingGo.{held_for_open_were_held}
-use Rattle.ipcz_rule.specs.Rule.{Slot, St, Mine, mailbox, Rules, with_part, saw}
+use Rattle.ipcz_rule.specs.Rule.{Slot, St, Mine, inbox, mailbox, Rules, with_part, saw}
 use Rattle.ipcz_rule.specs.Steps.{CanAct, claimed_part}
 use Rattle.ipcz_rule.specs.Kinds.{Follows, IsKept, KeepsEnds, IsTurns, turn_where, Claims, ClaimsForOpen, LoadsForClaim}
 use Rattle.ipcz_rule.proofs.KeptEnds.{turns_keep}
-use Rattle.ipcz_rule.proofs.Counts.{Sees}
+use Rattle.ipcz_rule.proofs.Counts.{Silent}
 use Rattle.ipcz_rule.proofs.Moved.{ruled_with, spelled, keeps_sources}
 use Rattle.ipcz_rule.proofs.Touches.{NodeMoves, others_spell, own_spells, mails_show}
 use Rattle.ipcz_rule.proofs.Joins.{joined_same}
 use Rattle.ipcz_rule.proofs.Touching.{KeepsHands, set_moves, After}
 use Rattle.ipcz_rule.proofs.Acting.{plain_part, act_routes, act_after, act_hand}
+use Rattle.ipcz_rule.proofs.Inboxes.{inboxes_stay}
 use Rattle.ipcz_rule.proofs.Wording.{sees}
 use Rattle.ipcz_rule.proofs.Touching.{any_kept}
 use Rattle.ipcz_world.proofs.lawful.StayingHeld.{opening_keeps_held}
@@ -44,7 +45,7 @@ use Rattle.ipcz_rule.proofs.KeptEnds.{where_keeps, claim_keeps}
 
 -- the rule after a step on the claim count that leaves n', if the own node is another
 module _ (count size : ℕ) (s : St) (r : Rules count size s) (id : ℕ) (v v' : View) (p p' : Part) (w' : World) (g' : Routes) (n' : ℕ)
-    (at : get_elem? s.views id ≡ some v) (is : v.parts ≡ p ∷ []) (is' : v'.parts ≡ p' ∷ []) (sight : Sees s.words v v') (moves : NodeMoves r.world w' p.node p'.state) (words : (j : ℕ) → word_at w' j ≡ word_at r.world j) (claimed : n' ≡ w'.claimed) (up : r.world.claimed ≤ n')
+    (at : get_elem? s.views id ≡ some v) (is : v.parts ≡ p ∷ []) (is' : v'.parts ≡ p' ∷ []) (sight : Silent s.words v v') (moves : NodeMoves r.world w' p.node p'.state) (words : (j : ℕ) → word_at w' j ≡ word_at r.world j) (claimed : n' ≡ w'.claimed) (up : r.world.claimed ≤ n')
     (k : KeepsHands p p') (put : p'.put ≡ p.put) (got : p'.got ≡ p.got) (gone : p'.gone ≡ p.gone) (lawful : Lawful w' r.books g') (G : World → Books → Routes → Type 0) (known : G w' r.books g') where
   abbrev w : World
   w = r.world
@@ -56,7 +57,7 @@ module _ (count size : ℕ) (s : St) (r : Rules count size s) (id : ℕ) (v v' :
   boxes j = get_or-set_other s.words size (mailbox w j) n' 0 (λ e. let z = r.words in omega arith)
 
   pub claim_rules : (r' : Rules count size record { words = set s.words size n'; homes = s.homes; views = set s.views id v' }) × G r'.world r'.books r'.routes
-  claim_rules = ruled_with s r w' r.books g' (set s.words size n') s.homes id v v' p p' at is is' sight (record {
+  claim_rules = ruled_with s r w' r.books g' (set s.words size n') s.homes id v v' p p' at is is' sight.1 (record {
     count = moves.count;
     size = moves.size;
     wide = length-set s.words size n';
@@ -69,7 +70,7 @@ module _ (count size : ℕ) (s : St) (r : Rules count size s) (id : ℕ) (v v' :
     node = k.node;
     own = own_spells s w w' (set s.words size n') p.node p'.state moves boxes p p' refl k.node refl k.hand k.message k.probed (spelled s r id v p at is);
     others = others_spell s w w' (set s.words size n') p.node p'.state moves boxes;
-  }) (joined_same s.views id v v' p p' r.books at is is' put got gone r.joined) lawful G known
+  }) (inboxes_stay s r w' (set s.words size n') id v' moves.count moves.size sight.0 (λ to l. get_or-set_other s.words size (inbox w to) n' 0 (λ e. let z = r.words in omega arith)) (λ from to lf lt e. inl (sym (boxes (way w from to)) ∙ e))) (joined_same s.views id v v' p p' r.books at is is' put got gone r.joined) lawful G known
 
 claim_after : (w : World) (n serial : ℕ) (x : Node) (rt : Router) → node_at w n ≡ x → w.claimed < w.size →
     after_router_act w n serial acts.Claim (Some rt) ≡ set_node (set_claimed w (w.claimed + 1)) n (commit x (OfRouter serial acts.Claim) (answers.Claimed w.claimed))
@@ -119,13 +120,13 @@ module _ (count size id : ℕ) (m : Mine) (p : Part) (serial : ℕ) (rt : Router
         v',
         keeps,
         tt,
-        claim_rules count size s r id m.0 v' p p' w' g' (c + 1) at is refl (inr (size, refl)) (claim_moves w (c + 1) p.node p'.state)
+        claim_rules count size s r id m.0 v' p p' w' g' (c + 1) at is refl (refl, inr (size, refl)) (claim_moves w (c + 1) p.node p'.state)
             (λ j. word-set_node (set_claimed w (c + 1)) p.node p'.state j ∙ word-set_claimed w (c + 1) j) (sym (claimed-set_node (set_claimed w (c + 1)) p.node p'.state ∙ claimed-set_claimed w (c + 1))) (omega (arith, found))
             (record { node = refl; hand = act_hand p.state serial acts.Claim (answers.Claimed c); message = refl; probed = refl }) refl refl refl done.0
             (AreTurns w r.books r.routes ((p.node, OfRouter serial acts.Claim) ∷ [])) done.1,
         refl,
       )
-  claims_by false e = (saw size n m.0, keeps, tt, sees s r size id m.0 (saw size n m.0) p at is is (inr (size, refl)), refl)
+  claims_by false e = (saw size n m.0, keeps, tt, sees s r size id m.0 (saw size n m.0) p at is is (refl, inr (size, refl)), refl)
 
   pub claimed_word : F (eqb n c)
   claimed_word = claims_by (eqb n c) refl
@@ -173,13 +174,13 @@ module _ (count size id : ℕ) (m : Mine) (p : Part) (serial : ℕ) (rt : Router
         v',
         keeps,
         tt,
-        claim_rules count size s r id m.0 v' p dry_part (set_node w p.node dry_part.state) g' seen_count at is refl (inr (size, refl)) (set_moves w p.node dry_part.state)
+        claim_rules count size s r id m.0 v' p dry_part (set_node w p.node dry_part.state) g' seen_count at is refl (refl, inr (size, refl)) (set_moves w p.node dry_part.state)
             (word-set_node w p.node dry_part.state) (found ∙ sym (claimed-set_node w p.node dry_part.state)) (omega (arith, found))
             (record { node = refl; hand = act_hand p.state serial acts.Claim answers.NoWord; message = refl; probed = refl }) refl refl refl done.0
             (AreTurns w r.books r.routes ((p.node, OfRouter serial acts.Claim) ∷ [])) done.1,
         refl,
       )
-  dry_by false e = (saw size seen_count m.0, keeps, tt, sees s r size id m.0 (saw size seen_count m.0) p at is is (inr (size, refl)), refl)
+  dry_by false e = (saw size seen_count m.0, keeps, tt, sees s r size id m.0 (saw size seen_count m.0) p at is is (refl, inr (size, refl)), refl)
 
   pub dry_found : Dry (eqb seen_count size)
   dry_found = dry_by (eqb seen_count size) refl
@@ -232,13 +233,13 @@ module _ (count size id : ℕ) (m : Mine) (p : Part) (c : ℕ) (is : m.0.parts �
         v',
         keeps,
         tt,
-        claim_rules count size s r id m.0 v' p p' w' r.routes (c + 1) at is refl (inr (size, refl)) (half_moves w (c + 1) p.node p'.state)
+        claim_rules count size s r id m.0 v' p p' w' r.routes (c + 1) at is refl (refl, inr (size, refl)) (half_moves w (c + 1) p.node p'.state)
             (λ j. word-set_claimed (set_node w p.node p'.state) (c + 1) j ∙ word-set_node w p.node p'.state j) (sym (claimed-set_claimed (set_node w p.node p'.state) (c + 1))) (omega (arith, found))
             (record { node = refl; hand = refl; message = refl; probed = refl }) refl refl refl lawful (λ u b g. KeepsEnds true w u) ends,
         refl,
       )
   half_by false e =
-      let f = sees s r size id m.0 (saw size count_found m.0) p at is is (inr (size, refl)) in
+      let f = sees s r size id m.0 (saw size count_found m.0) p at is is (refl, inr (size, refl)) in
       (saw size count_found m.0, keeps, tt, (f.0, ((λ k side held. inl (subst (λ (u : World). IsEndHeld u k side) f.1.0 held)), (λ h k side held. subst (λ (u : World). IsEndHeld u k side) (sym f.1.0) held))), refl)
 
   pub half_claimed : Half (eqb count_found c)

@@ -1,5 +1,5 @@
 -- What the views have seen of the claim count: no step takes it below that.
-use Rattle.std.specs.Prelude.{◌≡◌, ◌≢◌, ◌⊎◌, ◌≤◌, ℕ, List, [], ◌∷◌, ◌++◌, slice_index}
+use Rattle.std.specs.Prelude.{◌≡◌, ◌≢◌, ◌⊎◌, ◌≤◌, ℕ, List, [], ◌∷◌, ◌++◌, slice_index, None}
 use Rattle.std.proofs.Common.{arith, ap, ◌∙◌, sym, subst, ⊎_elim, set}
 use mathlib.Core.Option.{some}
 use lib.ListN.{get_elem?}
@@ -11,6 +11,10 @@ use Rattle.ipcz_rule.specs.Rule.{HasSeenCounts}
 -- a view has seen no more than before, or one word more, as it was found
 abbrev pub Sees : List ℕ → View → View → Type 0
 Sees words v v' = (v'.seen ≡ v.seen) ⊎ ((i : ℕ) × (v'.seen ≡ v.seen ++ (i, slice_index words i) ∷ []))
+
+-- so it is, and the view has announced nothing
+abbrev pub Silent : List ℕ → View → View → Type 0
+Silent words v v' = (v'.announced ≡ None) × Sees words v v'
 
 -- so it is if the claim count doesn't fall
 pub keeps_counts : (views : List View) (words : List ℕ) (w w' : World) (id : ℕ) (v v' : View) → get_elem? views id ≡ some v → Sees words v v' →

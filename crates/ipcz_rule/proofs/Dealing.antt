@@ -12,6 +12,7 @@ use Rattle.ipcz_rule.specs.declared.view.View.{View}
 use Rattle.ipcz_rule.specs.declared.view.Part.{Part}
 use Rattle.ipcz_rule.specs.Rule.{St, Spells, InParts, Rules, puts_of, gets_of, drops_of}
 use Rattle.ipcz_rule.specs.Start.{head_parts, tail_parts, dealt, after_deal, opening_part, opening_parts}
+use Rattle.ipcz_rule.proofs.Inboxes.{has_not}
 use Rattle.ipcz_rule.proofs.Moved.{only, at_inside}
 use Rattle.ipcz_rule.proofs.Starting.{parts_are}
 
@@ -141,6 +142,16 @@ deals count size id v p ps is others s r at =
             (stays q.node (λ e. t.0 (sym known.0 ∙ (ap r.owner e ∙ mine.0))) ∙ known.0, known.1))
             h)
             (part_came s.views id v p ps at is a b x q seat there);
+      };
+      inboxes = record {
+        full = r.inboxes.full;
+        announced = λ a x k q to seat there says. ⊎_elim
+            (λ (before : get_elem? (set s.views id (after_deal v)) a ≡ some x). ⊎_elim
+            (λ (t : (a ≡ id) × (after_deal v ≡ x)). absurd (has_not (after_deal v) x to refl t.1 says))
+            (λ (t : (a ≢ id) × (get_elem? s.views a ≡ some x)). r.inboxes.announced a x k q to t.1 there says)
+            (at_set s.views id a (after_deal v) x before))
+            (λ (new : dealt v ≡ x). absurd (has_not (dealt v) x to refl new says))
+            (at_snoc (set s.views id (after_deal v)) (dealt v) x a seat);
       };
       joined = record {
         put = λ e n item h. goes s.views id v p ps at is puts_of ((e, n), item) (j.put e n item h);

@@ -1,5 +1,5 @@
 -- Join: a seat takes in the parts of another, and the shown world and books stay.
-use Rattle.std.specs.Prelude.{◌≡◌, ◌≢◌, ◌⊎◌, ℕ, zero, suc, Bool, List, [], ◌∷◌, ◌++◌}
+use Rattle.std.specs.Prelude.{◌≡◌, ◌≢◌, ◌⊎◌, ℕ, zero, suc, Bool, List, [], ◌∷◌, ◌++◌, refl}
 use Rattle.std.proofs.Common.{ap, ◌∙◌, sym, subst, inl, inr, ⊎_elim, set, eq-eqb, ne_eqb, eqb}
 use prog.Atomic.{either}
 use mathlib.Core.Option.{some, some-injective, some-ne-none}
@@ -11,6 +11,7 @@ use Rattle.ipcz_rule.specs.declared.view.View.{View}
 use Rattle.ipcz_rule.specs.declared.view.Part.{Part}
 use Rattle.ipcz_rule.specs.Rule.{St, InParts, Rules, puts_of, gets_of, drops_of}
 use Rattle.ipcz_rule.specs.Kinds.{together, spent, JoinsParts}
+use Rattle.ipcz_rule.proofs.Inboxes.{has_not}
 use Rattle.ipcz_rule.proofs.Moved.{at_inside}
 
 -- if two lists of parts are read together, one of the two was read
@@ -95,6 +96,16 @@ joins count size id v other w s r at apart at_other =
             (λ (z : (i : ℕ) × (get_elem? w.parts i ≡ some q)). let known = r.shows.parts other w z.0 q was_other z.1 in (comes q.node known.0 ∙ sym y.0, known.1))
             (in_both v.parts w.parts b q (subst (λ (z : View). get_elem? z.parts b ≡ some q) (sym y.1) there)))
             (λ (y : (a ≢ id) × (get_elem? s.views a ≡ some x)). let known = r.shows.parts a x b q y.1 there in (moves q.node a known.0 t.0, known.1))
+            (at_set s.views id a (together v w) x t.1))
+            (at_set vs1 other a spent x seat);
+      };
+      inboxes = record {
+        full = r.inboxes.full;
+        announced = λ a x k q to seat there says. ⊎_elim
+            (λ (t : (a ≡ other) × (spent ≡ x)). absurd (has_not spent x to refl t.1 says))
+            (λ (t : (a ≢ other) × (get_elem? vs1 a ≡ some x)). ⊎_elim
+            (λ (y : (a ≡ id) × (together v w ≡ x)). absurd (has_not (together v w) x to refl y.1 says))
+            (λ (y : (a ≢ id) × (get_elem? s.views a ≡ some x)). r.inboxes.announced a x k q to y.1 there says)
             (at_set s.views id a (together v w) x t.1))
             (at_set vs1 other a spent x seat);
       };

@@ -1,5 +1,6 @@
 -- The kinds of step on a table whose link words come back: each out of the rule's own kind, by what is known of who holds which end.
 use Rattle.std.specs.Prelude.{◌≡◌, ◌≢◌, ◌⊎◌, ◌≤◌, ◌<◌, ◌+◌, ◌-◌, ℕ, eqb, bit_and, bit_or, Bool, true, false, ◌&&◌, ◌||◌, nat_eq, if◌then◌else◌, List, [], ◌∷◌, slice_index, Option, Some, None, refl, MatchBool}
+use Rattle.std.specs.Int.{bit_at}
 use Rattle.std.proofs.Common.{arith, ap, ◌∙◌, sym, subst, inl, ⊎_elim, inr}
 use Rattle.std.proofs.lemmas.Bool.Decides.{nat_tests}
 use mathlib.Core.Option.{some}
@@ -39,7 +40,7 @@ use Rattle.ipcz_world.specs.Ranks.{AreTurns}
 use Rattle.ipcz_world.specs.HeldEnds.{IsEndHeld, ByRouter, router_holds, is_spare, lets_go, OneLetsGo}
 use Rattle.ipcz_rule.specs.declared.view.View.{View}
 use Rattle.ipcz_rule.specs.declared.view.Part.{Part}
-use Rattle.ipcz_rule.specs.Rule.{St, Mine, Rules, with_part, saw}
+use Rattle.ipcz_rule.specs.Rule.{St, Mine, Rules, with_part, saw, announcing, forgetting}
 use Rattle.ipcz_rule.specs.Steps.{CanAct, old_word, acted_view, act_part, probe_part, unprobe_part, post_part, look_part, hand_part, trusted}
 use Rattle.ipcz_rule.specs.Kinds.{IsTurns, Acted, turn_where, is_refusal}
 use Rattle.ipcz_slots.specs.Slots.{AreSizes, Laws, Unused}
@@ -202,6 +203,9 @@ behind ends k reuses dirty free looked count limit slots id m i f turns told non
 far : (f : ℕ → ℕ) (i limit count b : ℕ) → i ≡ limit + 1 + count + b → i ≡ limit → (n : ℕ) → f n ≡ n
 far f i limit count b word e n = absurd (omega (arith, e, word))
 
+behind_count : (f : ℕ → ℕ) (i limit to : ℕ) → i ≡ limit + 1 + to → i ≡ limit → (n : ℕ) → f n ≡ n
+behind_count f i limit to word e n = absurd (omega (arith, e, word))
+
 pub slot_kinds : SlotKindsLast
 slot_kinds ends k reuses dirty free looked = (
   (λ old count limit slots id i m p serial rt is can primary. on_slot ends k reuses dirty free looked count limit slots id m i (λ n. bit_or n (stable_bit rt.end.side)) (λ n. (p.node, acts.Router serial router_acts.Mark) ∷ []) (λ n m'. m' ≡ (acted_view i n serial rt.end.side (source_of rt) router_acts.Mark p m.0, m.1)) (λ w n. one_keeps w p.node (acts.Router serial router_acts.Mark) (mark_keeps serial)) (router_lives ends count limit k reuses id i m.0 p serial rt router_acts.Mark is can primary) (old count limit slots id i m p serial rt is can primary)),
@@ -218,7 +222,10 @@ other_kinds ends k reuses dirty free looked = (
   (λ old count limit slots id m p serial rt is can. behind ends k reuses dirty free looked count limit slots id m limit (λ n. n) (λ n. turn_where (eqb n limit) p.node (acts.Router serial router_acts.Claim)) (λ n m'. MatchBool (eqb n limit) (m' ≡ (with_part (act_part (acts.Router serial router_acts.Claim) answers.NoWord p) (saw limit n m.0), m.1)) (m' ≡ (saw limit n m.0, m.1))) (λ again t r t' r' at n g. where_keeps (eqb n limit) r.world p.node (acts.Router serial router_acts.Claim) (claim_keeps serial)) (λ e n. refl) (old count limit slots id m p serial rt is can)),
   (λ old count limit slots id i b to m p is at word low. behind ends k reuses dirty free looked count limit slots id m i (λ n. either (eqb n 0) 3 n) (λ n. []) (λ n m'. MatchBool (eqb n 0) (m' ≡ (with_part (probe_part to p) (saw i n m.0), (b, None) ∷ m.1)) (m' ≡ (saw i n m.0, m.1))) (λ again t r t' r' at n g j s h. h) (far (λ n. either (eqb n 0) 3 n) i limit count b word) (old count limit slots id i b to m p is at word low)),
   (λ old count limit slots id i b to m p rest is at word low has held. behind ends k reuses dirty free looked count limit slots id m i (λ n. 0) (λ n. []) (λ n m'. m' ≡ (with_part (unprobe_part to p) m.0, rest)) (λ again t r t' r' at n g j s h. h) (far (λ n. 0) i limit count b word) (old count limit slots id i b to m p rest is at word low has held)),
-  (λ old count limit slots id i b to m p x rest is at word low has mail post held. behind ends k reuses dirty free looked count limit slots id m i (λ n. 1) (λ n. (p.node, acts.Post to) ∷ []) (λ n m'. m' ≡ (with_part (post_part to p) m.0, rest)) (λ again t r t' r' at n g. one_keeps r.world p.node (acts.Post to) tt) (far (λ n. 1) i limit count b word) (old count limit slots id i b to m p x rest is at word low has mail post held)),
+  (λ old count limit slots id i to bits m p is word low own. behind ends k reuses dirty free looked count limit slots id m i (λ n. bit_or n bits) (λ n. []) (λ n m'. m' ≡ (announcing to m.0, m.1)) (λ again t r t' r' at n g j s h. h) (behind_count (λ n. bit_or n bits) i limit to word) (old count limit slots id i to bits m p is word low own)),
+  (λ old count limit slots id i to m p is word low. behind ends k reuses dirty free looked count limit slots id m i (λ n. n) (λ n. []) (λ n m'. m' ≡ (if eqb (bit_at n p.node) 1 then announcing to m.0 else forgetting m.0, m.1)) (λ again t r t' r' at n g j s h. h) (λ e n. refl) (old count limit slots id i to m p is word low)),
+  (λ old count limit slots id i from kept m p is word hand others. behind ends k reuses dirty free looked count limit slots id m i (λ n. bit_and n kept) (λ n. []) (λ n m'. m' ≡ (forgetting m.0, m.1)) (λ again t r t' r' at n g j s h. h) (behind_count (λ n. bit_and n kept) i limit p.node word) (old count limit slots id i from kept m p is word hand others)),
+  (λ old count limit slots id i b to m p x rest is at word low has told mail post held. behind ends k reuses dirty free looked count limit slots id m i (λ n. 1) (λ n. (p.node, acts.Post to) ∷ []) (λ n m'. m' ≡ (with_part (post_part to p) m.0, rest)) (λ again t r t' r' at n g. one_keeps r.world p.node (acts.Post to) tt) (far (λ n. 1) i limit count b word) (old count limit slots id i b to m p x rest is at word low has told mail post held)),
   (λ old count limit slots id i b from m p is at word low idle. behind ends k reuses dirty free looked count limit slots id m i (λ n. either (eqb n 1) 2 n) (λ n. turn_where (eqb n 1) p.node (acts.Look from)) (λ n m'. MatchBool (eqb n 1) ((x : Message) × (m' ≡ (with_part (look_part from x p) (saw i n m.0), (b, Some x) ∷ m.1))) (m' ≡ (saw i n m.0, m.1))) (λ again t r t' r' at n g. where_keeps (eqb n 1) r.world p.node (acts.Look from) tt) (far (λ n. either (eqb n 1) 2 n) i limit count b word) (old count limit slots id i b from m p is at word low idle)),
   (λ old count limit slots id i b from m p x rest is at word hand message serials held. behind ends k reuses dirty free looked count limit slots id m i (λ n. 0) (λ n. (p.node, acts.Hand from) ∷ []) (λ n m'. m' ≡ (with_part (hand_part from (trusted from x) x p) m.0, rest)) (λ again t r t' r' at n g. one_keeps r.world p.node (acts.Hand from) tt) (far (λ n. 0) i limit count b word) (old count limit slots id i b from m p x rest is at word hand message serials held)),
   (λ old count limit slots id i b from m p s rest is at word hand held. behind ends k reuses dirty free looked count limit slots id m i (λ n. n) (λ n. []) (λ n m'. m' ≡ (saw i n m.0, rest)) (λ again t r t' r' at n g j s h. h) (far (λ n. n) i limit count b word) (old count limit slots id i b from m p s rest is at word hand held)),

@@ -16,6 +16,8 @@ use Rattle.ipcz_rule.proofs.TouchActs.{touch_acts}
 use Rattle.ipcz_rule.proofs.Dropping.{touches_acts_turns}
 use Rattle.ipcz_rule.proofs.Claiming.{claims_turns, loads_for_claim_turns}
 use Rattle.ipcz_rule.proofs.Probing.{probes_turns}
+use Rattle.ipcz_rule.proofs.Announcing.{announces_turns, loads_for_post_turns}
+use Rattle.ipcz_rule.proofs.Clearing.{clears_turns}
 use Rattle.ipcz_rule.proofs.Returning.{unprobes_turns, gives_back_turns}
 use Rattle.ipcz_rule.proofs.Posting.{posts_turns, looks_turns}
 use Rattle.ipcz_rule.proofs.Handling.{hands_turns}
@@ -54,10 +56,13 @@ turns_last = (
         b.1 loads_for_claim_turns,
         b.2 probes_turns,
         b.3 unprobes_turns,
-        b.4 posts_turns,
-        b.5 looks_turns,
-        b.6 hands_turns,
-        b.7 gives_back_turns,
+        b.4 announces_turns,
+        b.5 loads_for_post_turns,
+        b.6 clears_turns,
+        b.7 posts_turns,
+        b.8 looks_turns,
+        b.9 hands_turns,
+        b.10 gives_back_turns,
       )),
   letting_go ends touches_acts_turns,
   leaving ends touches_acts_turns,

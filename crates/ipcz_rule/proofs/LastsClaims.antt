@@ -15,6 +15,7 @@ use Rattle.ipcz_router.specs.declared.act.RouterAct.TheVariants as router_acts
 use Rattle.ipcz_router.specs.declared.act.Answer.TheVariants as answers
 use Rattle.ipcz_node.specs.declared.act.Act.{Act}
 use Rattle.ipcz_node.specs.declared.act.Act.TheVariants as acts
+use Rattle.std.specs.Int.{bit_at}
 use Rattle.ipcz_world.specs.World.{World, node_at, word_at, mail_at, router_at, set_claimed, way, has_unclaimed_word}
 use Rattle.ipcz_world.specs.Routes.{hand_of}
 use Rattle.ipcz_world.specs.Ranks.{AreTurns}
@@ -23,7 +24,7 @@ use Rattle.ipcz_world.specs.WorldLaws.{LawfulStraysNothing}
 use Rattle.ipcz_world.specs.HeldEnds.{IsEndHeld, ByRouter, ByOpen, ByOutbox, ByMailbox, PassingKeepsLawful, passed_over, lose_words}
 use Rattle.ipcz_rule.specs.declared.view.View.{View}
 use Rattle.ipcz_rule.specs.declared.view.Part.{Part}
-use Rattle.ipcz_rule.specs.Rule.{Slot, St, Mine, mailbox, MailAt, Rules, Spells, Shows, with_part, saw}
+use Rattle.ipcz_rule.specs.Rule.{Slot, St, Mine, inbox, mailbox, MailAt, Inboxes, Rules, Spells, Shows, with_part, saw}
 use Rattle.ipcz_world.specs.declared.mail.Mail.{Mail}
 use Rattle.ipcz_rule.specs.Steps.{CanAct, act_part}
 use Rattle.ipcz_rule.specs.Kinds.{IsTurns, Follows, Loads, Claims, turn_where}
@@ -126,6 +127,20 @@ module _ (ends : EndLaws) (passing : PassingKeepsLawful) (strays : LawfulStraysN
     parts = λ id v j p at there. let was = r.shows.parts id v j p at there in (was.0, spells1 p was.1);
   }
 
+  box_way : (a b : ℕ) → slice_index t1.words (mailbox w1 (way w1 a b)) ≡ slice_index t.words (mailbox r.world (way r.world a b))
+  unfolding set_claimed
+  box_way a b = box1 (way r.world a b)
+
+  inbox1 : (to : ℕ) → slice_index t1.words (inbox w1 to) ≡ slice_index t.words (inbox r.world to)
+  unfolding set_claimed
+  inbox1 to = get_or-set_other t.words limit (inbox r.world to) n1 0 (λ e. let z = r.words in omega (arith, z, e))
+
+  inboxes1 : Inboxes t1.words t1.views w1
+  inboxes1 = record {
+    full = λ a b la lb e. ap (λ n. bit_at n a) (inbox1 b) ∙ r.inboxes.full a b (rw (← count_same r.world n1) la) (rw (← count_same r.world n1) lb) (sym (box_way a b) ∙ e);
+    announced = λ id v j p to at there says l has. ap (λ n. bit_at n p.node) (inbox1 to) ∙ r.inboxes.announced id v j p to at there says (rw (← count_same r.world n1) l) has;
+  }
+
   pub passed_rules : Rules count limit t1
   passed_rules = record {
     world = w1;
@@ -135,6 +150,7 @@ module _ (ends : EndLaws) (passing : PassingKeepsLawful) (strays : LawfulStraysN
     nodes = count_same r.world n1 ∙ r.nodes;
     words = size_same r.world n1 ∙ r.words;
     shows = shows1;
+    inboxes = inboxes1;
     joined = r.joined;
     lawful = lawful1;
     lengths = (strays w1 r.books (lose_words r.routes r.world.claimed skip) lawful1).0;

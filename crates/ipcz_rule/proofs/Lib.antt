@@ -1,13 +1,16 @@
 pub mod Acting
 pub mod Adding
+pub mod Announcing
 pub mod Calling
 pub mod Claiming
+pub mod Clearing
 pub mod Counts
 pub mod Dealing
 pub mod Dropping
 pub mod Ending
 pub mod FromLaws
 pub mod Handling
+pub mod Inboxes
 pub mod Joining
 pub mod Joins
 pub mod Known

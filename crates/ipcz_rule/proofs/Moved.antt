@@ -16,7 +16,7 @@ use Rattle.ipcz_world.specs.Lawful.{Lawful}
 use Rattle.ipcz_world.proofs.Whole.{lawful_worlds_stray_nothing}
 use Rattle.ipcz_rule.specs.declared.view.View.{View}
 use Rattle.ipcz_rule.specs.declared.view.Part.{Part}
-use Rattle.ipcz_rule.specs.Rule.{Homes, St, mailbox, MailAt, Spells, Shows, Joined, HaveParts, Rules}
+use Rattle.ipcz_rule.specs.Rule.{Homes, St, mailbox, MailAt, Spells, Shows, Inboxes, Joined, HaveParts, Rules}
 use Rattle.ipcz_rule.proofs.Counts.{Sees, keeps_counts}
 
 pub at_inside : {A : Type 0} (l : List A) (i : ℕ) (a : A) → get_elem? l i ≡ some a → i < length l
@@ -95,9 +95,9 @@ parts_stay views count id v v' p p' at is is' same all node below = let h = all 
 -- the rule after such a step, if the new world is lawful with the new books
 pub ruled : {count size : ℕ} (s : St) (r : Rules count size s) (w' : World) (b' : Books) (g' : Routes) (words : List ℕ) (homes : Homes) (id : ℕ) (v v' : View) (p p' : Part) →
     get_elem? s.views id ≡ some v → v.parts ≡ p ∷ [] → v'.parts ≡ p' ∷ [] → Sees s.words v v' → Moves s r.world w' words homes p p' →
-    Joined (set s.views id v') b' → Lawful w' b' g' →
+    Inboxes words (set s.views id v') w' → Joined (set s.views id v') b' → Lawful w' b' g' →
     Rules count size record { words = words; homes = homes; views = set s.views id v' }
-ruled {count} s r w' b' g' words homes id v v' p p' at is is' sight m joined lawful = record {
+ruled {count} s r w' b' g' words homes id v v' p p' at is is' sight m inboxes joined lawful = record {
   world = w';
   books = b';
   routes = g';
@@ -105,6 +105,7 @@ ruled {count} s r w' b' g' words homes id v v' p p' at is is' sight m joined law
   nodes = m.count ∙ r.nodes;
   words = m.size ∙ r.words;
   shows = shown s r.world w' r.owner words homes id v v' p p' r.shows at is is' m;
+  inboxes = inboxes;
   joined = joined;
   lawful = lawful;
   lengths = (lawful_worlds_stray_nothing w' b' g' lawful).0;
@@ -117,10 +118,10 @@ ruled {count} s r w' b' g' words homes id v v' p p' at is is' sight m joined law
 -- the rule after it, with what is known of the world that is shown then
 pub ruled_with : {count size : ℕ} (s : St) (r : Rules count size s) (w' : World) (b' : Books) (g' : Routes) (words : List ℕ) (homes : Homes) (id : ℕ) (v v' : View) (p p' : Part) →
     get_elem? s.views id ≡ some v → v.parts ≡ p ∷ [] → v'.parts ≡ p' ∷ [] → Sees s.words v v' → Moves s r.world w' words homes p p' →
-    Joined (set s.views id v') b' → Lawful w' b' g' → (G : World → Books → Routes → Type 0) → G w' b' g' →
+    Inboxes words (set s.views id v') w' → Joined (set s.views id v') b' → Lawful w' b' g' → (G : World → Books → Routes → Type 0) → G w' b' g' →
     (r' : Rules count size record { words = words; homes = homes; views = set s.views id v' }) × G r'.world r'.books r'.routes
 unfolding ruled
-ruled_with s r w' b' g' words homes id v v' p p' at is is' sight m joined lawful G known = (ruled s r w' b' g' words homes id v v' p p' at is is' sight m joined lawful, known)
+ruled_with s r w' b' g' words homes id v v' p p' at is is' sight m inboxes joined lawful G known = (ruled s r w' b' g' words homes id v v' p p' at is is' sight m inboxes joined lawful, known)
 
 -- if the words stay, so do their sources
 pub keeps_sources : (w w' : World) → ((i : ℕ) → word_at w' i ≡ word_at w i) → ((i : ℕ) → HasNode (word_at w i).source) → (i : ℕ) → HasNode (word_at w' i).source

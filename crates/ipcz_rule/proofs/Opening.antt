@@ -12,15 +12,16 @@ use Rattle.ipcz_word.specs.Word.{Word}
 use Rattle.ipcz_word.specs.Laws.{HasNode}
 use Rattle.ipcz_word.specs.Layout.{source_bits, sets_bits, bits_of}
 use Rattle.ipcz_node.specs.Node.{Node}
-use Rattle.ipcz_world.specs.World.{World, node_at, word_at, set_node, set_word}
+use Rattle.ipcz_world.specs.World.{World, node_at, word_at, way, set_node, set_word}
 use Rattle.ipcz_world.specs.Lawful.{Lawful}
 use Rattle.ipcz_world.proofs.frames.Frames.{node-set_node, node-set_word, word-set_node, word-set_word, mail-set_node, mail-set_word, claimed-set_node, claimed-set_word, size-set_node, size-set_word, count-set_node, count-set_word}
 use Rattle.ipcz_world.proofs.Whole.{each_step_keeps_lawful}
 use Rattle.ipcz_rule.specs.declared.view.View.{View}
 use Rattle.ipcz_rule.specs.declared.view.Part.{Part}
-use Rattle.ipcz_rule.specs.Rule.{St, mailbox, Rules, with_part, with_state, saw}
-use Rattle.ipcz_rule.proofs.Counts.{Sees}
+use Rattle.ipcz_rule.specs.Rule.{St, inbox, mailbox, Rules, with_part, with_state, saw}
+use Rattle.ipcz_rule.proofs.Counts.{Silent}
 use Rattle.ipcz_rule.proofs.Moved.{ruled_with, spelled, named_beside}
+use Rattle.ipcz_rule.proofs.Inboxes.{inboxes_stay}
 use Rattle.ipcz_rule.proofs.Touches.{NodeMoves, others_spell, own_spells, mails_show}
 use Rattle.ipcz_rule.proofs.Joins.{joined_same}
 use Rattle.std.specs.Prelude.{nat_lt, if◌then◌else◌}
@@ -79,7 +80,7 @@ open_named = tt
 
 module _ (count size : ℕ) (s : St) (r : Rules count size s) (id : ℕ) (v v' : View) (p : Part) (i n' : ℕ)
     (at : get_elem? s.views id ≡ some v) (is : v.parts ≡ p ∷ []) (opening : p.state.opening ≡ Some i) (fine : serials_refusal p.state ≡ None) (inside : i < size)
-    (new : n' ≡ bits_of open_word) (is' : v'.parts ≡ with_state (open_node p.state i) p ∷ []) (sight : Sees s.words v v') where
+    (new : n' ≡ bits_of open_word) (is' : v'.parts ≡ with_state (open_node p.state i) p ∷ []) (sight : Silent s.words v v') where
   abbrev w : World
   w = r.world
 
@@ -131,7 +132,7 @@ module _ (count size : ℕ) (s : St) (r : Rules count size s) (id : ℕ) (v v' :
   open_rules =
       let sp = spelled s r id v p at is in
       let moves = open_moves w i open_word p.node p'.state in
-      ruled_with s r w' r.books g' (set s.words i n') s.homes id v v' p p' at is is' sight (record {
+      ruled_with s r w' r.books g' (set s.words i n') s.homes id v v' p p' at is is' sight.1 (record {
         count = moves.count;
         size = moves.size;
         wide = length-set s.words i n';
@@ -144,7 +145,8 @@ module _ (count size : ℕ) (s : St) (r : Rules count size s) (id : ℕ) (v v' :
         node = refl;
         own = own_spells s w w' (set s.words i n') p.node p'.state moves boxes p p' refl refl refl refl refl refl sp;
         others = others_spell s w w' (set s.words i n') p.node p'.state moves boxes;
-      }) (joined_same s.views id v v' p p' r.books at is is' refl refl refl r.joined) lawful (λ u b g. KeepsEnds true w u) keeps_ends
+      }) (inboxes_stay s r w' (set s.words i n') id v' moves.count moves.size sight.0 (λ to l. get_or-set_other s.words i (inbox w to) n' 0 (λ e. let q = below in omega arith)) (λ from to lf lt e. inl (sym (boxes (way w from to)) ∙ e)))
+      (joined_same s.views id v v' p p' r.books at is is' refl refl refl r.joined) lawful (λ u b g. KeepsEnds true w u) keeps_ends
 
 -- open: the own new word goes from 0 to that of an open pair
 opens_all : Opens (IsKept true)
@@ -157,7 +159,7 @@ opens_all count size slots id i m p is opening fine s r deep at small =
     let zero_here : n ≡ 0 = r.shows.links i (rw r.words inside) ∙ ap bits_of empty ∙ empty_bits in
     let v' = with_part (open_part i p) (saw i n m.0) in
     let G : Bool → Type 0 = λ b. (r' : Rules count size (stepped s i (either b (bits_of open_word) n) id m.1 v' keeps)) × KeepsEnds true r.world r'.world in
-    (v', keeps, tt, subst G (sym (eq-eqb n 0 zero_here)) (open_rules count size s r id m.0 v' p i (bits_of open_word) at is opening fine inside refl refl (inr (i, refl))), (zero_here, refl))
+    (v', keeps, tt, subst G (sym (eq-eqb n 0 zero_here)) (open_rules count size s r id m.0 v' p i (bits_of open_word) at is opening fine inside refl refl (refl, inr (i, refl))), (zero_here, refl))
 
 pub opens : (all : Bool) → Opens (IsKept all)
 opens all count size slots id i m p is opening fine =

@@ -1,5 +1,6 @@
 -- Post, look and handle: the kinds of step on a mailbox by which the shown world moves.
 use Rattle.std.specs.Prelude.{◌≡◌, ◌≢◌, ◌<◌, ◌+◌, ◌*◌, ℕ, zero, suc, Bool, true, false, cond, nat_eq, nat_lt, ◌||◌, List, [], ◌∷◌, length, slice_index, Some, None, is_some, refl, MatchBool}
+use Rattle.std.specs.Int.{bit_at}
 use Rattle.std.proofs.Common.{arith, ap, ◌∙◌, sym, inl, inr, subst, set, length-set, get_or-set_same, get_or-set_other, eqb, eqb-true}
 use Rattle.std.proofs.lemmas.Bool.Decides.{nat_tests}
 use prog.Atomic.{either}
@@ -29,7 +30,7 @@ use Rattle.ipcz_world.specs.Books.{Books, advance, after_turn}
 use Rattle.ipcz_world.specs.Routes.{Routes, routes_after, hand_of}
 use Rattle.ipcz_rule.specs.declared.view.View.{View}
 use Rattle.ipcz_rule.specs.declared.view.Part.{Part}
-use Rattle.ipcz_rule.specs.Rule.{Slot, St, Mine, has_number, without_number, mailbox, MailAt, Spells, Rules, with_part, saw}
+use Rattle.ipcz_rule.specs.Rule.{Slot, St, Mine, has_number, without_number, inbox, mailbox, MailAt, Spells, Rules, with_part, saw}
 use Rattle.ipcz_rule.specs.Steps.{post_part, look_part}
 use Rattle.ipcz_rule.specs.Kinds.{Follows, IsKept, IsTurns, turn_where, Posts, Looks}
 use Rattle.ipcz_rule.proofs.KeptEnds.{turns_keep}
@@ -160,7 +161,7 @@ three_stays ws i n' z l same = dite (ℕ_discrete z i)
 
 -- post: the message leaves the outbox, and the slot goes home with it
 pub posts_turns : Posts IsTurns
-posts_turns count size slots id i k to m p x rest is at_k at_i small_to has full first slot s r deep at small =
+posts_turns count size slots id i k to m p x rest is at_k at_i small_to has told full first slot s r deep at small =
     let w = r.world in
     let n : ℕ = p.node in
     let sp = spelled s r id m.0 p at is in
@@ -189,7 +190,7 @@ posts_turns count size slots id i k to m p x rest is at_k at_i small_to has full
     λ q sq from e same. no_hand (mail_at w (way w from q.node)) (ap (mail_at w) same ∙ empty) (hand_stands w r.books r.routes q.node from r.lawful sq.inside (ap (λ y. y.hand) sq.state ∙ e)) in
     let homes' = set s.homes k (some (Some x)) in
     let long : i < length s.words = omega (arith, index, inside, wide) in
-    let rules = mail_rules count size s r id m.0 (with_part p' m.0) p p' w' g' i k 1 homes' (mails.Full x) at is refl (inl refl) moves index inside (length-set s.homes k (some (Some x)))
+    let rules = mail_rules count size s r id m.0 (with_part p' m.0) p p' w' g' i k 1 homes' (mails.Full x) at is refl (refl, inl refl) moves index inside (length-set s.homes k (some (Some x)))
     (λ j ne. set_else s.homes k j (some (Some x)) ne) (x, set_here s.homes k (some (Some x)) (omega (arith, inside, deep_is)), refl) refl r.books (joined_same s.views id m.0 (with_part p' m.0) p p' r.books at is refl refl refl refl r.joined)
     (ap (hand_of w' n) (post_hand p.state to) ∙ (same_hand w w' n p.state.hand moves.count (λ from e. moves.mails (way w from n) (not_hand p sp from e)) ∙ sp.message))
     (λ t l. dite (ℕ_discrete t to)
@@ -199,14 +200,19 @@ posts_turns count size slots id i k to m p x rest is at_k at_i small_to has full
     (λ e. way_second w.count n n t to l to_in ne (omega (arith, e, index, kk))))))))
     (λ q sq ne from e. not_hand q sq from e)
     (λ q ne t l e. absurd (way_first w.count q.node n t to l to_in ne (e ∙ kk)))
+    (λ e a b la lb same. dite (ℕ_discrete a n)
+    (λ f. dite (ℕ_discrete b to)
+    (λ t. subst (λ q. bit_at (slice_index s.words (inbox w q)) a ≡ 1) (sym t) (ap (bit_at (slice_index s.words (inbox w to))) f ∙ r.inboxes.announced id m.0 0 p to at (ap (λ (l : List Part). get_elem? l 0) is) told to_in has))
+    (λ ne. absurd (way_second w.count a n b to lb to_in ne (same ∙ kk))))
+    (λ ne. absurd (way_first w.count a n b to lb to_in ne (same ∙ kk))))
     done.0 ((n, node_acts.Post to) ∷ []) done.1 in
     let Told : Mine → Type 0 = λ m'. m' ≡ (with_part p' m.0, rest) in
     let G : List (ℕ × Slot) → Type 0 = λ held. (v : View) × (a : TableAct Slot) × Valid s.homes held a × Follows count size s r ((n, node_acts.Post to) ∷ []) (stepped s i 1 id held v a) × Told (v, carried_after held a) in
     subst G (sym slot) (with_part p' m.0, gives, tt, rules, refl)
 
 pub posts : (all : Bool) → Posts (IsKept all)
-posts all count size slots id i k to m p x rest is at_k at_i small_to has full first slot s r deep at small =
-    let t = posts_turns count size slots id i k to m p x rest is at_k at_i small_to has full first slot s r deep at small in (t.0, t.1, t.2, turns_keep all count size s _ r ((p.node, node_acts.Post to) ∷ []) (λ e. one_keeps r.world p.node (node_acts.Post to) tt) t.3, t.4)
+posts all count size slots id i k to m p x rest is at_k at_i small_to has told full first slot s r deep at small =
+    let t = posts_turns count size slots id i k to m p x rest is at_k at_i small_to has told full first slot s r deep at small in (t.0, t.1, t.2, turns_keep all count size s _ r ((p.node, node_acts.Post to) ∷ []) (λ e. one_keeps r.world p.node (node_acts.Post to) tt) t.3, t.4)
 
 module _ (count size slots id i k from : ℕ) (m : Mine) (p : Part) (is : m.0.parts ≡ p ∷ []) (at_k : k ≡ from * count + p.node) (at_i : i ≡ size + 1 + count + k) (small_from : from < count)
     (idle : p.state.hand ≡ None) (s : St) (r : Rules count size s) (at : get_elem? s.views id ≡ some m.0) (x : Message) where
@@ -235,13 +241,13 @@ module _ (count size slots id i k from : ℕ) (m : Mine) (p : Part) (is : m.0.pa
       (subst (λ u. Kept u r.books) (look_after w n from p.state x sp.state full') (subst (Kept (after_act w n (node_acts.Look from))) (look_written w r.books n from) kept)) in
       let long : i < length s.words = omega (arith, index, inside, wide) in
       let same_three : nat_eq (slice_index s.words i) 3 ≡ nat_eq 2 3 = ap (λ q. nat_eq q 3) one in
-      mail_rules count size s r id m.0 (with_part p' (saw i (slice_index s.words i) m.0)) p p' w' g' i k 2 (set s.homes k none) (mails.Hand x) at is refl (inr (i, refl)) moves index inside (length-set s.homes k none)
+      mail_rules count size s r id m.0 (with_part p' (saw i (slice_index s.words i) m.0)) p p' w' g' i k 2 (set s.homes k none) (mails.Hand x) at is refl (refl, inr (i, refl)) moves index inside (length-set s.homes k none)
       (λ j ne. set_else s.homes k j none ne) (x, refl) refl r.books (joined_same s.views id m.0 (with_part p' (saw i (slice_index s.words i) m.0)) p p' r.books at is refl refl refl refl r.joined)
       (ap (hand_of w' n) (look_hand p.state from) ∙ found w' n from x k (kk ∙ ap (λ q. from * q + n) (sym moves.count)) moves.mail)
       (λ t l. sp.probed t l ∙ three_stays s.words i 2 (mailbox w (way w n t)) long same_three)
       (λ q sq ne a e same. way_second w.count a from q.node n sq.inside n_in ne (same ∙ kk))
       (λ q ne t l e. same_three)
-      done.0 ((n, node_acts.Look from) ∷ []) done.1
+      (λ e a b la lb same. absurd (omega (arith, e))) done.0 ((n, node_acts.Look from) ∷ []) done.1
     where
       found : (w' : World) (n from : ℕ) (x : Message) (k : ℕ) → k ≡ way w' from n → mail_at w' k ≡ mails.Hand x → hand_of w' n (Some from) ≡ Some x
       found w' n from x k e h = found_hand w' n from x (ap (mail_at w') (sym e) ∙ h)
@@ -269,7 +275,7 @@ module _ (count size slots id i k from : ℕ) (m : Mine) (p : Part) (is : m.0.pa
       let kk : k ≡ from * w.count + p.node = at_k ∙ ap (λ q. from * q + p.node) (sym c) in omega (arith, kk) in
       let shown : MailAt 1 (get_elem? s.homes k) (mail_at w k) = subst (λ q. MailAt q (get_elem? s.homes k) (mail_at w k)) (ap (slice_index s.words) (sym index) ∙ one) (r.shows.mail k inside) in
       (with_part (look_part from shown.0 p) (saw i n m.0), takes k (Some shown.0), shown.1, taken count size slots id i k from m p is at_k at_i small_from idle s r at shown.0 one shown.1 shown.2, (shown.0, refl))
-  looks_by false e = (saw i n m.0, keeps, tt, sees s r i id m.0 (saw i n m.0) p at is is (inr (i, refl)), refl)
+  looks_by false e = (saw i n m.0, keeps, tt, sees s r i id m.0 (saw i n m.0) p at is is (refl, inr (i, refl)), refl)
 
   pub looked : F (eqb n 1)
   looked = looks_by (eqb n 1) refl

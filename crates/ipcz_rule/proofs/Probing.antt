@@ -57,7 +57,7 @@ module _ (count size id i k to : ℕ) (m : Mine) (p : Part) (is : m.0.parts ≡ 
         v',
         takes k None,
         shown.0,
-        mail_rules count size s r id m.0 v' p p' w r.routes i k 3 (set s.homes k none) mails.Empty at is refl (inr (i, refl)) moves index inside (length-set s.homes k none)
+        mail_rules count size s r id m.0 v' p p' w r.routes i k 3 (set s.homes k none) mails.Empty at is refl (refl, inr (i, refl)) moves index inside (length-set s.homes k none)
             (λ j ne. set_else s.homes k j none ne) refl refl r.books (joined_same s.views id m.0 v' p p' r.books at is refl refl refl refl r.joined) sp.message
             (λ t l. dite (ℕ_discrete t to)
             (λ h. let itself : nat_eq t to ≡ true = grind (arith, h, nat_tests) in ap (λ b. b || has_number p.probed t) itself ∙ sym (ap (λ q. nat_eq q 3)
@@ -66,10 +66,10 @@ module _ (count size id i k to : ℕ) (m : Mine) (p : Part) (is : m.0.parts ≡ 
             (λ h. way_second w.count p.node p.node t to l to_in ne (omega (arith, h, index, kk))))))))
             (λ q sq ne from h. not_hand q sq from h)
             (λ q ne t l h. absurd (way_first w.count q.node p.node t to l to_in ne (h ∙ kk)))
-            r.lawful [] (refl, refl, refl),
+            (λ e a b la lb same. absurd (omega (arith, e))) r.lawful [] (refl, refl, refl),
         refl,
       )
-  probes_by false e = (saw i n m.0, keeps, tt, sees s r i id m.0 (saw i n m.0) p at is is (inr (i, refl)), refl)
+  probes_by false e = (saw i n m.0, keeps, tt, sees s r i id m.0 (saw i n m.0) p at is is (refl, inr (i, refl)), refl)
 
   pub probed_mail : F (eqb n 0)
   probed_mail = probes_by (eqb n 0) refl

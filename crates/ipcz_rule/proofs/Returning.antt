@@ -48,7 +48,7 @@ unprobes_turns count size slots id i k to m p rest is at_k at_i small_to has slo
     λ q sq from e same. no_hand (mail_at w (way w from q.node)) (ap (mail_at w) same ∙ empty) (hand_stands w r.books r.routes q.node from r.lawful sq.inside (ap (λ y. y.hand) sq.state ∙ e)) in
     let homes' = set s.homes k (some None) in
     let long : i < length s.words = omega (arith, index, inside, wide) in
-    let rules = mail_rules count size s r id m.0 (with_part p' m.0) p p' w r.routes i k 0 homes' mails.Empty at is refl (inl refl) moves index inside (length-set s.homes k (some None))
+    let rules = mail_rules count size s r id m.0 (with_part p' m.0) p p' w r.routes i k 0 homes' mails.Empty at is refl (refl, inl refl) moves index inside (length-set s.homes k (some None))
     (λ j ne. set_else s.homes k j (some None) ne) (set_here s.homes k (some None) (omega (arith, inside, deep_is)), refl) refl r.books (joined_same s.views id m.0 (with_part p' m.0) p p' r.books at is refl refl refl refl r.joined)
     sp.message
     (λ t l. dite (ℕ_discrete t to)
@@ -58,7 +58,7 @@ unprobes_turns count size slots id i k to m p rest is at_k at_i small_to has slo
     (λ e. way_second w.count n n t to l to_in ne (omega (arith, e, index, kk))))))))
     (λ q sq ne from e. not_hand q sq from e)
     (λ q ne t l e. absurd (way_first w.count q.node n t to l to_in ne (e ∙ kk)))
-    r.lawful [] (refl, refl, refl) in
+    (λ e a b la lb same. absurd (omega (arith, e))) r.lawful [] (refl, refl, refl) in
     let Told : Mine → Type 0 = λ m'. m' ≡ (with_part p' m.0, rest) in
     let G : List (ℕ × Slot) → Type 0 = λ held. (v : View) × (a : TableAct Slot) × Valid s.homes held a × Follows count size s r [] (stepped s i 0 id held v a) × Told (v, carried_after held a) in
     subst G (sym slot) (with_part p' m.0, gives, tt, rules, refl)
@@ -68,7 +68,7 @@ unprobes all count size slots id i k to m p rest is at_k at_i small_to has slot 
     let t = unprobes_turns count size slots id i k to m p rest is at_k at_i small_to has slot s r deep at small in (t.0, t.1, t.2, turns_keep all count size s _ r [] (λ e j side g. g) t.3, t.4)
 
 -- a mailbox at 2 shows its mail whatever its slot
-any_home : (n : ℕ) (home other : maybe.Option (maybe.Option Slot)) (x : Mail) → is_some (hand_message x) ≡ true → MailAt n home x → (n ≡ 2) × MailAt n other x
+pub any_home : (n : ℕ) (home other : maybe.Option (maybe.Option Slot)) (x : Mail) → is_some (hand_message x) ≡ true → MailAt n home x → (n ≡ 2) × MailAt n other x
 unfolding hand_message
 any_home zero home other x h e = absurd (no_hand x e.1 h)
 any_home (suc zero) home other x h e = absurd (full x e.0 e.2 h)
@@ -103,13 +103,13 @@ gives_back_turns count size slots id i k from m p y rest is at_k at_i holds slot
     let long : i < length s.words = omega (arith, index, inside, wide) in
     let v' = saw i word m.0 in
     let at_word : MailAt word (get_elem? homes' k) (mail_at w k) = subst (λ q. MailAt (slice_index s.words q) (get_elem? homes' k) (mail_at w k)) (sym index) shown.1 in
-    let rules = mail_rules count size s r id m.0 v' p p w r.routes i k word homes' (mail_at w k) at is is (inr (i, refl)) moves index inside (length-set s.homes k (some y))
+    let rules = mail_rules count size s r id m.0 v' p p w r.routes i k word homes' (mail_at w k) at is is (refl, inr (i, refl)) moves index inside (length-set s.homes k (some y))
     (λ j ne. set_else s.homes k j (some y) ne) at_word refl r.books (joined_same s.views id m.0 v' p p r.books at is is refl refl refl r.joined)
     sp.message
     (λ t l. sp.probed t l ∙ three_stays s.words i word (mailbox w (way w n t)) long refl)
     (λ q sq ne a e same. way_second w.count a from q.node n sq.inside n_in ne (same ∙ kk))
     (λ q ne t l e. refl)
-    r.lawful [] (refl, refl, refl) in
+    (λ e a b la lb same. r.inboxes.full a b la lb (ap (slice_index s.words) (ap (mailbox w) same ∙ sym index) ∙ e)) r.lawful [] (refl, refl, refl) in
     let Told : Mine → Type 0 = λ m'. m' ≡ (v', rest) in
     let G : List (ℕ × Slot) → Type 0 = λ held. (v : View) × (a : TableAct Slot) × Valid s.homes held a × Follows count size s r [] (stepped s i word id held v a) × Told (v, carried_after held a) in
     subst G (sym slot) (v', gives, tt, rules, refl)

@@ -1,5 +1,5 @@
 -- What the rule says of the world that is shown and of each part.
-use Rattle.std.specs.Prelude.{◌≡◌, ◌≤◌, ◌<◌, ℕ, zero, suc, List, [], ◌∷◌, length, map, take, slice_get, slice_index, Option, Some, refl}
+use Rattle.std.specs.Prelude.{◌≡◌, ◌≤◌, ◌<◌, ◌+◌, ◌*◌, ℕ, zero, suc, List, [], ◌∷◌, length, map, take, slice_get, slice_index, Option, Some, refl}
 use Rattle.std.proofs.Common.{arith, ap, ◌∙◌, sym, subst}
 use mathlib.Core.Option.{some}
 use lib.ListN.{get_elem?}
@@ -7,7 +7,9 @@ use Rattle.ipcz_base.specs.declared.item.Item.TheVariants.{Parcel}
 use Rattle.ipcz_base.specs.Ends.{opposite_end}
 use Rattle.ipcz_node.specs.Node.{Node}
 use Rattle.ipcz_node.specs.Hands.{is_unfit}
-use Rattle.ipcz_world.specs.World.{World, node_at}
+use Rattle.std.specs.Int.{bit_at}
+use Rattle.ipcz_rule.specs.Rule.{mailbox}
+use Rattle.ipcz_world.specs.World.{World, node_at, way}
 use Rattle.ipcz_world.specs.WordAnswers.{source_for}
 use Rattle.ipcz_world.specs.Turns.{message_in_hand}
 use Rattle.ipcz_world.specs.Routes.{hand_of}
@@ -16,7 +18,7 @@ use Rattle.ipcz_world.proofs.Whole.{lawful_worlds_give_the_headline, lawful_worl
 use Rattle.ipcz_world.proofs.Whole.{each_step_keeps_lawful, replies_plainly}
 use Rattle.ipcz_world.proofs.lawful.Rating.{turns_keep_rates}
 use Rattle.ipcz_world.proofs.lawful.Turning.{turns_are_bounded}
-use Rattle.ipcz_rule.specs.RuleLaws.{RuleGivesHeadline, RuleOwes, RuleBoundsTurns, ShownHasLengths, PartsAreSound, PartsHandsFit, LinksAreWords, CountsWereReached, NodesHaveParts, PutsAreOnce, GetsFollowPuts}
+use Rattle.ipcz_rule.specs.RuleLaws.{FullMailboxesAreAnnounced, RuleGivesHeadline, RuleOwes, RuleBoundsTurns, ShownHasLengths, PartsAreSound, PartsHandsFit, LinksAreWords, CountsWereReached, NodesHaveParts, PutsAreOnce, GetsFollowPuts}
 use Rattle.ipcz_rule.proofs.Known.{sound_spelled, no_strays, found_word}
 use Rattle.ipcz_rule.specs.Steps.{trusted}
 use Rattle.ipcz_rule.proofs.FromLaws.{hand_sender, hand_source}
@@ -32,6 +34,14 @@ pub rule_bounds_turns : RuleBoundsTurns
 rule_bounds_turns count size s r c turns v d h rated taken =
     turns_are_bounded each_step_keeps_lawful (turns_keep_rates each_step_keeps_lawful replies_plainly) r.world v r.books d r.routes h c turns
     r.lawful rated taken
+
+pub full_mailboxes_are_announced : FullMailboxesAreAnnounced
+full_mailboxes_are_announced count size s r from to from_in to_in full =
+    let c = r.nodes in
+    let z = r.words in
+    let box : mailbox r.world (way r.world from to) ≡ size + 1 + count + (from * count + to) = rw (c, z) refl in
+    ap (λ (i : ℕ). bit_at (slice_index s.words i) from) (sym (ap (λ (q : ℕ). q + 1 + to) z))
+    ∙ r.inboxes.full from to (omega (arith, c, from_in)) (omega (arith, c, to_in)) (ap (slice_index s.words) box ∙ full)
 
 pub shown_has_lengths : ShownHasLengths
 shown_has_lengths count size s r = lists_have_lengths r.world r.books r.routes r.lawful

@@ -1,5 +1,5 @@
 -- The table at the start shows the world at the start, which is lawful with empty books.
-use Rattle.std.specs.Prelude.{◌≡◌, ◌<◌, ◌+◌, ◌-◌, ◌*◌, ℕ, zero, suc, Bool, true, false, nat_eq, if◌then◌else◌, List, [], ◌∷◌, ◌++◌, map, length, replicate, slice_index, None, refl}
+use Rattle.std.specs.Prelude.{◌≡◌, ◌<◌, ◌+◌, ◌-◌, ◌*◌, ℕ, zero, suc, Bool, true, false, nat_eq, if◌then◌else◌, List, [], ◌∷◌, ◌++◌, map, length, replicate, slice_index, Some, None, refl}
 use Rattle.std.proofs.Common.{arith, ap, ◌∙◌, sym, subst, get_or}
 use Rattle.std.proofs.lemmas.List.{length-append, length-replicate, length-map}
 use mathlib.Core.Option.{some, some-injective, some-ne-none}
@@ -22,6 +22,7 @@ use Rattle.ipcz_world.specs.Soundness.{IsSound}
 use Rattle.ipcz_world.proofs.Whole.{world_starts_lawful, lawful_worlds_stray_nothing, nodes_are_sound}
 use Rattle.ipcz_rule.specs.declared.view.View.{View}
 use Rattle.ipcz_rule.specs.declared.view.Part.{Part}
+use Rattle.ipcz_rule.proofs.Inboxes.{has_not}
 use Rattle.ipcz_rule.specs.Rule.{Slot, MailAt, Spells, InParts, Joined, Rules, puts_of, gets_of, drops_of}
 use Rattle.ipcz_rule.specs.Start.{opening_words, opening_part, opening_parts, opening_view, no_messages}
 
@@ -208,6 +209,10 @@ module _ (count size : ℕ) (limits : IsWithinLimits count size) where
   claims : slice_index words size ≡ pairs
   claims = let e : size ≡ size + 0 = omega arith in ap (λ n. get_or words n 0) e ∙ behind_links 0
 
+  none_announced : (id : ℕ) (v : View) (to : ℕ) → get_elem? (opening_view count ∷ []) id ≡ some v → v.announced ≡ Some to → ⊥
+  none_announced zero v to at says = has_not (opening_view count) v to refl (some-injective (opening_view count) v at) says
+  none_announced (suc id) v to at says = some-ne-none v (sym at)
+
   -- the rule holds of the table at the start
   pub opens : Rules count size (opening words (no_messages (count * count)) (opening_view count))
   unfolding new_world
@@ -225,6 +230,10 @@ module _ (count size : ℕ) (limits : IsWithinLimits count size) where
       claims = claims;
       mail = mail_there;
       parts = all_spell;
+    };
+    inboxes = record {
+      full = λ a b la lb e. absurd (let z = mail_zero (way w a b) in omega (arith, z, e));
+      announced = λ id v j p to at there says. absurd (none_announced id v to at says);
     };
     joined = joined;
     lawful = law;

@@ -1,6 +1,6 @@
 -- Steps on the word of a link: mark, wake, lock, wait, unlock, and loads of it.
 use Rattle.std.specs.Prelude.{◌≡◌, ◌<◌, ℕ, Bool, true, false, cond, nat_eq, List, [], ◌∷◌, length, slice_index, Option, Some, refl, MatchBool}
-use Rattle.std.proofs.Common.{arith, ap, ◌∙◌, sym, inr, subst, set, length-set, get_or-set_same, get_or-set_other}
+use Rattle.std.proofs.Common.{inl, arith, ap, ◌∙◌, sym, inr, subst, set, length-set, get_or-set_same, get_or-set_other}
 use Rattle.std.proofs.lemmas.Bool.Decides.{nat_tests}
 use Rattle.std.proofs.lemmas.List.{set-get_or}
 use mathlib.Core.Option.{some}
@@ -20,18 +20,19 @@ use Rattle.ipcz_node.specs.declared.act.Act.TheVariants.{Router as OfRouter}
 use Rattle.ipcz_node.specs.Node.{Node}
 use Rattle.ipcz_node.specs.Acts.{commit}
 use Rattle.ipcz_world.specs.Coding.{IsLinkNumber}
-use Rattle.ipcz_world.specs.World.{World, node_at, word_at, set_node, set_word}
+use Rattle.ipcz_world.specs.World.{World, node_at, word_at, way, set_node, set_word}
 use Rattle.ipcz_world.specs.WordAnswers.{word_answer, word_after}
 use Rattle.ipcz_world.specs.Ranks.{AreTurns}
 use Rattle.ipcz_world.proofs.frames.Frames.{node-set_node, node-set_word, word-set_node, word-set_word, mail-set_node, mail-set_word, claimed-set_node, claimed-set_word, size-set_node, size-set_word, count-set_node, count-set_word}
 use Rattle.ipcz_rule.specs.declared.view.View.{View}
 use Rattle.ipcz_rule.specs.declared.view.Part.{Part}
-use Rattle.ipcz_rule.specs.Rule.{Slot, St, Mine, mailbox, Rules, with_part, saw}
+use Rattle.ipcz_rule.specs.Rule.{Slot, St, Mine, inbox, mailbox, Rules, with_part, saw}
 use Rattle.ipcz_rule.specs.Steps.{CanAct, is_on_word}
-use Rattle.ipcz_rule.proofs.Counts.{Sees}
+use Rattle.ipcz_rule.proofs.Counts.{Silent}
 use Rattle.ipcz_rule.proofs.Known.{sound_part, named_part, found_word}
 use Rattle.ipcz_rule.specs.Kinds.{Follows, IsTurns, turn_where}
 use Rattle.ipcz_rule.proofs.Moved.{ruled_with, spelled, named_beside}
+use Rattle.ipcz_rule.proofs.Inboxes.{inboxes_stay}
 use Rattle.ipcz_rule.proofs.Touches.{NodeMoves, others_spell, own_spells, mails_show}
 use Rattle.ipcz_rule.proofs.Joins.{joined_same}
 use Rattle.ipcz_rule.proofs.Touching.{After}
@@ -65,7 +66,7 @@ named_after x s o other old new = old
 
 module _ (count size : ℕ) (s : St) (r : Rules count size s) (id : ℕ) (v v' : View) (p : Part) (serial : ℕ) (rt : Router) (act : RouterAct) (i n' : ℕ)
     (at : get_elem? s.views id ≡ some v) (is : v.parts ≡ p ∷ []) (can : CanAct p.state serial rt act) (on : is_on_word act ≡ true) (primary : primary_word rt ≡ Some i) (inside : i < size)
-    (new : n' ≡ bits_of (word_after (word_at r.world i) rt.end.side (source_of rt) act)) (is' : v'.parts ≡ plain_part serial act (word_answer (word_at r.world i) rt.end.side (source_of rt) act) p ∷ []) (sight : Sees s.words v v') where
+    (new : n' ≡ bits_of (word_after (word_at r.world i) rt.end.side (source_of rt) act)) (is' : v'.parts ≡ plain_part serial act (word_answer (word_at r.world i) rt.end.side (source_of rt) act) p ∷ []) (sight : Silent s.words v v') where
   abbrev w : World
   w = r.world
 
@@ -109,7 +110,7 @@ module _ (count size : ℕ) (s : St) (r : Rules count size s) (id : ℕ) (v v' :
   word_rules =
       let sp = spelled s r id v p at is in
       let moves = word_moves w i y p.node p'.state in
-      ruled_with s r w' r.books (act_routes w r.routes p.node serial act) (set s.words i n') s.homes id v v' p p' at is is' sight (record {
+      ruled_with s r w' r.books (act_routes w r.routes p.node serial act) (set s.words i n') s.homes id v v' p p' at is is' sight.1 (record {
         count = moves.count;
         size = moves.size;
         wide = length-set s.words i n';
@@ -122,20 +123,21 @@ module _ (count size : ℕ) (s : St) (r : Rules count size s) (id : ℕ) (v v' :
         node = refl;
         own = own_spells s w w' (set s.words i n') p.node p'.state moves boxes p p' refl refl refl (act_hand p.state serial act (word_answer (word_at r.world i) rt.end.side (source_of rt) act)) refl refl sp;
         others = others_spell s w w' (set s.words i n') p.node p'.state moves boxes;
-      }) (joined_same s.views id v v' p p' r.books at is is' refl refl refl r.joined) after.0 (AreTurns w r.books r.routes ((p.node, OfRouter serial act) ∷ [])) after.1
+      }) (inboxes_stay s r w' (set s.words i n') id v' moves.count moves.size sight.0 (λ to l. get_or-set_other s.words i (inbox w to) n' 0 (λ e. let q = below in omega arith)) (λ from to lf lt e. inl (sym (boxes (way w from to)) ∙ e)))
+      (joined_same s.views id v v' p p' r.books at is is' refl refl refl r.joined) after.0 (AreTurns w r.books r.routes ((p.node, OfRouter serial act) ∷ [])) after.1
 
-same_moves : (w : World) (n : ℕ) (x : Node) → node_at w n ≡ x → NodeMoves w w n x
+pub same_moves : (w : World) (n : ℕ) (x : Node) → node_at w n ≡ x → NodeMoves w w n x
 same_moves w n x is = record { count = refl; size = refl; here = is; apart = λ j ne. refl; mail = λ k. refl }
 
 -- nothing changes but what was seen
-pub sees : {count size : ℕ} (s : St) (r : Rules count size s) (i id : ℕ) (v v' : View) (p : Part) → get_elem? s.views id ≡ some v → v.parts ≡ p ∷ [] → v'.parts ≡ p ∷ [] → Sees s.words v v' →
+pub sees : {count size : ℕ} (s : St) (r : Rules count size s) (i id : ℕ) (v v' : View) (p : Part) → get_elem? s.views id ≡ some v → v.parts ≡ p ∷ [] → v'.parts ≡ p ∷ [] → Silent s.words v v' →
     Follows count size s r [] record { words = set s.words i (slice_index s.words i); homes = s.homes; views = set s.views id v' }
 sees {count} {size} s r i id v v' p at is is' sight =
     let sp = spelled s r id v p at is in
     let w = r.world in
     let moves = same_moves w p.node p.state sp.state in
     let same : (j : ℕ) → slice_index s.words (mailbox w j) ≡ slice_index s.words (mailbox w j) = λ j. refl in
-    let rules : Follows count size s r [] record { words = s.words; homes = s.homes; views = set s.views id v' } = ruled_with s r w r.books r.routes s.words s.homes id v v' p p at is is' sight (record {
+    let rules : Follows count size s r [] record { words = s.words; homes = s.homes; views = set s.views id v' } = ruled_with s r w r.books r.routes s.words s.homes id v v' p p at is is' sight.1 (record {
       count = refl;
       size = refl;
       wide = refl;
@@ -148,7 +150,7 @@ sees {count} {size} s r i id v v' p at is is' sight =
       node = refl;
       own = sp;
       others = λ q ne h. h;
-    }) (joined_same s.views id v v' p p r.books at is is' refl refl refl r.joined) r.lawful (AreTurns r.world r.books r.routes []) (refl, refl, refl) in
+    }) (inboxes_stay s r w s.words id v' refl refl sight.0 (λ to l. refl) (λ from to lf lt e. inl e)) (joined_same s.views id v v' p p r.books at is is' refl refl refl r.joined) r.lawful (AreTurns r.world r.books r.routes []) (refl, refl, refl) in
     subst (λ (ws : List ℕ). Follows count size s r [] record { words = ws; homes = s.homes; views = set s.views id v' }) (sym (set-get_or s.words i 0)) rules
 
 -- the view after an act of a router on the word i, if it was found at n
@@ -180,14 +182,14 @@ module _ (count size id : ℕ) (m : Mine) (p : Part) (serial : ℕ) (rt : Router
     keeps,
     tt,
     word_rules count size s r id m.0 (plain_view i n serial rt.end.side (source_of rt) act p m.0) p serial rt act i (f n) at is can on primary inside
-        (ap f spelled_word ∙ fits (word_at r.world i) (subst IsLinkNumber spelled_word (found_word s r i inside)) (ap hit (sym spelled_word) ∙ e)) (ap (λ x. plain_part serial act (word_answer x rt.end.side (source_of rt) act) p ∷ []) back) (inr (i, refl)),
+        (ap f spelled_word ∙ fits (word_at r.world i) (subst IsLinkNumber spelled_word (found_word s r i inside)) (ap hit (sym spelled_word) ∙ e)) (ap (λ x. plain_part serial act (word_answer x rt.end.side (source_of rt) act) p ∷ []) back) (refl, inr (i, refl)),
     refl,
   )
   by false e = (
     saw i n m.0,
     keeps,
     tt,
-    subst (λ (k : ℕ). Follows count size s r [] (stepped s i k id m.1 (saw i n m.0) keeps)) (sym (stays n e)) (sees s r i id m.0 (saw i n m.0) p at is is (inr (i, refl))),
+    subst (λ (k : ℕ). Follows count size s r [] (stepped s i k id m.1 (saw i n m.0) keeps)) (sym (stays n e)) (sees s r i id m.0 (saw i n m.0) p at is is (refl, inr (i, refl))),
     refl,
   )
 

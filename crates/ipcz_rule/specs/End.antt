@@ -1,5 +1,5 @@
 -- The table at the end: the world that all nodes' parts, the words and the slots come back to.
-use Rattle.std.specs.Prelude.{◌≡◌, ℕ, List, [], ◌∷◌, map, length}
+use Rattle.std.specs.Prelude.{◌≡◌, ℕ, List, [], ◌∷◌, map, length, None}
 use mathlib.Core.Option.{some}
 use lib.ListN.{get_elem?}
 use Rattle.ipcz_node.specs.Node.{Node}
@@ -11,7 +11,7 @@ use Rattle.ipcz_rule.specs.Rule.{St, Joined, Rules}
 
 -- a view of these parts
 abbrev pub view_of : List Part → View
-view_of ps = record { parts = ps; seen = [] }
+view_of ps = record { parts = ps; seen = []; announced = None }
 
 -- the states of the nodes that parts are of
 abbrev pub states_of : List Part → List Node

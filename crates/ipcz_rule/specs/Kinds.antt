@@ -3,8 +3,9 @@
 -- Of a step of a call it is said that ends of link words which nobody held are held by nobody.
 -- In each the seat is `id`, the table has so many slots, and `i` is the word. What a step tells that may find its word changed is by a test
 -- of the number found: if it fails, the step was a load.
-use Rattle.std.specs.Prelude.{◌≡◌, ◌≤◌, ◌<◌, ◌⊎◌, cond, length, slice_index, ◌+◌, ◌*◌, ◌-◌, ℕ, Bool, true, false, eqb, List, [], ◌∷◌, ◌++◌, Some}
+use Rattle.std.specs.Prelude.{◌≡◌, ◌≢◌, ◌≤◌, ◌<◌, if◌then◌else◌, ◌⊎◌, cond, length, slice_index, ◌+◌, ◌*◌, ◌-◌, ℕ, Bool, true, false, eqb, List, [], ◌∷◌, ◌++◌, Some}
 use Rattle.std.specs.Prelude.{None, is_some, MatchBool, bit_and, bit_or}
+use Rattle.std.specs.Int.{bit_at}
 use prog.Atomic.{either}
 use mathlib.Core.Option.{some}
 use lib.ListN.{get_elem?}
@@ -36,7 +37,7 @@ use Rattle.ipcz_world.specs.Ranks.{AreTurns}
 use Rattle.ipcz_world.specs.World.{World}
 use Rattle.ipcz_world.specs.Wordless.{is_wordless}
 use Rattle.ipcz_rule.specs.GivenUp.{GivesEnd}
-use Rattle.ipcz_rule.specs.Rule.{Slot, St, Mine, Rules, has_number, with_part, saw}
+use Rattle.ipcz_rule.specs.Rule.{Slot, St, Mine, Rules, has_number, with_part, saw, announcing, forgetting}
 use Rattle.ipcz_rule.specs.Steps.{put_part, get_part, close_part, claimed_part, open_part, wet_part, act_part, acted_view, CanAct}
 use Rattle.ipcz_rule.specs.Steps.{is_touch_act}
 use Rattle.ipcz_rule.specs.Steps.{probe_part, unprobe_part, post_part, look_part, old_word, trusted, hand_part}
@@ -232,11 +233,27 @@ Unprobes F = (count size slots id i k to : ℕ) (m : Mine) (p : Part) (rest : Li
     has_number p.probed to ≡ true → m.1 ≡ (k, None) ∷ rest →
     F count size slots id m i (λ n. 0) (λ n. []) (λ n m'. m' ≡ (with_part (unprobe_part to p) m.0, rest))
 
--- post: the message leaves the outbox, and the slot goes home with it
+-- a message is announced to a node: the sender's bit is set in its inbox
+abbrev pub Announces : Form → Type 0
+Announces F = (count size slots id i to bits : ℕ) (m : Mine) (p : Part) → m.0.parts ≡ p ∷ [] → i ≡ size + 1 + to → to < count → bit_at bits p.node ≡ 1 →
+    F count size slots id m i (λ n. bit_or n bits) (λ n. []) (λ n m'. m' ≡ (announcing to m.0, m.1))
+
+-- a load of an inbox before a post: if the sender's bit is set there, the message is announced
+abbrev pub LoadsForPost : Form → Type 0
+LoadsForPost F = (count size slots id i to : ℕ) (m : Mine) (p : Part) → m.0.parts ≡ p ∷ [] → i ≡ size + 1 + to → to < count →
+    F count size slots id m i (λ n. n) (λ n. []) (λ n m'. m' ≡ (if eqb (bit_at n p.node) 1 then announcing to m.0 else forgetting m.0, m.1))
+
+-- a sender's bit is cleared in the own inbox, while its message is in hand: all other bits are kept
+abbrev pub Clears : Form → Type 0
+Clears F = (count size slots id i from kept : ℕ) (m : Mine) (p : Part) → m.0.parts ≡ p ∷ [] → i ≡ size + 1 + p.node → p.state.hand ≡ Some from →
+    ((j : ℕ) → j < 64 → j ≢ from → bit_at kept j ≡ 1) →
+    F count size slots id m i (λ n. bit_and n kept) (λ n. []) (λ n m'. m' ≡ (forgetting m.0, m.1))
+
+-- post: the message leaves the outbox, and the slot goes home with it; it was announced by the step before
 abbrev pub Posts : Form → Type 0
 Posts F = (count size slots id i k to : ℕ) (m : Mine) (p : Part) (x : Message) (rest : List (ℕ × Slot)) → m.0.parts ≡ p ∷ [] →
     k ≡ p.node * count + to → i ≡ size + 1 + count + k → to < count →
-    has_number p.probed to ≡ true → has_mail_for p.state to ≡ true → post_of p.state (acts.Post to) ≡ Some x → m.1 ≡ (k, Some x) ∷ rest →
+    has_number p.probed to ≡ true → m.0.announced ≡ Some to → has_mail_for p.state to ≡ true → post_of p.state (acts.Post to) ≡ Some x → m.1 ≡ (k, Some x) ∷ rest →
     F count size slots id m i (λ n. 1) (λ n. (p.node, acts.Post to) ∷ []) (λ n m'. m' ≡ (with_part (post_part to p) m.0, rest))
 
 -- look: if the mailbox is full, its message is taken into the hand
@@ -270,11 +287,11 @@ GivesBack F = (count size slots id i k from : ℕ) (m : Mine) (p : Part) (s : Sl
 
 -- a view that has the parts of two
 abbrev pub together : View → View → View
-together v w = record { parts = v.parts ++ w.parts; seen = v.seen }
+together v w = record { parts = v.parts ++ w.parts; seen = v.seen; announced = None }
 
 -- a view that says nothing
 abbrev pub spent : View
-spent = record { parts = []; seen = [] }
+spent = record { parts = []; seen = []; announced = None }
 
 -- join: a seat takes in the parts of another
 abbrev pub JoinsParts : Type 0

@@ -22,7 +22,7 @@ use Rattle.ipcz_rule.specs.Rule.{Slot, Mine, Rules, with_part}
 use Rattle.ipcz_rule.specs.RuleLaws.{LinksAreWords}
 use Rattle.ipcz_rule.specs.GivenUp.{GivesEnd}
 use Rattle.ipcz_rule.specs.Steps.{CanAct, act_part, is_touch_act}
-use Rattle.ipcz_rule.specs.Kinds.{Form, IsTurns, Marks, Wakes, Unlocks, TriesLock, LoadsForLock, LoadsForClaim, LoadsForHand, Touches, TouchActs, Probes, Unprobes, Posts, Looks, Hands, GivesBack}
+use Rattle.ipcz_rule.specs.Kinds.{Form, IsTurns, Marks, Wakes, Unlocks, TriesLock, LoadsForLock, LoadsForClaim, LoadsForHand, Touches, TouchActs, Probes, Unprobes, Announces, LoadsForPost, Posts, Looks, Clears, Hands, GivesBack}
 use Rattle.ipcz_slots.specs.declared.own.Own.{Own}
 use Rattle.ipcz_slots.specs.Slots.{Virtual, Sizes, AreSizes, Lasting, NoSlotIsLost, has_number, without_number, let_go_word}
 use Rattle.ipcz_slots.specs.SlotKinds.{Known, LastingSteps, same_own, side_bit}
@@ -95,6 +95,8 @@ abbrev pub OtherKindsLast : Type 0
 OtherKindsLast = EndLaws → (k : ℕ) (reuses : Bool) (dirty free looked : List ℕ) →
     (TouchActs IsTurns → TouchActsLast k reuses dirty free looked) × (LoadsForClaim IsTurns → LoadsForClaim (Behind k reuses dirty free looked)) ×
     (Probes IsTurns → Probes (Behind k reuses dirty free looked)) × (Unprobes IsTurns → Unprobes (Behind k reuses dirty free looked)) ×
+    (Announces IsTurns → Announces (Behind k reuses dirty free looked)) × (LoadsForPost IsTurns → LoadsForPost (Behind k reuses dirty free looked)) ×
+    (Clears IsTurns → Clears (Behind k reuses dirty free looked)) ×
     (Posts IsTurns → Posts (Behind k reuses dirty free looked)) × (Looks IsTurns → Looks (Behind k reuses dirty free looked)) ×
     (Hands IsTurns → Hands (Behind k reuses dirty free looked)) × (GivesBack IsTurns → GivesBack (Behind k reuses dirty free looked))
 

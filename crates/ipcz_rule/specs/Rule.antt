@@ -1,7 +1,8 @@
 -- The rule of the table: what words, slots and views show is a lawful world, with the books that the views keep, in which nothing strays.
 -- (This project's own: ipcz's nodes share no memory but the link states, and nothing there says what all of it shows.)
-use Rattle.std.specs.Prelude.{◌≡◌, ◌≤◌, ◌<◌, ◌+◌, ◌*◌, ℕ, zero, suc, Bool, false, ◌||◌, cond, nat_eq, List, [], ◌∷◌, ◌++◌, length}
+use Rattle.std.specs.Prelude.{◌≡◌, ◌≤◌, ◌<◌, ◌+◌, ◌*◌, ℕ, zero, suc, Bool, true, false, ◌||◌, cond, nat_eq, List, [], ◌∷◌, ◌++◌, length}
 use Rattle.std.specs.Prelude.{slice_index, slice_get, Option, Some, None}
+use Rattle.std.specs.Int.{bit_at}
 use mathlib.Core.Option.{some}
 use mathlib.Core.Option as maybe
 use lib.ListN.{get_elem?}
@@ -36,9 +37,13 @@ St = State Slot View
 abbrev pub Mine : Type 0
 Mine = Me Slot View
 
--- the word of a mailbox: it stands behind the link words, the claim count and the touch words
+-- the word of a mailbox: it stands behind the link words, the claim count and the inboxes
 abbrev pub mailbox : World → ℕ → ℕ
 mailbox w k = w.size + 1 + w.count + k
+
+-- the inbox of a node: its word has a bit for each sender, and stands behind the link words and the claim count
+abbrev pub inbox : World → ℕ → ℕ
+inbox w to = w.size + 1 + to
 
 -- how many words the table of a world has
 abbrev pub word_count : World → ℕ
@@ -126,6 +131,14 @@ HaveParts views count = (node : ℕ) → node < count → HasPart views node
 abbrev pub HasSeenCounts : List View → World → Type 0
 HasSeenCounts views w = (id : ℕ) (v : View) (k n : ℕ) → get_elem? views id ≡ some v → get_elem? v.seen k ≡ some (w.size, n) → n ≤ w.claimed
 
+-- what the inboxes say: the bit of each sender whose mailbox is full is set there; and so it is as long as a sender that has announced its
+-- message has the mailbox
+pub record Inboxes (words : List ℕ) (views : List View) (w : World) : Type 0 where
+  pub full : (from to : ℕ) → from < w.count → to < w.count → slice_index words (mailbox w (way w from to)) ≡ 1 →
+      bit_at (slice_index words (inbox w to)) from ≡ 1
+  pub announced : (id : ℕ) (v : View) (j : ℕ) (p : Part) (to : ℕ) → get_elem? views id ≡ some v → get_elem? v.parts j ≡ some p → v.announced ≡ Some to →
+      to < w.count → has_number p.probed to ≡ true → bit_at (slice_index words (inbox w to)) p.node ≡ 1
+
 -- the rule of a table for so many nodes and words
 pub record Rules (count size : ℕ) (s : St) : Type 0 where
   pub world : World
@@ -135,6 +148,7 @@ pub record Rules (count size : ℕ) (s : St) : Type 0 where
   pub nodes : world.count ≡ count
   pub words : world.size ≡ size
   pub shows : Shows s world owner
+  pub inboxes : Inboxes s.words s.views world
   pub joined : Joined s.views books
   pub lawful : Lawful world books routes
   -- all that know a link's length know the same, and no message but a Flush finds its router gone
@@ -147,11 +161,19 @@ pub record Rules (count size : ℕ) (s : St) : Type 0 where
 
 -- the view with another part, its only one
 abbrev pub with_part : Part → View → View
-with_part p v = record { parts = p ∷ []; seen = v.seen }
+with_part p v = record { parts = p ∷ []; seen = v.seen; announced = None }
 
 -- the view that has seen the word i to be n
 abbrev pub saw : ℕ → ℕ → View → View
-saw i n v = record { parts = v.parts; seen = v.seen ++ (i, n) ∷ [] }
+saw i n v = record { parts = v.parts; seen = v.seen ++ (i, n) ∷ []; announced = None }
+
+-- the view that has announced a message to a node
+abbrev pub announcing : ℕ → View → View
+announcing to v = record { parts = v.parts; seen = v.seen; announced = Some to }
+
+-- the view of a seat that no longer knows that it has announced a message
+abbrev pub forgetting : View → View
+forgetting v = record { parts = v.parts; seen = v.seen; announced = None }
 
 -- the part with another state of its node
 abbrev pub with_state : Node → Part → Part

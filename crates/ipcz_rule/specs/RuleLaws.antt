@@ -1,5 +1,6 @@
 -- What the rule says of the world that is shown and of each part, as functions promise it.
 use Rattle.std.specs.Prelude.{◌≡◌, ◌≢◌, ◌≤◌, ◌<◌, ◌+◌, ◌*◌, ℕ, true, false, List, [], Some, slice_index}
+use Rattle.std.specs.Int.{bit_at}
 use mathlib.Core.Option.{some}
 use lib.ListN.{get_elem?}
 use Rattle.ipcz_base.specs.declared.side.Side.{Side}
@@ -68,6 +69,11 @@ OldLinksAreWords = (count size : ℕ) (s : St) (r : Rules count size s) (id : �
 abbrev pub CountsWereReached : Type 0
 CountsWereReached = (count size : ℕ) (s : St) → Rules count size s → (id : ℕ) (v : View) (k n : ℕ) → get_elem? s.views id ≡ some v →
     get_elem? v.seen k ≡ some (size, n) → (n ≤ slice_index s.words size) × (slice_index s.words size ≤ size)
+
+-- a full mailbox has its sender's bit set in the inbox of the node that it is to; so who finds the bit not set knows that the mailbox isn't full
+abbrev pub FullMailboxesAreAnnounced : Type 0
+FullMailboxesAreAnnounced = (count size : ℕ) (s : St) → Rules count size s → (from to : ℕ) → from < count → to < count →
+    slice_index s.words (size + 1 + count + (from * count + to)) ≡ 1 → bit_at (slice_index s.words (size + 1 + to)) from ≡ 1
 
 -- the views say of each number that an end has put at most one item
 abbrev pub PutsAreOnce : Type 0

@@ -6,7 +6,7 @@ use Rattle.ipcz_rule.specs.declared.view.View.{View}
 use Rattle.ipcz_rule.specs.declared.view.Part.{Part}
 use Rattle.ipcz_rule.specs.Rule.{Slot}
 
--- the words at the start: those of the first pairs' links are open, the other link words are empty; then the claim count, the touch words
+-- the words at the start: those of the first pairs' links are open, the other link words are empty; then the claim count, the inboxes
 -- and the mailboxes
 abbrev pub opening_words : ℕ → ℕ → List ℕ
 opening_words count size =
@@ -27,7 +27,7 @@ opening_parts count n left = map (opening_part count) (numbers_from n left)
 
 -- the view of the first seat: it says all of all nodes
 abbrev pub opening_view : ℕ → View
-opening_view count = record { parts = opening_parts count 0 count; seen = [] }
+opening_view count = record { parts = opening_parts count 0 count; seen = []; announced = None }
 
 -- the first part of a list, alone
 abbrev pub head_parts : List Part → List Part
@@ -41,8 +41,8 @@ tail_parts (p ∷ ps) = ps
 
 -- the view that a new seat gets when a part is dealt
 abbrev pub dealt : View → View
-dealt v = record { parts = head_parts v.parts; seen = v.seen }
+dealt v = record { parts = head_parts v.parts; seen = v.seen; announced = None }
 
 -- and the view that stays
 abbrev pub after_deal : View → View
-after_deal v = record { parts = tail_parts v.parts; seen = v.seen }
+after_deal v = record { parts = tail_parts v.parts; seen = v.seen; announced = None }

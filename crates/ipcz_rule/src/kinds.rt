@@ -5,8 +5,8 @@
 ghost use Rattle.std.specs.Prelude.{true};
 ghost use Rattle.ipcz_rule.specs.Kinds.{Loads, Puts, Gets, Closes, PendingCloses, Touches, TouchActs, Marks, Wakes, Unlocks, TriesLock};
 ghost use Rattle.ipcz_rule.specs.Kinds.{LoadsForLock};
-ghost use Rattle.ipcz_rule.specs.Kinds.{IsKept, IsTurns, LoadsForClaim, Dries, Wets, Claims, ClaimsForOpen, Opens, Probes, Unprobes, Posts, Looks, LoadsForHand};
-ghost use Rattle.ipcz_rule.specs.Kinds.{Hands, GivesBack, JoinsParts};
+ghost use Rattle.ipcz_rule.specs.Kinds.{IsKept, IsTurns, LoadsForClaim, Dries, Wets, Claims, ClaimsForOpen, Opens, Probes, Unprobes, Announces, LoadsForPost, Posts, Looks, LoadsForHand};
+ghost use Rattle.ipcz_rule.specs.Kinds.{Clears, Hands, GivesBack, JoinsParts};
 
 /// A load of any word changes nothing but what was seen.
 pub fn a_load_keeps_the_rule()
@@ -106,6 +106,21 @@ pub fn a_probe_keeps_the_rule()
 /// A probed mailbox is given back.
 pub fn an_unprobe_keeps_the_rule()
     ensures { Unprobes IsTurns }
+{}
+
+/// A message is announced: the sender's bit is set in the inbox of a node.
+pub fn an_announcement_keeps_the_rule()
+    ensures { Announces IsTurns }
+{}
+
+/// A load of an inbox before a post: if the sender's bit is set there, the message is announced.
+pub fn a_load_for_a_post_keeps_the_rule()
+    ensures { LoadsForPost IsTurns }
+{}
+
+/// A bit of the own inbox is cleared, while its sender's message is in hand.
+pub fn a_cleared_bit_keeps_the_rule()
+    ensures { Clears IsTurns }
 {}
 
 /// A post: the first message of an outbox goes home with the slot.

@@ -1,7 +1,7 @@
 //! What the rule of the table says (specs/RuleLaws). Each function does nothing: its contract is the law.
 
 ghost use Rattle.ipcz_rule.specs.RuleLaws.{RuleGivesHeadline, RuleOwes, ShownHasLengths, PartsAreSound, PartsHandsFit, LinksAreWords};
-ghost use Rattle.ipcz_rule.specs.RuleLaws.{OldLinksAreWords, CountsWereReached, NodesHaveParts};
+ghost use Rattle.ipcz_rule.specs.RuleLaws.{OldLinksAreWords, FullMailboxesAreAnnounced, CountsWereReached, NodesHaveParts};
 ghost use Rattle.ipcz_rule.specs.RuleLaws.{RuleBoundsTurns};
 ghost use Rattle.ipcz_rule.specs.Races.{SightsAreLoads, RacedIsOvertaken, WaitedForStays};
 ghost use Rattle.ipcz_rule.specs.TableRuns.{StepsAreTurns, StepsAreBounded, OvertakenByActs};
@@ -42,6 +42,11 @@ pub fn each_link_has_a_link_word()
 /// The old link that an AcceptBypass in a node's hand names has a link word of the table.
 pub fn each_old_link_has_a_link_word()
     ensures { OldLinksAreWords }
+{}
+
+/// Who finds a sender's bit not set in the inbox of a node knows that the mailbox from that sender isn't full: a full one was announced.
+pub fn each_full_mailbox_is_announced()
+    ensures { FullMailboxesAreAnnounced }
 {}
 
 /// A claim count that a seat has seen was reached: the table shows no less, and no more than there are link words.

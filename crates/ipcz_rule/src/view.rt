@@ -24,4 +24,6 @@ pub struct View {
     pub parts: LinkedList<Part>,
     /// What its loads and exchanges found: the word and its value.
     pub seen: LinkedList<(u64, u64)>,
+    /// The node whose inbox it has just found, or left, with the bit of its own node set. With each other step that is forgotten.
+    pub announced: Option<u64>,
 }

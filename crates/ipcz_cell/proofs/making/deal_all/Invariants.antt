@@ -1,4 +1,4 @@
-use Rattle.std.proofs.Common.{◌≡◌, ◌≤◌, ◌-◌, [], map, vec_len, vec_capacity}
+use Rattle.std.proofs.Common.{None, ◌≡◌, ◌≤◌, ◌-◌, [], map, vec_len, vec_capacity}
 use Rattle.std.specs.VecDeque.{deque_len}
 use Rattle.ipcz_world.specs.World.{numbers_from}
 use Rattle.ipcz_rule.specs.Start.{opening_parts}
@@ -10,7 +10,7 @@ use Rattle.ipcz_cell.specs.Seats.{mine_of}
 abbrev pub invariant-loop-node : goal.invariant-loop-node
 invariant-loop-node g l = record {
   own : l.seat.table_id ≡ g.F.FabricName.table.id;
-  me : (mine_of l.seat.me) ≡ (record { parts = opening_parts g.F.FabricName.table.count l.node (g.F.FabricName.table.count - l.node); seen = [] }, []);
+  me : (mine_of l.seat.me) ≡ (record { parts = opening_parts g.F.FabricName.table.count l.node (g.F.FabricName.table.count - l.node); seen = []; announced = None }, []);
   left : l.bodies.items ≡ map (opening_body g.F.FabricName.table.count) (numbers_from l.node (g.F.FabricName.table.count - l.node));
   cells : AreFirst g.F.FabricName.table.count l.node l.cells.items;
   many : deque_len l.bodies ≡ g.F.FabricName.table.count - l.node;
