@@ -14,6 +14,7 @@ import pathlib
 import random
 import subprocess
 import sys
+from collections.abc import Callable
 from typing import Any
 
 import asked
@@ -75,10 +76,11 @@ def logs_of(seed: int) -> list[bytes]:
     return [written(log).encode()] + [changed(draw, log) for _ in range(CHANGES) if len(log) > 1]
 
 
-def main() -> int:
-    parser = asked.parser(__doc__)
+def compare(doc: str, name: str, count: int, logs_of: Callable[[int], list[bytes]], verdict: Callable[[bytes], str]) -> int:
+    """Has a program and the judge of this name say what is to be said of the logs of so many seeds, by the arguments that `doc` tells of."""
+    parser = asked.parser(doc)
     parser.add_argument("program")
-    parser.add_argument("count", type=int, nargs="?", default=200)
+    parser.add_argument("count", type=int, nargs="?", default=count)
     parser.add_argument("first", type=int, nargs="?", default=0)
     parser.add_argument("--folder", type=pathlib.Path)
     arguments = parser.parse_args()
@@ -92,10 +94,10 @@ def main() -> int:
     said: collections.Counter[str] = collections.Counter()
     for seed in range(arguments.first, arguments.first + arguments.count):
         for number, log in enumerate(logs_of(seed)):
-            wanted = judge.verdict(log)
+            wanted = verdict(log)
             said[wanted.split(": ")[-1]] += 1
             if number == 0 and wanted != "allowed":
-                print(f"{seed}.{number}: tools/judge.py says {wanted}")
+                print(f"{seed}.{number}: {name} says {wanted}")
                 wrong += 1
             if arguments.folder:
                 (arguments.folder / f"{seed}.{number}").write_bytes(log)
@@ -103,11 +105,11 @@ def main() -> int:
                 continue
             done = subprocess.run([program], input=log, capture_output=True)
             if (done.stdout.decode(), done.returncode) != (wanted + "\n", 0 if wanted == "allowed" else 2):
-                print(f"{seed}.{number}: the program says {done.stdout.decode()!r}, status {done.returncode}; tools/judge.py {wanted!r}")
+                print(f"{seed}.{number}: the program says {done.stdout.decode()!r}, status {done.returncode}; {name} {wanted!r}")
                 wrong += 1
-    print(", ".join(f"{count} {verdict}" for verdict, count in sorted(said.items())) + f"; {wrong} differ")
+    print(", ".join(f"{times} {what}" for what, times in sorted(said.items())) + f"; {wrong} differ")
     return 1 if wrong else 0
 
 
 if __name__ == "__main__":
-    sys.exit(main())
+    sys.exit(compare(__doc__, "tools/judge.py", 200, logs_of, judge.verdict))

@@ -5,5 +5,5 @@ mod line;
 
 pub use line::{
     Answer, End, Event, Fault, Kind, LONGEST, Line, Link, ReadLine, Refusal, RouterEvent, Side,
-    Unread, Way, WordStep, end, halves, number, read, word,
+    Unread, Way, WordStep, end, halves, number, read, read_event, word,
 };

@@ -8,6 +8,7 @@ mod parts;
 mod reading;
 mod words;
 
+pub use acts::event as read_event;
 pub use parts::{Answer, End, Fault, Kind, Link, Refusal, Side, Way, WordStep};
 pub use reading::read;
 pub use words::{end, halves, number, word};

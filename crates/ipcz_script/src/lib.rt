@@ -31,7 +31,7 @@ pub use run_fault::RunFault;
 pub use said::Said;
 pub use script::Script;
 pub use script_fault::ScriptFault;
-pub use session::{answer_to, is_idle, is_want};
+pub use session::{Session, answer_to, is_idle, is_want};
 pub use shapes::{command_in, number_within, values_of};
 pub use text::Text;
 pub use titles::Titles;

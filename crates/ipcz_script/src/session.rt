@@ -1,5 +1,6 @@
-ghost use Rattle.std.specs.Prelude.{◌≡◌, false, OnOk, IfOk};
+ghost use Rattle.std.specs.Prelude.{◌≡◌, false, OnErr, OnOk, IfErr, IfOk};
 ghost use Rattle.ipcz_script.specs.ScriptLimits.{HasScriptLimits};
+ghost use Rattle.ipcz_world.specs.Asking.{hand_at, IsActed, WhyNotTaken};
 ghost use Rattle.ipcz_world.specs.Steps.{first_step};
 ghost use Rattle.ipcz_script.specs.Sessions.{AreTurns, Is, Runs, SettlesTo, TurnsTo, bind, answer_to};
 ghost use Rattle.ipcz_script.specs.Sessions.{is_idle_reply, is_turn, is_want, new_session, replied_close, replied_get, replied_open};
@@ -12,8 +13,8 @@ use crate::said::Said;
 use crate::text::Text;
 use crate::titles::Titles;
 use ipcz_base::{Bytes, End, Refusal, Sequence};
-use ipcz_node::Happened;
-use ipcz_world::{Reply, Settled, Step, World};
+use ipcz_node::{Act, Happened};
+use ipcz_world::{NotTaken, Reply, Settled, Step, World};
 use std::alloc::{AllocError, Global};
 use std::marker::Model;
 
@@ -179,6 +180,23 @@ impl Session {
             words.push(word)?;
         }
         Ok(Said::Words(Sequence::from_vec(words)))
+    }
+
+    /// The node that sent the message in a node's hand, as `World::hand` tells it.
+    pub fn hand(&self, node: u8) -> Option<u8>
+        ensures { result ≡ hand_at self.now.world node }
+    {
+        self.world.hand(node)
+    }
+
+    /// Lets a node take this act, as `World::act` does, where a turn command takes the first possible one. What names are bound to stays.
+    pub fn act(&mut self, node: u8, act: Act) -> Result<Happened, NotTaken>
+        ensures acted { IfOk result (λ event. IsActed self.old.world node act event self.new.world) }
+        ensures why { IfErr result (λ why. WhyNotTaken self.old.world node act why) }
+        ensures session { self.new ≡ with_world self.old self.new.world }
+        ensures err { OnErr result (self.new ≡ self.old) }
+    {
+        self.world.act(node, act)
     }
 
     /// Runs a command and gives its answer. If no memory is found, the run is over, and the session is of no more use.

@@ -1,7 +1,10 @@
 -- A change of one of the books.
-use Rattle.std.specs.Prelude.{◌≡◌, ◌⊎◌, ◌≤◌, ◌<◌, ◌+◌, ◌*◌, ℕ, zero, suc, Bool, true, false, cond, ◌||◌, Option, None, List, [], ◌∷◌, ◌++◌, length, slice_get, refl}
+use Rattle.std.specs.Prelude.{◌≡◌, ◌⊎◌, ◌≤◌, ◌<◌, ◌+◌, ◌*◌, ℕ, zero, suc, Bool, true, false, cond, ◌||◌, Option, List, [], ◌∷◌, ◌++◌, length, slice_get, refl}
 use Rattle.std.specs.Prelude.{slice_index_or, slice_set}
 use Rattle.std.proofs.Common.{arith, ap, ap₂, ◌∙◌, sym, subst, inl, inr}
+use Rattle.std.proofs.lemmas.Option.{slice_get_past}
+use mathlib.Core.Logic.{dite}
+use native.Mathlib.Decide.{dec_lt}
 use Rattle.std.specs.Option.{unwrap_or}
 use Rattle.ipcz_base.specs.declared.side.Side.{Side}
 use Rattle.ipcz_base.specs.declared.side.Side.TheVariants.{A, B}
@@ -131,20 +134,5 @@ seen_apart s e d f h apart = changed_at s e d f h ∙ ap (λ c. cond c (f (porta
 
 -- a look at a place that `IsIndex` is a look at the portal's own
 pub seen_at : (s : List Portal) (i : ℕ) (e : End) → IsIndex (length s) e i → slice_get s i ≡ slice_get s (index e)
-seen_at s i e h = elim (in_or_out i (length s)) [
-  | inl inside ↦ ap (slice_get s) (h.0 inside)
-  | inr out ↦ none s i out ∙ sym (none s (index e) (h.1 out))
-]
-  where
-    in_or_out : (i n : ℕ) → (i < n) ⊎ (n ≤ i)
-    in_or_out i zero = inr (omega (arith))
-    in_or_out zero (suc n) = inl (omega (arith))
-    in_or_out (suc i) (suc n) = elim (in_or_out i n) [
-      | inl h ↦ inl (omega (arith, h))
-      | inr h ↦ inr (omega (arith, h))
-    ]
-
-    none : (s : List Portal) (i : ℕ) → length s ≤ i → slice_get s i ≡ None
-    none [] i h = refl
-    none (p ∷ s) zero h = absurd (omega (arith, h))
-    none (p ∷ s) (suc i) h = none s i (omega (arith, h))
+seen_at s i e h = dite (dec_lt i (length s)) (λ inside. ap (slice_get s) (h.0 inside)) (λ past.
+    let far : length s ≤ i = omega (arith, past) in slice_get_past s i far ∙ sym (slice_get_past s (index e) (h.1 far)))

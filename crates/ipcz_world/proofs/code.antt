@@ -1,9 +1,11 @@
+pub mod Asked
 pub mod Beginning
 pub mod Calling
 pub mod Carrying
 pub mod CarryingWithin
 pub mod FirstTurns
 pub mod GoingOn
+pub mod Growing
 pub mod Kept
 pub mod LoneFinds
 pub mod LoneSenders

@@ -63,6 +63,10 @@ claim_one t = record t { claimed = t.claimed + 1 }
 abbrev pub put_word : WordTable → ℕ → Word → WordTable
 put_word t i x = record t { words = put_place empty_word t.words i x }
 
+-- the table with so many empty words more
+abbrev pub with_more : WordTable → ℕ → WordTable
+with_more t count = record t { words = t.words ++ replicate count empty_word }
+
 -- whether an act claims a word
 unfoldable pub is_claim : RouterAct → Bool
 is_claim Claim = true

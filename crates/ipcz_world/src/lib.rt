@@ -13,6 +13,6 @@ mod word_answers;
 mod world;
 
 pub use mail::Mail;
-pub use step::{Reply, Settled, Step};
+pub use step::{NotTaken, Reply, Settled, Step};
 pub use word_answers::{Answered, answer_act};
 pub use world::World;

@@ -1,8 +1,8 @@
-ghost use Rattle.std.specs.Prelude.{◌≡◌, ◌<◌, ◌≤◌, ◌+◌, ◌++◌, ◌-◌, Some, IfSome, IfOk, length, map, replicate, if◌then◌else◌};
+ghost use Rattle.std.specs.Prelude.{◌≡◌, ◌<◌, ◌≤◌, ◌+◌, ◌++◌, ◌-◌, Some, IfSome, IfOk, IsOk, OnOk, OnErr, length, map, replicate, if◌then◌else◌};
 ghost use Rattle.ipcz_word.specs.Layout.{word_of_bits};
 ghost use Rattle.ipcz_word.specs.Laws.{HasNode};
 ghost use Rattle.ipcz_word.specs.Word.{empty_word, open_word};
-ghost use Rattle.ipcz_world.specs.Coding.{claimed_word, has_unclaimed, claim_one, put_word, is_claim, side_answer, side_after, source_at};
+ghost use Rattle.ipcz_world.specs.Coding.{claimed_word, has_unclaimed, claim_one, put_word, with_more, is_claim, side_answer, side_after, source_at};
 ghost use Rattle.ipcz_world.specs.Coding.{table_answer, table_after, IsTable, AreUnclaimedEmpty};
 ghost use Rattle.ipcz_world.specs.World.{word_limit};
 
@@ -80,6 +80,21 @@ impl LinkWords {
         ensures { self.now.claimed + result ≡ length self.now.words }
     {
         self.size - self.claimed()
+    }
+
+    /// So many empty words more, with room kept for them. Refused if there is no room for so many: then the table is as it was.
+    pub(crate) fn add(&mut self, count: u64) -> Result<(), AllocError>
+        ensures more { OnOk result (self.new ≡ with_more self.old count) }
+        ensures none { count ≡ 0 → IsOk result }
+        ensures err { OnErr result (self.new ≡ self.old) }
+    {
+        let Some(size) = self.size.checked_add(count) else {
+            return Err(AllocError);
+        };
+        let unclaimed = size - self.claimed();
+        self.bits.reserve(unclaimed as usize)?;
+        self.size = size;
+        Ok(())
     }
 
     /// The number of a claimed word.

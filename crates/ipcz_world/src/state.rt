@@ -1,6 +1,7 @@
-ghost use Rattle.std.specs.Prelude.{◌≡◌, ◌<◌, ◌≤◌, ◌+◌, IfOk, IfErr, length, map};
+ghost use Rattle.std.specs.Prelude.{◌≡◌, ◌<◌, ◌≤◌, ◌+◌, IfOk, IfErr, IsOk, OnOk, OnErr, length, map};
 ghost use Rattle.ipcz_word.specs.Layout.{word_of_bits};
 ghost use Rattle.ipcz_world.specs.Coding.{claimed_word, table_of, AreUnclaimedEmpty, IsTable};
+ghost use Rattle.ipcz_world.specs.HeldEnds.{grown};
 ghost use Rattle.ipcz_world.specs.Holding.{holder_of, routers_at};
 ghost use Rattle.ipcz_world.specs.Lawful.{IsWithinLimits};
 ghost use Rattle.ipcz_world.specs.Parts.{world_of_parts};
@@ -8,6 +9,7 @@ ghost use Rattle.ipcz_world.specs.Steps.{StepFirst};
 ghost use Rattle.ipcz_world.specs.Taking.{IsRegular, node_of};
 ghost use Rattle.ipcz_world.specs.World.{new_world};
 
+pub(crate) mod asking;
 pub(crate) mod calls;
 pub(crate) mod carrying;
 pub(crate) mod limits;
@@ -115,6 +117,19 @@ impl State {
         ensures { self.now.claimed + result ≡ self.now.size }
     {
         self.words.left()
+    }
+
+    /// So many link words more, none of them claimed.
+    pub(crate) fn add_words(&mut self, count: u64) -> Result<(), Refusal>
+        ensures more { OnOk result (self.new ≡ grown self.old count) }
+        ensures none { count ≡ 0 → IsOk result }
+        ensures err { OnErr result (self.new ≡ self.old) }
+        ensures why { IfErr result (λ e. e ≡ Refusal.OutOfMemory) }
+    {
+        match self.words.add(count) {
+            Ok(()) => Ok(()),
+            Err(_) => Err(Refusal::OutOfMemory),
+        }
     }
 
     /// The number of a claimed word.

@@ -1,16 +1,18 @@
-ghost use Rattle.std.specs.Prelude.{◌≡◌, ◌<◌, ◌≤◌, ◌+◌, ℕ, true, false, IfOk, IfErr, IfSome, OnErr, OnOk, map};
+ghost use Rattle.std.specs.Prelude.{◌≡◌, ◌<◌, ◌≤◌, ◌+◌, ℕ, true, false, IfOk, IfErr, IfSome, IsOk, OnErr, OnOk, map};
 ghost use Rattle.ipcz_base.specs.declared.link_end.LinkEnd.{LinkEnd};
 ghost use Rattle.ipcz_word.specs.Layout.{word_of_bits};
+ghost use Rattle.ipcz_world.specs.Asking.{can_act, hand_at, IsActed, WhyNotTaken};
 ghost use Rattle.ipcz_world.specs.Books.{Books, advance, no_books};
 ghost use Rattle.ipcz_world.specs.Carrying.{IsCarried, IsLone, IsLoneSender};
 ghost use Rattle.ipcz_world.specs.Coding.{IsTable};
+ghost use Rattle.ipcz_world.specs.HeldEnds.{grown};
 ghost use Rattle.ipcz_world.specs.Holding.{holder_of, routers_at, shown_word};
 ghost use Rattle.ipcz_world.specs.Lawful.{IsWithinLimits, Lawful};
 ghost use Rattle.ipcz_world.specs.Lawfulness.{IsLawful};
 ghost use Rattle.ipcz_world.specs.Parts.{world_of_parts};
 ghost use Rattle.ipcz_world.specs.Plain.{Plain};
 ghost use Rattle.ipcz_world.specs.Routes.{Routes, first_routes, routes_after};
-ghost use Rattle.ipcz_world.specs.Steps.{GivesOrNoMemory, StepFirst, next_sizes, put_of, put_reply, put_step};
+ghost use Rattle.ipcz_world.specs.Steps.{GivesOrNoMemory, StepAny, StepFirst, next_sizes, put_of, put_reply, put_step};
 ghost use Rattle.ipcz_world.specs.FirstRuns.{AreSteps, KeepsLaw};
 ghost use Rattle.ipcz_world.specs.Turns.{next_at};
 ghost use Rattle.ipcz_world.specs.World.{new_world};
@@ -22,9 +24,9 @@ ghost use Rattle.ipcz_world.specs.Visiting.{AreIdle, IsPlace, Walk};
 
 use crate::mail::Mail;
 use crate::state::State;
-use crate::step::{Reply, Settled, Step};
+use crate::step::{NotTaken, Reply, Settled, Step};
 use ipcz_base::{Bytes, End, Ends, Profile, Refusal, Sizes};
-use ipcz_node::{Act, NodeState, PutRefused};
+use ipcz_node::{Act, Happened, NodeState, PutRefused};
 use std::alloc::Global;
 use std::marker::Model;
 
@@ -57,9 +59,9 @@ impl World {
     /// mailbox is empty.
     ///
     /// `nodes` is 1 to 64; `words` is from the number of first pairs, `nodes * (nodes - 1) / 2`, to 2^32 - 1. Each open and each bypass
-    /// claims a word for good. For each word 8 bytes of address space are reserved here, which are first touched when the word is claimed.
-    /// So `World::new(alloc, 2, 1 << 24)` reserves 128 MiB and touches a page of them, and that world answers no `NoWord` before its callers
-    /// and proxies have claimed the other 16,777,215 words.
+    /// claims a word for good; [`World::add_words`] makes more. For each word 8 bytes of address space are reserved here, which are first
+    /// touched when the word is claimed. So `World::new(alloc, 2, 1 << 24)` reserves 128 MiB and touches a page of them, and that world answers
+    /// no `NoWord` before its callers and proxies have claimed the other 16,777,215 words.
     ///
     /// Refused `OutOfMemory` if there is no memory for it, and for nothing else: also of a system that doesn't reserve more than its memory.
     pub fn new(alloc: Global, nodes: u8, words: u32) -> Result<World, Refusal>
@@ -113,6 +115,26 @@ impl World {
         ensures { self.now.claimed + result ≡ self.now.size }
     {
         self.state.words_left()
+    }
+
+    /// Makes so many link words more, none of them claimed: what a world that lasts takes from time to time, in place of all its words at once.
+    /// The numbers of the new words follow those that there are, and nothing else of the world changes. A proxy that has found no word
+    /// before stays as it is.
+    ///
+    /// For each word that isn't claimed yet 8 bytes are reserved. Where there is no room for the new ones the list of all words is moved into
+    /// one that has, so to add many words at a time is cheaper than few. Refused `OutOfMemory`, also if there would be more than 2^64 - 1 words;
+    /// then the world is as it was. To add none is never refused.
+    ///
+    /// In a world with no words left, `world.add_words(1000)?` makes `world.words_left()` 1,000. A program that lasts asks before each open:
+    /// `if world.words_left() < 64 { world.add_words(1000)?; }`.
+    pub fn add_words(&mut self, count: u64) -> Result<(), Refusal>
+        ensures more { OnOk result (self.new ≡ grown self.old count) }
+        ensures none { count ≡ 0 → IsOk result }
+        ensures lawful { OnOk result ((b : Books) → (g : Routes) → Lawful self.old b g → Lawful self.new b g) }
+        ensures err { OnErr result (self.new ≡ self.old) }
+        ensures why { IfErr result (λ e. e ≡ Refusal.OutOfMemory) }
+    {
+        self.state.add_words(count)
     }
 
     /// Whether nothing waits: no message is in an outbox, a mailbox or a hand, no close is pending and no router is flagged. Then each node's
@@ -181,6 +203,49 @@ impl World {
         ensures plain { (b : Books) → (g : Routes) → Lawful self.old b g → Plain b step.now result (advance self.old b step.now result) }
     {
         self.state.step(step)
+    }
+
+    /// The node that sent the message in a node's hand, if it has one there: what `Act::Hand` has to name (docs/PROTOCOL.md, "Turns"). A node
+    /// that isn't one of the world's has none. It is never refused.
+    ///
+    /// In the world `World::new(alloc, 2, 8)` `world.hand(0)` is none, and after a look of node 0 at node 1's mailbox it is `Some(1)`.
+    pub fn hand(&self, node: u8) -> Option<u8>
+        ensures { result ≡ hand_at self.now node }
+    {
+        self.state.hand(node)
+    }
+
+    /// Whether a node may take this act now: in whatever order, where a step's turn takes the first possible one (docs/PROTOCOL.md, "Turns").
+    /// A node handles the message in its hand before it looks for another, a router rests only if it can do nothing else, and a node is idle
+    /// only if it has no act; each other act that is possible may come next. A node that isn't one of the world's may take none. It is never
+    /// refused, and takes no memory.
+    ///
+    /// In the world `World::new(alloc, 2, 8)` `world.can_act(0, Act::Idle)` is true, and `world.can_act(0, Act::Look(1))` is false.
+    pub fn can_act(&self, node: u8, act: Act) -> bool
+        ensures { result ≡ can_act self.now node act }
+    {
+        self.state.can_act(node, act)
+    }
+
+    /// Lets a node take this act, whichever of its possible ones it is, and tells what it was seen to do. So another order than that of
+    /// [`World::step`] becomes a run; the theorem holds of any.
+    ///
+    /// `NotTaken::NotPossible` if [`World::can_act`] answers false. `NotTaken::Refused` with `NumbersEnd` if the act would make more routers
+    /// than there are serials left at the node, and with `OutOfMemory` if it wants memory and finds none; nothing stands in for it then, but
+    /// who asks may ask for the unlock in place of a begin or a retire. An act that isn't taken changes nothing.
+    ///
+    /// In the world `World::new(alloc, 2, 8)` `world.act(0, Act::Idle)` is `Ok(Happened::Idle)`.
+    pub fn act(&mut self, node: u8, act: Act) -> Result<Happened, NotTaken>
+        ensures acted { IfOk result (λ event. IsActed self.old node act event self.new) }
+        ensures step { IfOk result (λ event. StepAny self.old (Step.Turn node) (Reply.Turned event) self.new) }
+        ensures lawful { IfOk result (λ event. (b : Books) → (g : Routes) → Lawful self.old b g →
+            Lawful self.new (advance self.old b (Step.Turn node) (Reply.Turned event)) (routes_after self.old g (Step.Turn node) (Reply.Turned event))) }
+        ensures plain { IfOk result (λ event. (b : Books) → (g : Routes) → Lawful self.old b g →
+            Plain b (Step.Turn node) (Reply.Turned event) (advance self.old b (Step.Turn node) (Reply.Turned event))) }
+        ensures why { IfErr result (λ why. WhyNotTaken self.old node act why) }
+        ensures err { OnErr result (self.new ≡ self.old) }
+    {
+        self.state.act(node, act)
     }
 
     /// Puts a parcel at an end that the node's callers hold, and answers its number: how many were put there before. It has 0 to 65,536 bytes of

@@ -9,7 +9,7 @@ use Rattle.ipcz_world.proofs.Vocabulary.{place_at, put_place, Word, empty_word, 
 use Rattle.ipcz_word.specs.Layout.{word_of_bits, source_of_bits, bits_of}
 use Rattle.ipcz_word.specs.SideSets.{both}
 use Rattle.ipcz_word.specs.SideSets as sides
-use Rattle.ipcz_world.specs.Coding.{WordTable, IsLinkNumber, AreUnclaimedEmpty, laid_table, claimed_word, source_at, put_word, claim_one}
+use Rattle.ipcz_world.specs.Coding.{WordTable, IsLinkNumber, AreUnclaimedEmpty, laid_table, claimed_word, source_at, put_word, with_more, claim_one}
 use Rattle.ipcz_world.proofs.code.Slots.{get-place, set-place, place-front, put-front}
 use Rattle.ipcz_world.proofs.code.WordNumbers.{spelled}
 
@@ -92,6 +92,24 @@ claim_word bits size l =
           ∙ ap (λ w. map word_of_bits bits ++ w ∷ replicate (size - (length bits + 1)) empty_word) empty_number
           ∙ ap (λ k. map word_of_bits bits ++ replicate k empty_word) rest) j;
       claimed = longer j;
+    }
+
+-- so many elements and so many others are all of them
+replicate-more : {X : Type 0} (x : X) (m n : ℕ) → replicate (m + n) x ≡ replicate m x ++ replicate n x
+replicate-more x zero n = let all : 0 + n ≡ n = omega arith in ap (λ k. replicate k x) all
+replicate-more x (suc m) n =
+    let more : suc m + n ≡ suc (m + n) = omega arith in
+    ap (λ k. replicate k x) more ∙ ap (λ xs. x ∷ xs) (replicate-more x m n)
+
+-- a larger table that has the same words laid out has more empty ones
+pub more_words : (bits : List ℕ) (size count : ℕ) → length bits ≤ size → laid_table bits (size + count) ≡ with_more (laid_table bits size) count
+more_words bits size count l =
+    let rest : size + count - length bits ≡ (size - length bits) + count = omega (arith, l) in
+    λ j. record {
+      words = (ap (λ k. map word_of_bits bits ++ replicate k empty_word) rest
+          ∙ ap (λ ws. map word_of_bits bits ++ ws) (replicate-more empty_word (size - length bits) count)
+          ∙ sym (append_assoc (map word_of_bits bits) (replicate (size - length bits) empty_word) (replicate count empty_word))) j;
+      claimed = length bits;
     }
 
 -- words that are all empty

@@ -16,7 +16,7 @@ ghost use Rattle.ipcz_world.specs.Visiting.{AreIdle, IsPlace, Walk};
 
 use crate::mail::Mail;
 use crate::state::State;
-use ipcz_base::{Item, LinkEnd, Message, Moves};
+use ipcz_base::{Item, LinkEnd, LinkId, Message, Moves};
 
 impl State {
     /// Carries a lone parcel all its way in one go: a send out, a post, a look, a hand, and a rest of each router. It gives how many acts that
@@ -72,13 +72,7 @@ impl State {
             self.nodes.node_mut(n).rest(serial);
             return (6, self.next_node(n));
         }
-        // A link end made anew, so that the first one needn't lie in memory.
-        let over = LinkEnd {
-            link: link.link,
-            side: link.side,
-            other: link.other,
-        };
-        self.leave_in_hand(n, over, number, item);
+        self.leave_in_hand(n, link, number, item);
         (3, self.next_node(n))
     }
 
@@ -104,20 +98,33 @@ impl State {
         {
             return (6, self.next_node(link.other));
         }
-        // A link end made anew, so that the first one needn't lie in memory.
-        let over = LinkEnd {
-            link: link.link,
-            side: link.side,
-            other: link.other,
-        };
-        self.leave_in_hand(n, over, number, item);
+        self.leave_in_hand(n, link, number, item);
         (4, self.next_node(n))
     }
 
-    // Leaves an item without ends in the hand of the node at the other end of its link.
+    // Leaves an item without ends in the hand of the node at the other end of its link. The link end is made anew, field by field, so that the
+    // given one needn't lie in memory, nor the bytes between its fields be copied from place to place.
+    #[inline(always)]
+    fn leave_in_hand(&mut self, n: u8, link: LinkEnd, number: u64, item: Item)
+        requires lengths { HasLengths self.old }
+        requires here { n < self.old.count }
+        requires there { link.other < self.old.count }
+        requires hand { (node_at self.old link.other).hand ≡ None }
+        requires clear { mail_at self.old (way self.old n link.other) ≡ Mail.Empty }
+        ensures { self.new ≡ with_hand self.old n link.other (Message.Item link.link (opposite link.side) number item []) }
+    {
+        let over = LinkEnd {
+            link: made_anew(link.link),
+            side: link.side,
+            other: link.other,
+        };
+        self.leave_item(n, over, number, item);
+    }
+
+    // The same. It stands apart, since it is seldom wanted.
     #[cold]
     #[inline(never)]
-    fn leave_in_hand(&mut self, n: u8, link: LinkEnd, number: u64, item: Item)
+    fn leave_item(&mut self, n: u8, link: LinkEnd, number: u64, item: Item)
         requires lengths { HasLengths self.old }
         requires here { n < self.old.count }
         requires there { link.other < self.old.count }
@@ -253,8 +260,8 @@ impl State {
             Walk w self.new (acts + result) (next_node self.new n) }
         ensures count { self.new.count ≡ self.old.count }
     {
-        match self.pass_at(n) {
-            0 => self.rest_at(n),
+        match self.rest_at(n) {
+            0 => self.pass_at(n),
             acts => acts,
         }
     }
@@ -409,5 +416,16 @@ impl State {
             }
         }
         None
+    }
+}
+
+// The same link, made anew.
+#[inline(always)]
+fn made_anew(link: LinkId) -> LinkId
+    ensures { result ≡ link }
+{
+    match link {
+        LinkId::Central(word) => LinkId::Central(word),
+        LinkId::Peripheral { node, serial } => LinkId::Peripheral { node, serial },
     }
 }

@@ -65,9 +65,9 @@ impl State {
     }
 }
 
-// Whether an act is idle.
+/// Whether an act is idle.
 #[tactic(auto, unfolding(crate::specs::Turns::is_idle))]
-fn is_idle(act: Act) -> bool
+pub(crate) fn is_idle(act: Act) -> bool
     ensures { result ≡ is_idle act }
 {
     match act {

@@ -63,9 +63,9 @@ impl State {
         None
     }
 
-    // Whether messages of a node wait for another and the mailbox between them is empty.
+    /// Whether messages of a node wait for another and the mailbox between them is empty.
     #[tactic(auto, unfolding(crate::specs::World::node_at, crate::specs::World::mail_at))]
-    fn can_post(&self, n: u8, to: u8) -> bool
+    pub(crate) fn can_post(&self, n: u8, to: u8) -> bool
         requires regular { IsRegular self.now }
         requires node { n < self.now.count }
         requires to { to < self.now.count }
@@ -135,8 +135,8 @@ impl State {
         }
     }
 
-    // Takes an act that is possible, or is refused it.
-    fn take<T: Told>(&mut self, n: u8, act: Act) -> Result<T, Refusal>
+    /// Takes an act that is possible, or is refused it.
+    pub(crate) fn take<T: Told>(&mut self, n: u8, act: Act) -> Result<T, Refusal>
         requires regular { IsRegular self.old }
         requires node { n < self.old.count }
         requires possible { can_take self.old n act ≡ true }

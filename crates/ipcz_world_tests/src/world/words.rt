@@ -1,7 +1,7 @@
 //! Link words that are used up: what an open and a proxy are answered once each word is claimed.
 
 use super::calls::{Call, first_wrong};
-use super::{A0, B0, a, b};
+use super::{A0, B0, a, b, is_refused};
 use ipcz_base::{End, Refusal, Side};
 use ipcz_world::{Reply, Step, World};
 use std::alloc::Global;
@@ -77,4 +77,27 @@ fn goes_without_words(alloc: Global) -> Result<bool, Refusal> {
 #[test]
 fn an_open_and_a_proxy_find_each_word_claimed(rt: HostRuntime) {
     assert_eq!(rt; goes_without_words(rt.alloc()), Ok(true));
+}
+
+// Whether an open finds no word.
+fn finds_none(world: &mut World) -> bool {
+    is_refused(&world.step(&Step::Open(0)), Refusal::NoWord)
+}
+
+// Whether words that are added to a world without one are given to the next opens, in their order, and to no more; and whether a world is as it
+// was after it was refused more than there is room for.
+fn gets_words(alloc: Global) -> Result<bool, Refusal> {
+    let mut world = World::new(alloc, 2, 1)?;
+    let without = world.words_left() == 0 && finds_none(&mut world);
+    world.add_words(2)?;
+    let added = world.words_left() == 2 && world.claimed() == 1 && world.word(1).is_none();
+    let refused = world.add_words(u64::MAX) == Err(Refusal::OutOfMemory);
+    let kept = world.words_left() == 2 && opens(&mut world, 1) && opens(&mut world, 2);
+    let used = world.words_left() == 0 && finds_none(&mut world);
+    Ok(without && added && refused && kept && used)
+}
+
+#[test]
+fn words_that_are_added_are_claimed_behind_the_others(rt: HostRuntime) {
+    assert_eq!(rt; gets_words(rt.alloc()), Ok(true));
 }

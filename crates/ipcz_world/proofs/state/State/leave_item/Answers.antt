@@ -7,7 +7,7 @@ use Rattle.ipcz_world.proofs.Vocabulary.{Node, World, Empty, bare_node, commit, 
 use Rattle.ipcz_world.specs.declared.mail.Mail.TheVariants.{Hand}
 use Rattle.ipcz_world.specs.Turns.{is_clear}
 use Rattle.ipcz_world.specs.contracts.state.State.{the_view}
-use Rattle.ipcz_world.proofs.state.State.leave_in_hand.Goals as goal
+use Rattle.ipcz_world.proofs.state.State.leave_item.Goals as goal
 
 pub look-requires : goal.look-requires
 unfolding node_at

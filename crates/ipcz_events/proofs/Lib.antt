@@ -1,0 +1,4 @@
+pub mod Deciding
+pub mod Logs
+pub mod Runs
+pub mod Texts

@@ -1,0 +1,14 @@
+//! A judge of logs with events: whether the rules allow the calls that another implementation has recorded together with each act of its nodes,
+//! in whatever order these come.
+#![tactic(auto)]
+
+mod entry;
+mod header;
+mod judging;
+pub mod laws;
+mod reading;
+
+pub use entry::{Entry, Named};
+pub use header::{Header, header_in};
+pub use judging::{first_refused, judge};
+pub use reading::{entry_in, named_in};

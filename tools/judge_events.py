@@ -1,0 +1,256 @@
+"""Judges a log with events by tools/model.py: whether its calls and the acts of its nodes, in the order of the log, are those of a world.
+
+    python3 tools/judge_events.py < LOG                          prints `allowed`, or the first line that isn't, and what its node could do there
+    python3 tools/judge_events.py --run SCRIPT --seed N > LOG    runs a script in which each node takes any of its possible acts, as the seed draws
+
+What a log is tells docs/JUDGE.md, "Events". Nothing of it is proved; that a line is the first refused rests on this: the text of an event tells which act it is.
+"""
+import copy
+import json
+import pathlib
+import random
+import re
+import sys
+from collections.abc import Iterator
+from typing import Any
+
+import asked
+import model
+
+# An act of a node: what comes before its first blank, and what it is about.
+Act = tuple[str, Any]
+VERBS = {
+    "send out": model.World.send_out, "send in": model.World.send_in, "discard": model.World.discard, "finish out": model.World.finish_out,
+    "finish in": model.World.finish_in, "leave": model.World.leave, "mark": model.World.mark, "wake": model.World.wake, "claim": model.World.claim,
+    "lock": model.World.lock, "wait": model.World.lock, "refused": model.World.lock, "begin": model.World.begin, "retire": model.World.retire,
+    "rest": model.World.rest, "unlock": None,
+}
+
+
+class NoLine(Exception):
+    """What stands there is no line of a log."""
+
+
+class World(model.World):
+    """A world in which a node takes the act that it is told to. What isn't possible changes nothing, and gives nothing."""
+
+    def take(self, number: int, act: Act, may_spoil: bool = False) -> str | None:
+        """Takes an act. A rest that isn't possible may spoil the world, where that doesn't matter: then no copy of it is made."""
+        if not 0 <= number < len(self.nodes):
+            return None
+        node = self.nodes[number]
+        match act:
+            case "hand", _:
+                return self.hand(node)
+            case "look", sender:
+                return self.look_at(node, sender)
+            case "post", receiver:
+                return self.post_to(node, receiver)
+            case "close", _:
+                return self.pending_close(node)
+            case "idle", _:
+                return "idle" if self.is_idle(number) else None
+            case verb, serial:
+                return self.let_act(node, serial, verb, may_spoil)
+
+    def look_at(self, node: model.Node, sender: int) -> str | None:
+        mail = self.mailboxes.get((sender, node.number))
+        if not mail or any(each and each[1] for (_, to), each in self.mailboxes.items() if to == node.number):
+            return None
+        self.mailboxes[sender, node.number] = mail[0], True
+        return f"look {sender}"
+
+    def post_to(self, node: model.Node, receiver: int) -> str | None:
+        if receiver >= len(node.outboxes) or not node.outboxes[receiver] or self.mailboxes[node.number, receiver]:
+            return None
+        self.mailboxes[node.number, receiver] = node.outboxes[receiver].pop(0), False
+        return f"post {receiver}"
+
+    def let_act(self, node: model.Node, serial: int, verb: str, may_spoil: bool) -> str | None:
+        router = node.routers.get(serial)
+        if router is None:
+            return None
+        if verb == "rest":
+            event = self.rest_last(node, serial, may_spoil)
+        else:
+            event = self.unlock(node, router) if verb == "unlock" else VERBS[verb](self, node, router)
+        if event and (event.endswith("leave") or event.startswith("retire")):
+            del node.routers[serial]
+        return f"r{serial} {event}" if event else None
+
+    def rest_last(self, node: model.Node, serial: int, may_spoil: bool) -> str | None:
+        """A router rests only if it can do nothing else."""
+        world = self if may_spoil else copy.deepcopy(self)
+        inside = world.nodes[node.number]
+        if any(act(world, inside, inside.routers[serial]) for act in model.ROUTER_ACTS if act is not model.World.rest):
+            return None
+        return self.rest(node, node.routers[serial])
+
+    def unlock(self, node: model.Node, router: model.Router) -> str | None:
+        """It stands in for a begin and a retire."""
+        if not router.holds or not (router.is_proxy() or self.is_done(router)):
+            return None
+        at = router.outward.primary
+        router.holds = False
+        router.flag()
+        return self.changed("unlock", at, self.word(at) % 256 & ~model.LOCKED[at.side])
+
+    def acts_of(self, number: int) -> Iterator[Act]:
+        """What a node could do, if it is possible; a router rests if it is flagged, and last."""
+        node, others = self.nodes[number], range(len(self.nodes))
+        yield "hand", None
+        yield from (("look", sender) for sender in others)
+        yield from (("post", receiver) for receiver in others)
+        yield "close", None
+        yield from ((verb, serial) for serial in list(node.routers) for verb in VERBS if verb not in ("rest", "wait", "refused"))
+        yield from (("rest", serial) for serial, router in list(node.routers.items()) if router.flagged)
+
+    def possible(self, number: int) -> list[str]:
+        """The events of all that a node could do now."""
+        tried = ((copy.deepcopy(self), act) for act in [*self.acts_of(number), ("idle", None)])
+        return [event for world, act in tried if (event := world.take(number, act))]
+
+
+class Run(model.Run):
+    def __init__(self, nodes: int, words: int) -> None:
+        super().__init__(nodes, words)
+        self.world = World(nodes, words)
+
+
+NUMBER, LINK, END = r"(?:0|[1-9]\d*)", r"(?:C(?:0|[1-9]\d*)|P[0-7]\.(?:0|[1-9]\d*))", r"(?:0|[1-9]\d*)[AB]"
+OTHERS = "BypassPeer|AcceptBypass|StopProxying|ProxyWillStop"
+# The texts of events; each has its act's own words in front.
+FORMS = [re.compile(form) for form in (
+    rf"(hand) (?:(?:item {NUMBER}|{OTHERS}) {LINK}(?: stray)?|Flush {LINK}(?: dropped)?)", rf"(close) {END}", "(idle)", "(look|post) ([0-7])",
+    rf"r({NUMBER}) (send out|send in) {NUMBER} {LINK}(?: moves {END}(?:,{END})*)?", rf"r({NUMBER}) (discard) {NUMBER}(?: leave)?",
+    rf"r({NUMBER}) (finish out|finish in) {LINK}", rf"r({NUMBER}) (leave|rest)", rf"r({NUMBER}) (mark|wake|lock|wait|refused|unlock) C{NUMBER} {NUMBER}",
+    rf"r({NUMBER}) (claim) (?:{NUMBER}|NoWord)", rf"r({NUMBER}) (begin) C{NUMBER}", rf"r({NUMBER}) (retire) {NUMBER} {LINK}",
+)]
+# Words and pairs are below 4096, other numbers have 64 bits.
+SMALL = re.compile(rf"C({NUMBER})|({NUMBER})[AB]|(?:claim |(?:mark|wake|lock|wait|refused|unlock) C{NUMBER} )({NUMBER})")
+
+
+def named(text: str) -> Act:
+    """The act that the text of an event names."""
+    found = next((found for form in FORMS if (found := form.fullmatch(text))), None)
+    small = [int(digits) for each in SMALL.findall(text) for digits in each if digits]
+    if not found or any(number >= 4096 for number in small) or any(int(digits) >= 2**64 for digits in re.findall(r"\d+", text)):
+        raise NoLine
+    parts = found.groups()
+    if len(parts) == 1:
+        return parts[0], None
+    return (parts[0], int(parts[1])) if parts[0] in ("look", "post") else (parts[1], int(parts[0]))
+
+
+def read(line: str) -> dict[str, Any]:
+    try:
+        value = model.read_json(line)
+    except ValueError as fault:
+        raise NoLine from fault
+    if not isinstance(value, dict):
+        raise NoLine
+    return value
+
+
+def is_allowed(run: Run, line: dict[str, Any]) -> bool:
+    """Whether a line may come next; it is taken then."""
+    if isinstance(text := line.get("event"), str):
+        if not model.is_number(line.get("node"), 0, 255):
+            raise NoLine
+        return run.world.take(int(line["node"]), named(text), may_spoil=True) == text
+    command = line.get("call")
+    if not isinstance(line.get("answer"), str) or not model.is_command(command, len(run.world.nodes), set()) or command[0] in ("turn", "settle"):
+        raise NoLine
+    return run.do(command) == [line["answer"]]
+
+
+def verdict(log: str) -> str:
+    """What is said of a log."""
+    lines = log.split("\n")
+    lines = lines[:-1] if lines[-1] == "" else lines
+    try:
+        header = read(lines[0] if lines else "")
+        nodes, words = header.get("nodes"), header.get("words")
+        if not model.is_number(nodes, 1, 8) or not model.is_number(words, int(nodes) * (int(nodes) - 1) // 2, 4096):
+            raise NoLine
+    except NoLine:
+        return "line 1: no line of a log"
+    run = Run(int(nodes), int(words))
+    for number, text in enumerate(lines[1:], 2):
+        try:
+            line = read(text)
+            if not is_allowed(run, line):
+                return refused(number, line, int(nodes), int(words), lines[1 : number - 1])
+        except NoLine:
+            return f"line {number}: no line of a log"
+    return "allowed"
+
+
+def refused(number: int, line: dict[str, Any], nodes: int, words: int, before: list[str]) -> str:
+    """What is said of a line that isn't allowed, behind the lines before it."""
+    node = line.get("node")
+    if "event" not in line or node >= nodes:
+        return f"line {number}: refused"
+    run = Run(nodes, words)
+    for text in before:
+        is_allowed(run, read(text))
+    return f"line {number}: refused; node {node} could: " + ", ".join(run.world.possible(int(node)))
+
+
+# ---- runs
+
+
+def drawn_act(world: World, number: int, draw: random.Random) -> str:
+    """Takes some possible act of a node, or idle."""
+    acts = list(world.acts_of(number))
+    rests = [act for act in acts if act[0] == "rest"]
+    acts = [act for act in acts if act[0] not in ("rest", "unlock")]
+    draw.shuffle(acts)
+    draw.shuffle(rests)
+    # (a router that could do something doesn't rest; another one may, before others act)
+    acts = acts + rests if draw.random() < 0.8 else rests + acts
+    return next((event for act in acts if (event := world.take(number, act))), "idle")
+
+
+def log_of(script: dict[str, Any], seed: int) -> list[dict[str, Any]]:
+    """The log of a run of a script in which the seed draws which node acts next, and which of its possible acts it takes."""
+    draw = random.Random(seed)
+    run = Run(script["nodes"], script["words"])
+    log: list[dict[str, Any]] = [{"nodes": script["nodes"], "words": script["words"]}]
+    for command in script["commands"]:
+        if command[0] == "turn":
+            nodes, most = [command[1]], command[2]
+        elif command[0] == "settle":
+            nodes, most = list(range(script["nodes"])), command[1]
+        else:
+            log.append({"call": command, "answer": run.do(command)[0]})
+            continue
+        while most and (busy := [number for number in nodes if not run.world.is_idle(number)]):
+            number = draw.choice(busy)
+            log.append({"node": number, "event": drawn_act(run.world, number, draw)})
+            most -= 1
+    return log
+
+
+def written(log: list[dict[str, Any]]) -> str:
+    return "".join(json.dumps(line) + "\n" for line in log)
+
+
+def main() -> int:
+    parser = asked.parser(__doc__)
+    parser.add_argument("--run", type=pathlib.Path, metavar="SCRIPT", help="a script whose run is drawn")
+    parser.add_argument("--seed", type=int, default=0, help="what draws the order of acts (0)")
+    given = parser.parse_args()
+    if given.run:
+        value = model.read_json(given.run.read_text())
+        if model.first_fault(value) is not None:
+            sys.exit(f"{given.run} is no script")
+        print(written(log_of(value, given.seed)), end="")
+        return 0
+    said = verdict(sys.stdin.read())
+    print(said)
+    return 0 if said == "allowed" else 2
+
+
+if __name__ == "__main__":
+    sys.exit(main())
