@@ -148,11 +148,12 @@ IPCZ_LOOP_API void *ipcz_node_data(ipcz_node *node, ipcz_portal portal);
  * A node's cell is called only under the node's lock, and no thread holds two of these. So a call waits at most for calls and turns of others at one
  * node after the other.
  *
- * No parcel stays behind. A turn that has become possible at a node B was made so by a call on B, or by a turn of some node. After a call on B, and
- * before the lock is given back, B takes turns until it has none. After turns of a node A the thread that took them, having given A's lock back,
- * takes the lock of each other node in turn, and that node's turns until it has none; and if it had any, those of all the rest again
- * (ipcz_loop_move_). So after each turn each other node looks once more, and the turn that this one made possible is taken, by this thread or by
- * one that came between.
+ * No parcel stays behind. A turn that has become possible at a node B was made so by a call on B, or by a turn of some node that has touched B: it sent B
+ * a message, or took one of B's (ipcz_cell_acts_touching). After a call on B, and before the lock is given back, B takes turns until it has none. After
+ * turns of a node A the thread that took them, having given A's lock back, takes the lock of each node that they touched, one after the other, and
+ * that node's turns until it has none; and so on with those that these have touched (ipcz_loop_move_). So whoever is touched looks once more, and the
+ * turn that became possible is taken, by this thread or by one that came between. A node whose turn was refused is asked again in the next call that
+ * moves anything. So a parcel costs the same with two nodes and with sixty-four.
  *
  * No thread sleeps on. A parcel can be received at B only after a call on B or a turn of B, and both are made under B's lock. A thread that wants to
  * wait looks under this lock, finds nothing, writes itself into B's list, and gives the lock back only by falling asleep (pthread_cond_wait). So a
@@ -162,7 +163,8 @@ IPCZ_LOOP_API void *ipcz_node_data(ipcz_node *node, ipcz_portal portal);
  * portals; so what comes after that look sets it once more.
  *
  * How long it takes. A call of ipcz_node_send goes on while nodes have turns, also for what others send meanwhile, but takes no more than
- * IPCZ_LOOP_ROUNDS_ looks: portals that chase each other in a circle don't hold it for ever. What is left then goes on in the next call. */
+ * IPCZ_LOOP_ROUNDS_ looks: portals that chase each other in a circle don't hold it for ever. What is left then goes on in the next call that moves
+ * anything. Once in IPCZ_LOOP_RETRY_ calls on a node all nodes are asked, and the routers that were told that there is no slot ask again. */
 enum { IPCZ_LOOP_TURNS_ = 1 << 10, IPCZ_LOOP_ROUNDS_ = 1 << 14, IPCZ_LOOP_RETRY_ = 256 };
 
 /* A thread that sleeps: at portals, or, if it has no parcel, until the node is rung. */
@@ -191,7 +193,7 @@ struct ipcz_node {
     size_t data_count, data_room;
     int fd; /* -1 until it is asked for */
     bool is_rung, is_stopped;
-    unsigned served; /* how often it was asked to take turns, as far as an unsigned counts */
+    unsigned calls; /* how many calls it had, as far as an unsigned counts */
     ipcz_status refused; /* why a turn of some node was refused, if one was since this node took turns */
     uint8_t number;
     char apart[64]; /* so that locks of different nodes don't share a line of the processor's cache */
@@ -199,6 +201,7 @@ struct ipcz_node {
 
 struct ipcz_loop {
     uint8_t nodes;
+    uint64_t left; /* nodes that may still have turns, by their bits; read and written by atomics */
     ipcz_node node[IPCZ_MAX_NODES];
 };
 
@@ -278,22 +281,20 @@ static inline bool ipcz_node_hand_out_(ipcz_node *node) {
     return has_given;
 }
 
-/* Now and then: lets a router that was told that there is no slot for its shorter way ask again; whether one does. */
-static inline bool ipcz_node_retries_(ipcz_node *node) {
-    return node->served++ % IPCZ_LOOP_RETRY_ == 0 && ipcz_cell_retry(&node->cell) == IPCZ_AGAIN;
-}
-
-/* Takes turns of a node until it has none, or one is refused, and hands out what has come; whether it had one. */
-static inline bool ipcz_node_turns_(ipcz_node *node, bool was_called) {
+/* Takes turns of a node until it has none, or one is refused, and hands out what has come; whether it had one. Adds the nodes that they touch. It may be
+ * asked to let routers that were told that there is no slot for their shorter way ask again. */
+static inline bool ipcz_node_turns_(ipcz_node *node, bool was_called, bool retries, uint64_t *touched) {
     bool had_turn = false, has_given;
     do {
-        uint64_t acts;
+        uint64_t acts, now;
         do {
-            acts = 0;
-            node->refused = ipcz_cell_acts(&node->cell, IPCZ_LOOP_TURNS_, &acts);
+            acts = now = 0;
+            node->refused = ipcz_cell_acts_touching(&node->cell, IPCZ_LOOP_TURNS_, &acts, &now);
+            *touched |= now;
             /* (of a call that is refused the turns before stand) */
             had_turn = had_turn || node->refused || acts;
-        } while (node->refused == IPCZ_RACED || acts == IPCZ_LOOP_TURNS_ || (!node->refused && ipcz_node_retries_(node)));
+        } while (node->refused == IPCZ_RACED || acts == IPCZ_LOOP_TURNS_ ||
+                 (!node->refused && retries && ipcz_cell_retry(&node->cell) == IPCZ_AGAIN));
         if (had_turn) ipcz_node_ring_(node);
         has_given = (had_turn || was_called) && ipcz_node_hand_out_(node);
     } while (has_given && !node->refused);
@@ -312,40 +313,67 @@ static inline void ipcz_loop_tell_(ipcz_loop *loop, ipcz_status refused) {
     }
 }
 
-/* After turns of a node, the last of which may have been refused: has the others take theirs, and all the rest once more after each that had one. No lock
- * is held. */
-static inline void ipcz_loop_move_(ipcz_node *from, ipcz_status refused) {
+/* The bit of a node, and all bits. */
+static inline uint64_t ipcz_node_bit_(const ipcz_node *node) { return UINT64_C(1) << node->number; }
+static inline uint64_t ipcz_loop_all_(const ipcz_loop *loop) { return UINT64_MAX >> (IPCZ_MAX_NODES - loop->nodes); }
+
+/* The first node of a set behind another, going round. The set has one. */
+static inline uint8_t ipcz_node_behind_(uint64_t set, uint8_t node) {
+    const uint64_t later = set & ~(UINT64_MAX >> (IPCZ_MAX_NODES - 1 - node));
+    return IPCZ_CAST_(uint8_t, __builtin_ctzll(later ? later : set));
+}
+
+/* Nodes that may still have turns, from earlier calls: they are asked now. */
+static inline uint64_t ipcz_loop_take_left_(ipcz_loop *loop) {
+    if (!__atomic_load_n(&loop->left, __ATOMIC_RELAXED)) return 0;
+    return __atomic_exchange_n(&loop->left, 0, __ATOMIC_RELAXED);
+}
+
+/* After turns of a node, the last of which may have been refused: has the nodes that are asked take theirs, and those that these touch, until there is
+ * none left to ask. No lock is held. */
+static inline void ipcz_loop_move_(ipcz_node *from, uint64_t asked, bool retries, ipcz_status refused) {
     ipcz_loop *loop = from->loop;
-    const uint64_t all = UINT64_MAX >> (IPCZ_MAX_NODES - loop->nodes);
-    uint64_t asked = all & ~(UINT64_C(1) << from->number);
+    uint64_t left = refused ? ipcz_node_bit_(from) : 0;
+    uint8_t i = from->number;
+    asked = (asked & ~ipcz_node_bit_(from)) | ipcz_loop_take_left_(loop);
     for (int round = 0; asked && round < IPCZ_LOOP_ROUNDS_; round++) {
-        const uint8_t i = IPCZ_CAST_(uint8_t, (from->number + 1 + round) % loop->nodes);
-        if (!(asked >> i & 1u)) continue;
-        pthread_mutex_lock(&loop->node[i].lock);
-        bool had_turn = ipcz_node_turns_(&loop->node[i], false);
-        if (loop->node[i].refused) refused = loop->node[i].refused;
-        pthread_mutex_unlock(&loop->node[i].lock);
-        asked = (had_turn ? all : asked) & ~(UINT64_C(1) << i);
+        i = ipcz_node_behind_(asked, i);
+        ipcz_node *node = &loop->node[i];
+        uint64_t touched = 0;
+        pthread_mutex_lock(&node->lock);
+        ipcz_node_turns_(node, false, retries, &touched);
+        if (node->refused) {
+            refused = node->refused;
+            left |= ipcz_node_bit_(node);
+        }
+        pthread_mutex_unlock(&node->lock);
+        asked = (asked | touched) & ~ipcz_node_bit_(node);
     }
+    left |= asked;
+    if (left) __atomic_fetch_or(&loop->left, left, __ATOMIC_RELAXED);
     if (refused) ipcz_loop_tell_(loop, refused);
 }
 
-/* What follows a call that may have changed its node: turns of it, and of the others. The lock is given back. */
+/* What follows a call that may have changed its node: turns of it, and of those that it touches. The lock is given back. */
 static inline void ipcz_node_end_call_(ipcz_node *node) {
-    bool had_turn = ipcz_node_turns_(node, true);
+    const bool retries = node->calls++ % IPCZ_LOOP_RETRY_ == 0;
+    uint64_t touched = 0;
+    bool had_turn = ipcz_node_turns_(node, true, retries, &touched);
     ipcz_status refused = node->refused;
     pthread_mutex_unlock(&node->lock);
-    if (had_turn) ipcz_loop_move_(node, refused);
+    if (retries) touched = ipcz_loop_all_(node->loop);
+    if (had_turn || retries) ipcz_loop_move_(node, touched, retries, refused);
 }
 
 /* Takes the lock before a look. If a turn of any node was refused, all take turns first. */
 static inline void ipcz_node_begin_look_(ipcz_node *node) {
+    uint64_t touched = 0;
     pthread_mutex_lock(&node->lock);
     if (!node->refused) return;
-    ipcz_node_turns_(node, false);
+    ipcz_node_turns_(node, false, false, &touched);
     ipcz_status refused = node->refused;
     pthread_mutex_unlock(&node->lock);
-    ipcz_loop_move_(node, refused);
+    ipcz_loop_move_(node, ipcz_loop_all_(node->loop), false, refused);
     pthread_mutex_lock(&node->lock);
 }
 

@@ -229,8 +229,12 @@ ipcz_status ipcz_cell_get_parcel(ipcz_cell *cell, ipcz_portal at, uint8_t *bytes
  * IPCZ_STRANGER, IPCZ_OUT_OF_MEMORY. */
 ipcz_status ipcz_cell_close(ipcz_cell *cell, ipcz_portal at);
 
-/* Takes turns of the node, with a pointer that is not null: what ipcz_cell_acts calls, and what other languages may call. */
-ipcz_status ipcz_cell_acts_counting(ipcz_cell *cell, uint64_t limit, uint64_t *acts);
+/* Takes turns of the node, as ipcz_cell_acts, which calls this; no pointer is null. Beside how many acts were taken it tells
+ *   touched  which nodes they have touched: bit n is set if a message was sent to node n, or one of node n was taken, so that it can send its next.
+ *            It is written with each status but IPCZ_NOT_CREATED: of acts that end at a refusal it tells what those before have touched
+ * An act of another node can have become possible only at the nodes that are told. So who has put threads to sleep wakes those of these nodes, and
+ * no others. The node may have touched itself. */
+ipcz_status ipcz_cell_acts_touching(ipcz_cell *cell, uint64_t limit, uint64_t *acts, uint64_t *touched);
 
 /* Whether the node has nothing to do, nothing of it waits to be taken by another node, and no message to it was found. It is false while another
  * node hasn't taken what this one has sent, also when ipcz_cell_acts finds nothing to do: whoever waits for it takes turns of the others,
@@ -372,8 +376,8 @@ static inline ipcz_status ipcz_settle(ipcz_world *world, uint64_t limit, uint64_
  * Portals that travel in a circle have acts for ever: see CIRCLES at ipcz_put.
  * IPCZ_NUMBERS_END, IPCZ_OUT_OF_MEMORY, IPCZ_RACED: the acts before it stand; acts is not written. */
 static inline ipcz_status ipcz_cell_acts(ipcz_cell *cell, uint64_t limit, uint64_t *acts) {
-    uint64_t unwanted;
-    return ipcz_cell_acts_counting(cell, limit, acts ? acts : &unwanted);
+    uint64_t unwanted, touched;
+    return ipcz_cell_acts_touching(cell, limit, acts ? acts : &unwanted, &touched);
 }
 
 /* The portal that a node has from the start of the pair that it shares with another; both are below nodes, and not the same. */

@@ -227,8 +227,15 @@ class Cell {
 
     // Takes turns of the node until it has no act, another thread was first, or limit acts were taken; whether it was another thread, or any.
     bool serve(std::uint64_t limit) {
-        std::uint64_t acts = 0;
-        const ipcz_status status = ::ipcz_cell_acts(&cell_, limit, &acts);
+        std::uint64_t touched = 0;
+        return serve(limit, touched);
+    }
+
+    // The same, and adds to touched which nodes the acts have touched: see ipcz_cell_acts_touching.
+    bool serve(std::uint64_t limit, std::uint64_t &touched) {
+        std::uint64_t acts = 0, nodes = 0;
+        const ipcz_status status = ::ipcz_cell_acts_touching(&cell_, limit, &acts, &nodes);
+        touched |= nodes;
         if (status == IPCZ_RACED) return true;
         check(status);
         return acts > 0;

@@ -1,4 +1,4 @@
-/* Two threads own a node each and sleep in poll() while they have nothing to do: a node's thread wakes the other nodes' after acts that did something.
+/* Two threads own a node each and sleep in poll() while they have nothing to do: a node's thread wakes the threads of the nodes that its acts have touched.
  * Each node has an event's file descriptor, so that a loop that waits for sockets, too, can have it in the same list. */
 #include "ipcz_portals.h"
 
@@ -22,17 +22,18 @@ typedef struct {
 static int bell[NODES];
 static atomic_bool is_over;
 
-static void ring_others(int me) {
+/* Wakes the threads of these nodes. */
+static void ring(uint64_t nodes) {
     const uint64_t one = 1;
     for (int i = 0; i < NODES; i++)
-        if (i != me && write(bell[i], &one, sizeof one) != sizeof one) perror("write");
+        if (nodes >> i & 1 && write(bell[i], &one, sizeof one) != sizeof one) perror("write");
 }
 
 /* Takes turns until there are none; whether there was one. A bell that rang before it looked may have been for what it has done: then it looks once more. */
 static bool serve(owner *me) {
-    uint64_t acts = 0;
-    ipcz_status status = ipcz_cell_acts(me->cell, 1000, &acts);
-    if (status == IPCZ_RACED || acts) ring_others(me->me);
+    uint64_t acts = 0, touched = 0;
+    ipcz_status status = ipcz_cell_acts_touching(me->cell, 1000, &acts, &touched);
+    ring(touched & ~(UINT64_C(1) << me->me));
     return status == IPCZ_RACED || acts;
 }
 
@@ -49,7 +50,7 @@ static void *own(void *given) {
             did = true;
             if (++me->got == ROUNDS && me->me == 0) {
                 atomic_store(&is_over, true);
-                ring_others(me->me);
+                ring(UINT64_C(1) << 1);
             } else {
                 ipcz_cell_put(me->cell, me->at, bytes, size, NULL, 0, &number);
             }

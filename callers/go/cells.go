@@ -91,9 +91,16 @@ func (c *Cell) Close(at Portal) error {
 
 // Acts takes turns of the node until it has no act, or limit acts were taken: how many. Raced: another thread was there first; call again.
 func (c *Cell) Acts(limit uint64) (uint64, error) {
-	var acts C.uint64_t
-	err := answer(C.ipcz_cell_acts(c.c(), C.uint64_t(limit), &acts))
-	return uint64(acts), err
+	acts, _, err := c.ActsTouching(limit)
+	return acts, err
+}
+
+// ActsTouching is the same, and also tells which nodes the acts have touched: bit n is set if a message was sent to node n, or one of node n was taken, so that
+// it can send its next. Only at these nodes can a turn have become possible. Of acts that end at a refusal it tells what those before have touched.
+func (c *Cell) ActsTouching(limit uint64) (acts, touched uint64, err error) {
+	var taken, nodes C.uint64_t
+	err = answer(C.ipcz_cell_acts_touching(c.c(), C.uint64_t(limit), &taken, &nodes))
+	return uint64(taken), uint64(nodes), err
 }
 
 // Quiet tells whether the node has nothing to do, nothing of it waits to be taken by another node, and no message to it was found.

@@ -12,7 +12,9 @@ package loop
 import (
 	"context"
 	"fmt"
+	"math/bits"
 	"sync"
+	"sync/atomic"
 
 	portals "ipcz_portals"
 )
@@ -24,13 +26,15 @@ const Slots = 4096
 const (
 	mostTurns = 1 << 10
 	mostLooks = 1 << 14
-	// After so many rounds of turns a node's routers may ask again for a slot.
+	// Once in so many calls on a node all nodes are asked, and the routers that were told that there is no slot ask again.
 	retryAfter = 256
 )
 
 // A Loop is a number of nodes.
 type Loop struct {
 	nodes []*Node
+	// Nodes that may still have turns, by their bits; read and written by atomics.
+	left uint64
 }
 
 // A Node is a node of a loop.
@@ -41,8 +45,8 @@ type Node struct {
 	lock    sync.Mutex
 	cell    *portals.Cell
 	waiting []*waiter
-	// How often it was asked to take turns.
-	served uint32
+	// How many calls it had.
+	calls uint32
 	// Why a turn of some node was refused, if one was since this node took turns.
 	refused error
 	stopped bool
@@ -109,30 +113,55 @@ func (l *Loop) each(change func(n *Node)) {
 	}
 }
 
-// What follows turns of a node: the others take theirs, and all the rest once more after each that had one. So after each turn each other node looks once more,
-// and no parcel stays behind.
-func (l *Loop) moveOn(from int, refused error) {
-	all := ^uint64(0) >> (64 - len(l.nodes))
-	asked := all &^ (1 << from)
+// The bits of all nodes.
+func (l *Loop) all() uint64 {
+	return ^uint64(0) >> (64 - len(l.nodes))
+}
+
+// The first node of a set behind another, going round. The set has one.
+func firstBehind(set uint64, i int) int {
+	if later := set &^ (^uint64(0) >> (63 - i)); later != 0 {
+		set = later
+	}
+	return bits.TrailingZeros64(set)
+}
+
+// What follows turns of a node: the nodes that are asked take theirs, and those that these touch, until there is none left to ask. A turn becomes possible at a node
+// only by a call on it, or by a turn that touches it: one that sent it a message, or took one of it. So whoever is touched looks once more, and no parcel stays
+// behind. A node whose turn was refused is asked again in the next call that moves anything.
+func (l *Loop) moveOn(from int, asked uint64, retries bool, refused error) {
+	var left uint64
+	if refused != nil {
+		left = 1 << from
+	}
+	asked &^= 1 << from
+	asked |= atomic.SwapUint64(&l.left, 0)
+	i := from
 	for look := 0; asked != 0 && look < mostLooks; look++ {
-		i := (from + 1 + look) % len(l.nodes)
-		if asked>>i&1 == 0 {
-			continue
-		}
+		i = firstBehind(asked, i)
 		n := l.nodes[i]
 		n.lock.Lock()
-		had := n.turns(false)
+		_, touched := n.turns(false, retries)
 		if n.refused != nil {
 			refused = n.refused
+			left |= 1 << i
 		}
 		n.lock.Unlock()
-		if had {
-			asked = all
-		}
-		asked &^= 1 << i
+		asked = (asked | touched) &^ (1 << i)
 	}
+	l.askLater(left | asked)
 	if refused != nil {
 		l.each(func(n *Node) { n.refused = refused })
+	}
+}
+
+// Leaves nodes that may still have turns to the next call that moves anything.
+func (l *Loop) askLater(nodes uint64) {
+	for {
+		old := atomic.LoadUint64(&l.left)
+		if nodes&^old == 0 || atomic.CompareAndSwapUint64(&l.left, old, old|nodes) {
+			return
+		}
 	}
 }
 
@@ -170,14 +199,15 @@ func (n *Node) handOut() bool {
 	return given
 }
 
-// Takes turns until the node has none, or one is refused, and hands out what has come; whether it had one.
-func (n *Node) turns(called bool) bool {
-	had := false
+// Takes turns until the node has none, or one is refused, and hands out what has come; whether it had one, and which nodes they touched. It may be asked to let
+// routers that were told that there is no slot for their shorter way ask again.
+func (n *Node) turns(called, retries bool) (had bool, touched uint64) {
 	for {
-		acts, err := n.cell.Acts(mostTurns)
+		acts, nodes, err := n.cell.ActsTouching(mostTurns)
+		touched |= nodes
 		// (of acts that were refused those before stand)
 		had = had || acts > 0 || err != nil && err != portals.NotCreated
-		if err == portals.Raced || acts == mostTurns || err == nil && n.retries() {
+		if err == portals.Raced || acts == mostTurns || err == nil && retries && n.cell.Retry() == portals.Again {
 			continue
 		}
 		n.refused = err
@@ -185,15 +215,9 @@ func (n *Node) turns(called bool) bool {
 			n.refused = nil
 		}
 		if !had && !called || !n.handOut() || n.refused != nil {
-			return had
+			return had, touched
 		}
 	}
-}
-
-// Now and then: lets a router that was told that there is no slot for its shorter way ask again; whether one does.
-func (n *Node) retries() bool {
-	n.served++
-	return n.served%retryAfter == 0 && n.cell.Retry() == portals.Again
 }
 
 // Makes a call, and takes the turns that follow it.
@@ -208,11 +232,16 @@ func (n *Node) call(call func() error) error {
 }
 
 func (n *Node) endCall() {
-	had := n.turns(true)
+	n.calls++
+	retries := n.calls%retryAfter == 1
+	had, touched := n.turns(true, retries)
 	refused := n.refused
 	n.lock.Unlock()
-	if had {
-		n.loop.moveOn(n.number, refused)
+	if retries {
+		touched = n.loop.all()
+	}
+	if had || retries {
+		n.loop.moveOn(n.number, touched, retries, refused)
 	}
 }
 
@@ -222,10 +251,10 @@ func (n *Node) beginLook() {
 	if n.refused == nil {
 		return
 	}
-	n.turns(false)
+	n.turns(false, false)
 	refused := n.refused
 	n.lock.Unlock()
-	n.loop.moveOn(n.number, refused)
+	n.loop.moveOn(n.number, n.loop.all(), false, refused)
 	n.lock.Lock()
 }
 

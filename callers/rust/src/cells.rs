@@ -120,8 +120,17 @@ impl Cell {
     /// Takes turns of the node until it has no act, or `limit` acts were taken: how many. `Raced`: another thread was there first, call again; so
     /// too `NumbersEnd` and `OutOfMemory`: the acts before it stand.
     pub fn acts(&mut self, limit: u64) -> Result<u64, Refused> {
-        let mut acts = 0;
-        answer(unsafe { raw::ipcz_cell_acts_counting(&mut self.0, limit, &mut acts) })?;
+        let mut touched = 0;
+        self.acts_touching(limit, &mut touched)
+    }
+
+    /// The same, and adds to `touched` which nodes the acts have touched: bit `n` is set if a message was sent to node `n`, or one of node `n` was taken, so that it
+    /// can send its next. Only at these nodes can a turn have become possible. Of acts that end at a refusal it tells what those before have touched.
+    pub fn acts_touching(&mut self, limit: u64, touched: &mut u64) -> Result<u64, Refused> {
+        let (mut acts, mut nodes) = (0, 0);
+        let status = unsafe { raw::ipcz_cell_acts_touching(&mut self.0, limit, &mut acts, &mut nodes) };
+        *touched |= nodes;
+        answer(status)?;
         Ok(acts)
     }
 

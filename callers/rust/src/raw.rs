@@ -142,7 +142,12 @@ unsafe extern "C" {
         number: *mut u64,
     ) -> u32;
     pub fn ipcz_cell_close(cell: *mut CellHandle, at: Portal) -> u32;
-    pub fn ipcz_cell_acts_counting(cell: *mut CellHandle, limit: u64, acts: *mut u64) -> u32;
+    pub fn ipcz_cell_acts_touching(
+        cell: *mut CellHandle,
+        limit: u64,
+        acts: *mut u64,
+        touched: *mut u64,
+    ) -> u32;
     pub fn ipcz_cell_quiet(cell: *mut CellHandle) -> bool;
     pub fn ipcz_cell_retry(cell: *mut CellHandle) -> u32;
     pub fn ipcz_cell_claimed(cell: *mut CellHandle) -> u64;

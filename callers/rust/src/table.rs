@@ -3,14 +3,16 @@
 //!
 //! A cell is called only under its node's lock, and no thread holds two of these.
 //!
-//! **No parcel stays behind.** A turn that has become possible at a node was made so by a call on it, or by a turn of some node. After a call a node takes
-//! turns until it has none before the lock is given back; and after turns of a node the thread that took them has each other node do the same, and
-//! all the rest again after each that had one (`Table::move_on`).
+//! **No parcel stays behind.** A turn that has become possible at a node was made so by a call on it, or by a turn of some node that has touched it: it sent that
+//! node a message, or took one of it (`Cell::acts_touching`). After a call a node takes turns until it has none before the lock is given back; and after
+//! turns of a node the thread that took them has each node that they touched do the same, and those that these touch (`Table::move_on`). A node whose turn was
+//! refused is asked again in the next call that moves anything.
 //!
 //! **No thread sleeps on.** A parcel comes to a portal only by a call or a turn that is made under the node's lock. Who wants to wait looks under this lock,
 //! finds nothing, and gives it back only by falling asleep, in the list of the node; whoever makes a later call or turn there gets the parcel for it
 //! (`State::hand_out`). A task is woken by each later turn, and looks again itself.
 use crate::{lasting_cells, Cell, Parcel, Portal as Name, Refused, Retry};
+use std::sync::atomic::{AtomicU64, Ordering};
 use std::sync::{Arc, Condvar, Mutex, MutexGuard, PoisonError};
 use std::task::Waker;
 use std::time::{Duration, Instant};
@@ -18,7 +20,7 @@ use std::time::{Duration, Instant};
 const TURNS: u64 = 1 << 10;
 // A call takes no more looks at nodes than this: portals that chase each other in a circle don't hold it for ever.
 const LOOKS: usize = 1 << 14;
-// After so many rounds of turns a node's routers may ask again for a slot.
+// Once in so many calls on a node all nodes are asked, and the routers that were told that there is no slot ask again.
 const RETRY: u32 = 256;
 
 /// What a receive came to: at which place of the list of portals, and the parcel, or why none comes there; or why no portal has anything.
@@ -40,8 +42,8 @@ pub struct State {
     // Tasks to wake once the lock is given back, since nobody knows what a waker does.
     due: Vec<Waker>,
     next_id: u64,
-    // How often it was asked to take turns.
-    served: u32,
+    // How many calls it had.
+    calls: u32,
     // Why a turn of some node was refused, if one was since this node took turns.
     refused: Option<Refused>,
     is_stopped: bool,
@@ -50,6 +52,8 @@ pub struct State {
 /// The nodes of a loop.
 pub struct Table {
     nodes: Vec<Mutex<State>>,
+    // Nodes that may still have turns, by their bits.
+    left: AtomicU64,
 }
 
 impl State {
@@ -88,14 +92,16 @@ impl State {
         self.due.append(&mut self.tasks);
     }
 
-    /// Takes turns until the node has none, or one is refused; whether it had one.
-    fn take_turns(&mut self) -> bool {
+    /// Takes turns until the node has none, or one is refused; whether it had one. Adds the nodes that they touch. It may be asked to let routers that were told
+    /// that there is no slot for their shorter way ask again.
+    fn take_turns(&mut self, retries: bool, touched: &mut u64) -> bool {
         let mut had_turn = false;
         loop {
-            let acts = self.cell.acts(TURNS);
+            let acts = self.cell.acts_touching(TURNS, touched);
             // (of acts that were refused those before stand)
             had_turn = had_turn || acts != Ok(0);
-            if matches!(acts, Err(Refused::Raced) | Ok(TURNS)) || acts.is_ok() && self.retries() {
+            let again = acts.is_ok() && retries && self.cell.retry() == Retry::Again;
+            if matches!(acts, Err(Refused::Raced) | Ok(TURNS)) || again {
                 continue;
             }
             self.refused = acts.err();
@@ -103,17 +109,17 @@ impl State {
         }
     }
 
-    /// Now and then: lets a router that was told that there is no slot for its shorter way ask again; whether one does.
+    /// Whether it is time to ask all nodes.
     fn retries(&mut self) -> bool {
-        self.served = self.served.wrapping_add(1);
-        self.served % RETRY == 0 && self.cell.retry() == Retry::Again
+        self.calls = self.calls.wrapping_add(1);
+        self.calls % RETRY == 1
     }
 
-    /// The same, and hands out what has come.
-    fn turns(&mut self, was_called: bool) -> bool {
+    /// Takes turns, and hands out what has come.
+    fn turns(&mut self, was_called: bool, retries: bool, touched: &mut u64) -> bool {
         let mut had_turn = false;
         loop {
-            had_turn = self.take_turns() || had_turn;
+            had_turn = self.take_turns(retries, touched) || had_turn;
             if had_turn {
                 self.wake_tasks();
             }
@@ -141,13 +147,14 @@ impl Table {
                 tasks: Vec::new(),
                 due: Vec::new(),
                 next_id: 0,
-                    served: 0,
+                calls: 0,
                 refused: None,
                 is_stopped: false,
             })
         });
         Ok(Table {
             nodes: nodes.collect(),
+            left: AtomicU64::new(0),
         })
     }
 
@@ -169,31 +176,54 @@ impl Table {
     }
 
     fn end_call(&self, node: u8, mut state: MutexGuard<'_, State>) {
-        let had_turn = state.turns(true);
+        let retries = state.retries();
+        let mut touched = 0;
+        let had_turn = state.turns(true, retries, &mut touched);
         let refused = state.refused;
         release(state);
-        if had_turn {
-            self.move_on(node, refused);
+        if retries {
+            touched = self.all();
+        }
+        if had_turn || retries {
+            self.move_on(node, touched, retries, refused);
         }
     }
 
-    /// After turns of a node: has the others take theirs, and all the rest once more after each that had one.
-    fn move_on(&self, from: u8, mut refused: Option<Refused>) {
-        let all = u64::MAX >> (64 - self.nodes());
-        let mut asked = all & !(1 << from);
-        for look in 0..LOOKS {
+    /// The bits of all nodes.
+    fn all(&self) -> u64 {
+        u64::MAX >> (64 - self.nodes())
+    }
+
+    /// Nodes that may still have turns, from earlier calls: they are asked now.
+    fn take_left(&self) -> u64 {
+        match self.left.load(Ordering::Relaxed) {
+            0 => 0,
+            _ => self.left.swap(0, Ordering::Relaxed),
+        }
+    }
+
+    /// After turns of a node: has the nodes that are asked take theirs, and those that these touch, until there is none left to ask.
+    fn move_on(&self, from: u8, asked: u64, retries: bool, mut refused: Option<Refused>) {
+        let mut left = if refused.is_some() { 1 << from } else { 0 };
+        let mut asked = asked & !(1 << from) | self.take_left();
+        let mut node = from;
+        for _look in 0..LOOKS {
             if asked == 0 {
                 break;
             }
-            let node = ((usize::from(from) + 1 + look) % self.nodes.len()) as u8;
-            if asked >> node & 1 == 0 {
-                continue;
-            }
+            node = first_behind(asked, node);
             let mut state = self.lock(node);
-            let had_turn = state.turns(false);
-            refused = state.refused.or(refused);
+            state.turns(false, retries, &mut asked);
+            if state.refused.is_some() {
+                refused = state.refused;
+                left |= 1 << node;
+            }
             release(state);
-            asked = if had_turn { all } else { asked } & !(1 << node);
+            asked &= !(1 << node);
+        }
+        left |= asked;
+        if left != 0 {
+            self.left.fetch_or(left, Ordering::Relaxed);
         }
         if refused.is_some() {
             self.for_each(|state| state.refused = refused);
@@ -221,10 +251,10 @@ impl Table {
         if state.refused.is_none() {
             return state;
         }
-        state.turns(false);
+        state.turns(false, false, &mut 0);
         let refused = state.refused;
         release(state);
-        self.move_on(node, refused);
+        self.move_on(node, self.all(), false, refused);
         self.lock(node)
     }
 
@@ -248,6 +278,13 @@ impl Table {
             (answer, _) => answer,
         }
     }
+}
+
+/// The first node of a set behind another, going round. The set has one.
+fn first_behind(set: u64, node: u8) -> u8 {
+    let later = set & !(u64::MAX >> (63 - node));
+    let from = if later == 0 { set } else { later };
+    from.trailing_zeros() as u8
 }
 
 /// Gives a lock back, and wakes the tasks that are to be woken.

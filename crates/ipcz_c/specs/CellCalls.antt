@@ -15,7 +15,9 @@ use Rattle.ipcz_cell.specs.TableNames.{TableName}
 use Rattle.ipcz_cell.specs.Retries.{Retries}
 use Rattle.ipcz_cell.specs.declared.retry.Retry.{Retry}
 use Rattle.ipcz_cell.specs.declared.retry.Retry.TheVariants as retries
-use Rattle.ipcz_cell.specs.TurnChains.{RunsTurns}
+use Rattle.ipcz_cell.specs.declared.node_set.NodeSet.{NodeSet}
+use Rattle.ipcz_cell.specs.NodeSets.{no_nodes}
+use Rattle.ipcz_cell.specs.TurnChains.{RunsTouching}
 use Rattle.ipcz_c.specs.declared.cell_handle.CellHandle.{CellHandle}
 use Rattle.ipcz_c.specs.declared.portal.Portal.{Portal}
 use Rattle.ipcz_c.specs.Calls.{IsRefused, written, all_links}
@@ -67,10 +69,10 @@ abbrev pub CellCloses : Option HeldCell → Portal → ℕ → Option HeldCell �
 CellCloses old at status new =
     (answer : Result ℕ Refusal) × Moves (λ t c d. ClosesAt (named at) c answer d) old new × (status ≡ outcome_of answer)
 
--- turns one after the other, and how many
-abbrev pub CellActs : ℕ → Option HeldCell → ℕ → ℕ → ℕ → Option HeldCell → Type 0
-CellActs limit old status old_acts acts new =
-    (answer : Result ℕ Refusal) × Moves (λ t c d. RunsTurns t limit c answer d) old new × IsNumbered answer status old_acts acts
+-- turns one after the other, how many, and which nodes they touched
+abbrev pub CellActs : ℕ → Option HeldCell → ℕ → ℕ → ℕ → ℕ → Option HeldCell → Type 0
+CellActs limit old status old_acts acts touched new = (answer : Result ℕ Refusal) × (nodes : NodeSet)
+    × Moves (λ t c d. RunsTouching t limit c answer no_nodes nodes d) old new × IsNumbered answer status old_acts acts × (touched ≡ nodes.bits)
 
 -- the number that tells what became of a proxy that may ask again for its slot
 abbrev pub retry_code : Retry → ℕ

@@ -5,7 +5,7 @@ ghost use Rattle.ipcz_base.specs.Items.{sizes_of};
 ghost use Rattle.ipcz_node.specs.Node.{holds_end};
 ghost use Rattle.ipcz_cell.specs.Opens.{OpensPair, FindsQuiet, ShowsWord};
 ghost use Rattle.ipcz_cell.specs.Retries.{Retries};
-ghost use Rattle.ipcz_cell.specs.TurnChains.{RunsTurns};
+ghost use Rattle.ipcz_cell.specs.TurnChains.{RunsTouching};
 ghost use Rattle.ipcz_c.specs.CellSteps.{PutsAt, GetsAt, ClosesAt, CountsClaimed};
 ghost use Rattle.ipcz_c.specs.HeldCells.{HeldCell, IsOnly, table_of, Moves, cell_sizes};
 
@@ -13,7 +13,7 @@ use crate::cell_pointer::CellPointer;
 use crate::member::Member;
 use crate::parts::Parts;
 use ipcz_base::{Bytes, End, Ends, Parcel, Profile, Refusal, Sizes};
-use ipcz_cell::{FabricName, Retry};
+use ipcz_cell::{FabricName, NodeSet, Retry};
 use std::alloc::Global;
 use std::mem;
 
@@ -157,14 +157,19 @@ impl CellHandle {
         answer
     }
 
-    pub(crate) fn acts<F: FabricName>(&mut self, alloc: Global, limit: u64) -> Result<u64, Refusal>
+    pub(crate) fn acts<F: FabricName>(
+        &mut self,
+        alloc: Global,
+        limit: u64,
+        touched: &mut NodeSet,
+    ) -> Result<u64, Refusal>
         requires held { IsSome self.old.held.cell }
         requires named { table_of self.old.held.cell ≡ F.table }
         requires only { IsOnly F }
-        ensures { Moves (λ t c d. RunsTurns t limit c result d) self.old.held.cell self.new.held.cell }
+        ensures { Moves (λ t c d. RunsTouching t limit c result touched.old touched.new d) self.old.held.cell self.new.held.cell }
     {
         let mut member = self.take::<F>(alloc);
-        let answer = member.acts(limit);
+        let answer = member.acts(limit, touched);
         self.give(member);
         answer
     }

@@ -22,7 +22,7 @@ use crate::portal::Portal;
 use crate::status::{ALREADY_CREATED, NOT_CREATED, TOO_SMALL, refused, status};
 use crate::tell::{got, lacking, outcome, retried, tell_ends, tell_got, tell_number, tell_sizes};
 use ipcz_base::{Profile, Refusal};
-use ipcz_cell::{start, start_lasting};
+use ipcz_cell::{NodeSet, start, start_lasting};
 use std::alloc::Global;
 use std::marker::Brand;
 
@@ -258,22 +258,26 @@ pub extern "C" fn ipcz_cell_close(alloc: Global, of: &mut CellHandle, at: Portal
     outcome(answer)
 }
 
-/// Takes turns of the node until it has no act, or so many were taken.
+/// Takes turns of the node until it has no act, or so many were taken, and tells which nodes these have touched.
 #[unsafe(no_mangle)]
 #[tactic(auto, using(crate::proofs::SameOwner::brand_only))]
-pub extern "C" fn ipcz_cell_acts_counting(
+pub extern "C" fn ipcz_cell_acts_touching(
     alloc: Global,
     of: &mut CellHandle,
     limit: u64,
     acts: &mut u64,
+    touched: &mut u64,
 ) -> u32
-    ensures did { IsSome of.old.held.cell → CellActs limit of.old.held.cell result acts.old acts.new of.new.held.cell }
-    ensures none { IsNone of.old.held.cell → IsRefused not_created of.old.held.cell result of.new.held.cell × (acts.new ≡ acts.old) }
+    ensures did { IsSome of.old.held.cell → CellActs limit of.old.held.cell result acts.old acts.new touched.new of.new.held.cell }
+    ensures none { IsNone of.old.held.cell →
+        IsRefused not_created of.old.held.cell result of.new.held.cell × (acts.new ≡ acts.old) × (touched.new ≡ touched.old) }
 {
     if !of.has_cell {
         return NOT_CREATED;
     }
-    let answer = of.acts::<Brand>(alloc, limit);
+    let mut nodes = NodeSet::none();
+    let answer = of.acts::<Brand>(alloc, limit, &mut nodes);
+    *touched = nodes.bits();
     tell_number(answer, acts)
 }
 

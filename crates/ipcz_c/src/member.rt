@@ -5,11 +5,11 @@ ghost use Rattle.ipcz_node.specs.Calls.{next_sizes};
 ghost use Rattle.ipcz_node.specs.Node.{holds_end};
 ghost use Rattle.ipcz_cell.specs.Opens.{OpensPair, FindsQuiet, ShowsWord};
 ghost use Rattle.ipcz_cell.specs.Retries.{Retries};
-ghost use Rattle.ipcz_cell.specs.TurnChains.{RunsTurns};
+ghost use Rattle.ipcz_cell.specs.TurnChains.{RunsTouching};
 ghost use Rattle.ipcz_c.specs.CellSteps.{PutsAt, GetsAt, ClosesAt, CountsClaimed};
 
 use ipcz_base::{Bytes, End, Ends, Parcel, Profile, Refusal, Sizes};
-use ipcz_cell::{Fabric, FabricName, NodeCell, Retry};
+use ipcz_cell::{Fabric, FabricName, NodeCell, NodeSet, Retry};
 use std::alloc::Global;
 use std::marker::Model;
 use std::sync::Arc;
@@ -81,10 +81,10 @@ impl<F: FabricName> Member<F> {
         self.cell.open_pair(&self.fabric)
     }
 
-    pub(crate) fn acts(&mut self, limit: u64) -> Result<u64, Refusal>
-        ensures { RunsTurns F.table limit self.old result self.new }
+    pub(crate) fn acts(&mut self, limit: u64, touched: &mut NodeSet) -> Result<u64, Refusal>
+        ensures { RunsTouching F.table limit self.old result touched.old touched.new self.new }
     {
-        self.cell.acts_unheard(&self.fabric, limit)
+        self.cell.acts_touching(&self.fabric, limit, touched)
     }
 
     pub(crate) fn quiet(&mut self) -> bool

@@ -24,6 +24,7 @@ mod Looking
 pub mod TurnWords
 pub mod TurnActs
 pub mod TurnParts
+pub mod NodeSets
 pub mod TurnChains
 pub mod OpenSteps
 pub mod Slotting

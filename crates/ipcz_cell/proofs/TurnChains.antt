@@ -1,5 +1,5 @@
 -- Turns of a cell one after the other, whose events aren't told.
-use Rattle.std.specs.Prelude.{◌≡◌, ◌≢◌, ◌≤◌, ◌<◌, ◌+◌, ℕ, Bool, true, false, List, [], ◌∷◌, ◌++◌, length, Option, Some, None, Result, Ok, Err, OnOk, OnErr, IfErr, IsOk, if◌then◌else◌}
+use Rattle.std.specs.Prelude.{◌≡◌, ◌≢◌, ◌≤◌, ◌<◌, ◌+◌, ◌||◌, ℕ, Bool, true, false, List, [], ◌∷◌, ◌++◌, length, Option, Some, None, Result, Ok, Err, OnOk, OnErr, IfErr, IsOk, if◌then◌else◌}
 use Rattle.std.proofs.Common.{ap, sym, subst, ◌∙◌, refl, inl, inr, arith, append-nil}
 use Rattle.std.proofs.lemmas.List.{length-append}
 use Rattle.ipcz_base.specs.declared.message.Message.{Message}
@@ -22,7 +22,9 @@ use Rattle.ipcz_rule.specs.Steps.{is_touch_act}
 use Rattle.ipcz_cell.specs.Mails.{Handles, OldLoaded, old_named}
 use Rattle.ipcz_cell.specs.Turns.{Chooses}
 use Rattle.ipcz_cell.specs.TurnEnds.{Acts}
-use Rattle.ipcz_cell.specs.TurnChains.{acted, untold, Does, TakesTurn, TriesTurn, AreTurns, RunsTurns}
+use Rattle.ipcz_cell.specs.declared.node_set.NodeSet.{NodeSet}
+use Rattle.ipcz_cell.specs.NodeSets.{has_node}
+use Rattle.ipcz_cell.specs.TurnChains.{acted, untold, touches, some_touches, Did, Does, IsIdleTurn, TakesTurn, TriesTurn, AreTurns, RunsTouching}
 use Rattle.ipcz_cell.proofs.TurnActs.{touch_acts, touch_refused}
 use Rattle.ipcz_cell.proofs.TurnParts.{idle_acts, turn_done, turn_act}
 
@@ -42,20 +44,17 @@ plain_does t act old new (Ok done) touch alone part why grows same seen =
 plain_does t act old new (Err e) touch alone part why grows same seen = touch_refused t act old new e touch alone same seen why grows
 
 -- a turn that does this act
-pub tries : (t : TableName) (act : Act) (old mid new : CellState) (done : Result (Unit {0}) Refusal) (answer : Result Bool Refusal) → Chooses t old act mid → act ≢ acts.Idle →
-    answer ≡ acted done → Does t act mid done new → TriesTurn t old answer new
-tries t act old mid new (Ok done) answer c busy is h = subst (λ (r : Result Bool Refusal). TriesTurn t old r new) (sym is) (
+pub tries : (t : TableName) (act : Act) (old mid new : CellState) (done : Result (Unit {0}) Refusal) (answer : Result Act Refusal) → Chooses t old act mid → act ≢ acts.Idle →
+    answer ≡ acted act done → Does t act mid done new → TriesTurn t old answer new
+tries t act old mid new (Ok done) answer c busy is h = subst (λ (r : Result Act Refusal). TriesTurn t old r new) (sym is) (inr (
   h.0,
-  record {
-    turn = turn_done t act old mid new (Ok h.0) c h.1;
-    busy = subst (λ (a : Act). a ≢ acts.Idle) (sym (turn_act t act old mid new (Ok h.0) c h.1)) busy;
-  },
-)
-tries t act old mid new (Err why) answer c busy is h = subst (λ (r : Result Bool Refusal). TriesTurn t old r new) (sym is) (turn_done t act old mid new (Err why) c h)
+  record { turn = turn_done t act old mid new (Ok h.0) c h.1; act = turn_act t act old mid new (Ok h.0) c h.1; busy = busy },
+))
+tries t act old mid new (Err why) answer c busy is h = subst (λ (r : Result Act Refusal). TriesTurn t old r new) (sym is) (turn_done t act old mid new (Err why) c h)
 
 -- a turn that has nothing to do
-pub idles : (t : TableName) (act : Act) (old mid : CellState) → Chooses t old act mid → act ≡ acts.Idle → TriesTurn t old (Ok false) mid
-idles t act old mid c is = record { turn = turn_done t act old mid mid (Ok events.Idle) c nothing; idle = turn_act t act old mid mid (Ok events.Idle) c nothing ∙ is }
+pub idles : (t : TableName) (act : Act) (old mid : CellState) → Chooses t old act mid → act ≡ acts.Idle → TriesTurn t old (Ok act) mid
+idles t act old mid c is = inl (record { turn = turn_done t act old mid mid (Ok events.Idle) c nothing; idle = turn_act t act old mid mid (Ok events.Idle) c nothing ∙ is }, is)
   where
     nothing : Acts t act mid (Ok events.Idle) mid
     nothing = subst (λ (a : Act). Acts t a mid (Ok events.Idle) mid) (sym is) (idle_acts t mid)
@@ -81,53 +80,78 @@ item_handled size sender old new x is none part seen = record {
   outcome = (refl, part ∙ ap (λ (o : Option Message). part_handed sender None o old.part) is);
 }
 
-module _ (t : TableName) (first : CellState) where
-  -- so many turns have been taken
-  pub record IsUnderWay (taken : ℕ) (now : CellState) : Type 0 where
-    pub events : List Happened
-    pub turns : AreTurns t first events now
-    pub many : taken ≡ length events
+module _ (t : TableName) (first : CellState) (before : NodeSet) where
+  -- so many turns have been taken, and the nodes that they touch were added
+  pub record IsUnderWay (taken : ℕ) (touched : NodeSet) (now : CellState) : Type 0 where
+    pub did : List Did
+    pub turns : AreTurns t first did now
+    pub many : taken ≡ length did
+    pub added : (n : ℕ) → n < 64 → has_node touched n ≡ (some_touches did n || has_node before n)
 
-  pub at_start : IsUnderWay 0 first
-  at_start = record { events = []; turns = refl; many = refl }
+  pub at_start : IsUnderWay 0 before first
+  at_start = record { did = []; turns = refl; many = refl; added = λ n low. refl }
 
 -- one turn more
-one_more : (t : TableName) (first now next : CellState) (events : List Happened) (event : Happened) → AreTurns t first events now → TakesTurn t now event next →
-    AreTurns t first (events ++ event ∷ []) next
-one_more t first now next [] event turns h = (next, subst (λ (c : CellState). TakesTurn t c event next) turns h, refl)
-one_more t first now next (e ∷ es) event turns h = (turns.0, turns.1, one_more t turns.0 now next es event turns.2 h)
+one_more : (t : TableName) (first now next : CellState) (dids : List Did) (did : Did) → AreTurns t first dids now → TakesTurn t now did next →
+    AreTurns t first (dids ++ did ∷ []) next
+one_more t first now next [] did turns h = (next, subst (λ (c : CellState). TakesTurn t c did next) turns h, refl)
+one_more t first now next (d ∷ ds) did turns h = (turns.0, turns.1, one_more t turns.0 now next ds did turns.2 h)
 
-pub more : (t : TableName) (first now next : CellState) (taken : ℕ) (answer : Result Bool Refusal) → IsUnderWay t first taken now → answer ≡ Ok true → TriesTurn t now answer next →
-    IsUnderWay t first (taken + 1) next
-more t first now next taken answer way is h = let turn = subst (λ (r : Result Bool Refusal). TriesTurn t now r next) is h in record {
-  events = way.events ++ turn.0 ∷ [];
-  turns = one_more t first now next way.events turn.0 way.turns turn.1;
-  many = let many = way.many in let l = length-append way.events (turn.0 ∷ []) in omega (arith, many, l);
-}
+-- what one turn more touches
+touches_more : (dids : List Did) (did : Did) (n : ℕ) (b : Bool) → (touches did.act n || (some_touches dids n || b)) ≡ (some_touches (dids ++ did ∷ []) n || b)
+touches_more [] did n b = grind
+touches_more (d ∷ ds) did n b = grind (touches_more ds did n b)
 
--- the end, at an idle turn, at a refused one, or at the limit
-pub ends_idle : (t : TableName) (limit : ℕ) (first now next : CellState) (taken : ℕ) (answer : Result Bool Refusal) → IsUnderWay t first taken now → taken < limit → answer ≡ Ok false →
-    TriesTurn t now answer next → RunsTurns t limit first (Ok taken) next
-ends_idle t limit first now next taken answer way below is h = record {
-  events = way.events;
-  last = now;
-  taken = way.turns;
-  end = (way.many, inr (below, subst (λ (r : Result Bool Refusal). TriesTurn t now r next) is h));
-}
+-- a turn that wasn't idle
+busy_turn : (t : TableName) (now next : CellState) (act : Act) → act ≢ acts.Idle → TriesTurn t now (Ok act) next → (event : Happened) × TakesTurn t now (record { act = act; event = event }) next
+busy_turn t now next act busy (inl idle) = absurd (busy idle.1)
+busy_turn t now next act busy (inr takes) = takes
 
-pub ends_refused : (t : TableName) (limit : ℕ) (first now next : CellState) (taken : ℕ) (answer : Result Bool Refusal) (why : Refusal) → IsUnderWay t first taken now → taken < limit →
-    answer ≡ Err why → TriesTurn t now answer next → RunsTurns t limit first (Err why) next
-ends_refused t limit first now next taken answer why way below is h = record {
-  events = way.events;
-  last = now;
-  taken = way.turns;
-  end = (let many = way.many in omega (arith, many, below), subst (λ (r : Result Bool Refusal). TriesTurn t now r next) is h);
-}
+idle_turn : (t : TableName) (now next : CellState) (act : Act) → act ≡ acts.Idle → TriesTurn t now (Ok act) next → IsIdleTurn t now next
+idle_turn t now next act is (inl idle) = idle.0
+idle_turn t now next act is (inr takes) = absurd (takes.1.busy is)
 
-pub ends_full : (t : TableName) (limit : ℕ) (first now : CellState) (taken : ℕ) → IsUnderWay t first taken now → limit ≤ taken → taken ≤ limit → RunsTurns t limit first (Ok limit) now
-ends_full t limit first now taken way up most = record {
-  events = way.events;
-  last = now;
-  taken = way.turns;
-  end = (let many = way.many in omega (arith, many, up, most), inl (refl, refl));
+module _ (t : TableName) (limit : ℕ) (first now next : CellState) (before touched : NodeSet) (taken : ℕ) (answer : Result Act Refusal) (way : IsUnderWay t first before taken touched now) where
+  pub more : (act : Act) (after : NodeSet) → answer ≡ Ok act → act ≢ acts.Idle → TriesTurn t now answer next →
+      ((n : ℕ) → n < 64 → has_node after n ≡ (touches act n || has_node touched n)) → IsUnderWay t first before (taken + 1) after next
+  more act after is busy h adds = let turn = busy_turn t now next act busy (subst (λ (r : Result Act Refusal). TriesTurn t now r next) is h) in let did : Did = record { act = act; event = turn.0 } in record {
+    did = way.did ++ did ∷ [];
+    turns = one_more t first now next way.did did way.turns turn.1;
+    many = let many = way.many in let l = length-append way.did (did ∷ []) in omega (arith, many, l);
+    added = λ n low. adds n low ∙ (ap (λ (b : Bool). touches act n || b) (way.added n low) ∙ touches_more way.did did n (has_node before n));
+  }
+
+  -- the end, at an idle turn, at a refused one, or at the limit
+  pub ends_idle : (act : Act) → taken < limit → answer ≡ Ok act → act ≡ acts.Idle → TriesTurn t now answer next → RunsTouching t limit first (Ok taken) before touched next
+  ends_idle act below is idle h = record {
+    runs = record {
+      did = way.did;
+      last = now;
+      taken = way.turns;
+      end = (way.many, inr (below, idle_turn t now next act idle (subst (λ (r : Result Act Refusal). TriesTurn t now r next) is h)));
+    };
+    touched = way.added;
+  }
+
+  pub ends_refused : (why : Refusal) → taken < limit → answer ≡ Err why → TriesTurn t now answer next → RunsTouching t limit first (Err why) before touched next
+  ends_refused why below is h = record {
+    runs = record {
+      did = way.did;
+      last = now;
+      taken = way.turns;
+      end = (let many = way.many in omega (arith, many, below), subst (λ (r : Result Act Refusal). TriesTurn t now r next) is h);
+    };
+    touched = way.added;
+  }
+
+pub ends_full : (t : TableName) (limit : ℕ) (first now : CellState) (before touched : NodeSet) (taken : ℕ) → IsUnderWay t first before taken touched now → limit ≤ taken → taken ≤ limit →
+    RunsTouching t limit first (Ok limit) before touched now
+ends_full t limit first now before touched taken way up most = record {
+  runs = record {
+    did = way.did;
+    last = now;
+    taken = way.turns;
+    end = (let many = way.many in omega (arith, many, up, most), inl (refl, refl));
+  };
+  touched = way.added;
 }

@@ -1,15 +1,17 @@
-//! Turns of a cell one after the other, which tell nothing.
-ghost use Rattle.std.specs.Prelude.{◌≡◌, ◌<◌, true, Some, None};
+//! Turns of a cell one after the other, whose events are not told: how many they were, and which nodes they touched.
+ghost use Rattle.std.specs.Prelude.{◌≡◌, ◌<◌, ◌||◌, ℕ, true, Some, None};
 ghost use Rattle.ipcz_node.specs.Acts.{has_mail_for, stand_in};
 ghost use Rattle.ipcz_node.specs.RoomyNodes.{IsPossibleAct};
 ghost use Rattle.ipcz_world.specs.Wordless.{is_wordless};
 ghost use Rattle.ipcz_cell.specs.GivenUp.{GivesUp};
-ghost use Rattle.ipcz_cell.specs.TurnChains.{acted, untold, Does, TriesTurn, RunsTurns};
+ghost use Rattle.ipcz_cell.specs.TurnChains.{acted, untold, touches, Does, TriesTurn, RunsTurns, RunsTouching};
+ghost use Rattle.ipcz_cell.specs.NodeSets.{has_node};
 
 use crate::bells::{Ringer, Unheard, Waking};
 use crate::cell::NodeCell;
 use crate::fabric::{Fabric, FabricName};
 use crate::letting::GivenUp;
+use crate::node_set::NodeSet;
 use ipcz_base::Refusal;
 use ipcz_node::{Act, Happened};
 use ipcz_router::act::RouterAct;
@@ -25,12 +27,22 @@ fn untold(told: Result<Happened, Refusal>) -> Result<(), Refusal>
 }
 
 // What a turn tells of an act that was answered so.
-fn acted(done: Result<(), Refusal>) -> Result<bool, Refusal>
-    ensures { result ≡ acted done }
+fn acted(act: Act, done: Result<(), Refusal>) -> Result<Act, Refusal>
+    ensures { result ≡ acted act done }
 {
     match done {
-        Ok(()) => Ok(true),
+        Ok(()) => Ok(act),
         Err(why) => Err(why),
+    }
+}
+
+// Adds the node that an act touches beside its own, if there is one.
+fn add_touched(touched: &mut NodeSet, act: Act)
+    ensures { (n : ℕ) → n < 64 → has_node touched.new n ≡ (touches act n || has_node touched.old n) }
+{
+    match act {
+        Act::Post(node) | Act::Hand(node) => touched.add(node),
+        _ => {}
     }
 }
 
@@ -119,19 +131,19 @@ impl<F: FabricName> NodeCell<F> {
         }
     }
 
-    // Takes one turn, as `turn`, and tells whether there was an act to do.
+    // Takes one turn, as `turn`, and tells which act it was.
     #[inline(always)]
-    fn turn_untold<R: Ringer>(&mut self, fabric: &Fabric<F>) -> Result<bool, Refusal>
+    fn turn_untold<R: Ringer>(&mut self, fabric: &Fabric<F>) -> Result<Act, Refusal>
         ensures { TriesTurn F.table self.old result self.new }
     {
         let act = self.act(fabric);
         match act {
-            Act::Hand(from) => acted(self.hand_untold::<R>(fabric, from)),
-            Act::Look(from) => acted(self.look_untold(fabric, from)),
-            Act::Post(to) => acted(self.post_untold::<R>(fabric, to)),
-            Act::Close(_) => acted(untold(self.touch_turn(fabric, act))),
-            Act::Router(serial, act) => acted(self.router_untold(fabric, serial, act)),
-            Act::Idle => Ok(false),
+            Act::Hand(from) => acted(act, self.hand_untold::<R>(fabric, from)),
+            Act::Look(from) => acted(act, self.look_untold(fabric, from)),
+            Act::Post(to) => acted(act, self.post_untold::<R>(fabric, to)),
+            Act::Close(_) => acted(act, untold(self.touch_turn(fabric, act))),
+            Act::Router(serial, of) => acted(act, self.router_untold(fabric, serial, of)),
+            Act::Idle => Ok(act),
         }
     }
 
@@ -146,26 +158,42 @@ impl<F: FabricName> NodeCell<F> {
     pub fn acts(&mut self, fabric: &Fabric<F>, limit: u64) -> Result<u64, Refusal>
         ensures { RunsTurns F.table limit self.old result self.new }
     {
-        self.acts_by::<Waking>(fabric, limit)
+        let mut touched = NodeSet::none();
+        self.acts_by::<Waking>(fabric, limit, &mut touched)
     }
 
-    /// The same, but it wakes no thread that sleeps for a node of the table: where none does, as in a library for C, which may not wake one.
+    /// The same, but it wakes no thread that sleeps for a node of the table. In place of that it adds to `touched` each node that a turn has touched:
+    /// into whose mailbox it has posted, or whose message it has handled, so that this node can post its next. Only at these nodes a turn may have
+    /// become possible: who sleeps on words of its own, as a library for C, wakes those nodes and no others.
     ///
-    /// Refused as [`NodeCell::acts`]. Where nothing waits, `cell.acts_unheard(&fabric, 100)` is `Ok(0)`.
-    pub fn acts_unheard(&mut self, fabric: &Fabric<F>, limit: u64) -> Result<u64, Refusal>
-        ensures { RunsTurns F.table limit self.old result self.new }
+    /// Refused as [`NodeCell::acts`]. Then `touched` has what the turns before have touched.
+    ///
+    /// Where nothing waits, `cell.acts_touching(&fabric, 100, &mut touched)` is `Ok(0)`, and `touched` stays as it was.
+    pub fn acts_touching(
+        &mut self,
+        fabric: &Fabric<F>,
+        limit: u64,
+        touched: &mut NodeSet,
+    ) -> Result<u64, Refusal>
+        ensures { RunsTouching F.table limit self.old result touched.old touched.new self.new }
     {
-        self.acts_by::<Unheard>(fabric, limit)
+        self.acts_by::<Unheard>(fabric, limit, touched)
     }
 
-    // Takes turns, and rings as R does.
-    fn acts_by<R: Ringer>(&mut self, fabric: &Fabric<F>, limit: u64) -> Result<u64, Refusal>
-        ensures { RunsTurns F.table limit self.old result self.new }
+    // Takes turns, adds the nodes that they touch, and rings as R does.
+    #[inline(always)]
+    fn acts_by<R: Ringer>(
+        &mut self,
+        fabric: &Fabric<F>,
+        limit: u64,
+        touched: &mut NodeSet,
+    ) -> Result<u64, Refusal>
+        ensures { RunsTouching F.table limit self.old result touched.old touched.new self.new }
     {
         for taken in 0..limit {
             match self.turn_untold::<R>(fabric) {
-                Ok(true) => {}
-                Ok(false) => return Ok(taken),
+                Ok(Act::Idle) => return Ok(taken),
+                Ok(act) => add_touched(touched, act),
                 Err(why) => return Err(why),
             }
         }

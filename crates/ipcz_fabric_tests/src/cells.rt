@@ -11,7 +11,7 @@ ghost use Rattle.ipcz_world.specs.Lawful.{IsWithinLimits};
 
 use crate::cell_tables::{self, named, put};
 use ipcz_base::{End, Refusal, Side};
-use ipcz_cell::{Blank, Fabric, FabricName, NodeCell, start};
+use ipcz_cell::{Blank, Fabric, FabricName, NodeCell, NodeSet, start};
 use std::alloc::Global;
 use std::marker::Brand;
 use std::process::Abort;
@@ -51,6 +51,8 @@ enum Call {
     Turns(&'static [&'static str]),
     /// Takes turns until one is idle, but at most so many, and tells how many.
     Acts(u64, u64),
+    /// Takes turns so, and tells how many, and which nodes they touched, by their bits.
+    Touches(u64, u64, u64),
     /// Gets these bytes and ends at an end, under this number.
     Get(End, &'static [u8], &'static [End], u64),
     /// Closes an end, whose mark has this number.
@@ -115,6 +117,19 @@ fn take_all<F: FabricName>(
     Ok(true)
 }
 
+// Whether turns are so many, and touch these nodes.
+fn touches<F: FabricName>(
+    fabric: &Fabric<F>,
+    cell: &mut NodeCell<F>,
+    limit: u64,
+    number: u64,
+    nodes: u64,
+) -> Result<bool, Refusal> {
+    let mut touched = NodeSet::none();
+    let taken = cell.acts_touching(fabric, limit, &mut touched)?;
+    Ok(taken == number && touched.bits() == nodes && touched.has(1) == (nodes & 2 == 2))
+}
+
 // Whether a get gives these bytes and ends under this number.
 fn gets<F: FabricName>(
     fabric: &Fabric<F>,
@@ -154,6 +169,7 @@ fn gives<F: FabricName>(
         }
         Call::Turns(events) => take_all(fabric, cell, alloc, events),
         Call::Acts(limit, number) => Ok(cell.acts(fabric, limit)? == number),
+        Call::Touches(limit, number, nodes) => touches(fabric, cell, limit, number, nodes),
         Call::Get(at, data, ends, number) => gets(fabric, cell, at, (data, ends), number),
         Call::Close(at, number) => Ok(cell.close(fabric, at)? == number),
         Call::Claimed(count) => Ok(cell.claimed(fabric) == count),

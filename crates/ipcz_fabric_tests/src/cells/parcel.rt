@@ -1,6 +1,6 @@
 //! A parcel from one end of a pair to the other on one node, and what cells do by turns that aren't told.
 
-use super::Call::{Acts, Close, Get, Open, Put, Turns};
+use super::Call::{Acts, Close, Get, Open, Put, Touches, Turns};
 use super::{A0, A1, B0, B1, Call, all_go};
 
 static CALLS: [(usize, Call); 5] = [
@@ -52,4 +52,24 @@ static UNTOLD: [(usize, Call); 19] = [
 #[test]
 fn turns_that_are_not_told_pass_parcels(rt: HostRuntime) {
     all_go(&rt, rt.alloc(), 4, &UNTOLD);
+}
+
+// A send touches the node that it posts to, a hand the one whose message it handles, and no other turn any: on a way from node 0 to node 1, and from one end
+// to the other on node 0.
+static TOUCHING: [(usize, Call); 10] = [
+    (0, Put(A0, b"a", &[], 0)),
+    (0, Touches(1, 1, 0)),
+    (0, Touches(100, 2, 2)),
+    (0, Touches(100, 0, 0)),
+    (1, Touches(1, 1, 0)),
+    (1, Touches(100, 2, 1)),
+    (1, Get(B0, b"a", &[], 0)),
+    (0, Open(A1, B1)),
+    (0, Put(A1, b"b", &[], 0)),
+    (0, Touches(100, 6, 1)),
+];
+
+#[test]
+fn turns_tell_which_nodes_they_touch(rt: HostRuntime) {
+    all_go(&rt, rt.alloc(), 4, &TOUCHING);
 }

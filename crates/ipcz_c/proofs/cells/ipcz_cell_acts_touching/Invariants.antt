@@ -1,5 +1,5 @@
 use Rattle.ipcz_c.specs.HeldCells.{table_of}
-use Rattle.ipcz_c.proofs.cells.ipcz_cell_acts_counting.Given as goal
+use Rattle.ipcz_c.proofs.cells.ipcz_cell_acts_touching.Given as goal
 
 -- the table of the cell
 abbrev pub ghosts-acts : goal.ghosts-acts
