@@ -1,5 +1,6 @@
-//! Bells, one a node: a thread that waits for a node sleeps on its bell, and one that may have brought the node something rings it. They are
-//! no part of the table, and no clause speaks of them: docs/TABLE.md says why no wake is lost.
+//! Bells, one a node: a thread that waits for a node sleeps on its bell, and one that may have brought the node something rings it. One more is
+//! rung with each, for a thread that waits for several nodes. They are no part of the table, and no clause speaks of them: docs/TABLE.md says
+//! why no wake is lost.
 use std::alloc::{AllocError, Global};
 use std::sync::Wait;
 use std::sync::atomic::{AtomicU64, Ordering};
@@ -17,13 +18,20 @@ pub struct Ticket {
     number: u32,
 }
 
-/// The bells of a table's nodes.
+/// The bells of a table's nodes, and one that is rung with each of them.
 #[derive(Drop)]
 pub struct Bells {
+    any: Vec<Bell>,
     bells: Vec<Bell>,
 }
 
 impl Bell {
+    fn new() -> Bell {
+        Bell {
+            word: AtomicU64::new(0),
+        }
+    }
+
     // Asks for a wake at the next ring.
     fn watch(&self) -> Ticket {
         let found = self.word.fetch_or(1, Ordering::SeqCst) | 1;
@@ -72,19 +80,40 @@ impl Ringer for Unheard {
 impl Bells {
     // Bells of so many nodes.
     pub(crate) fn new(alloc: Global, count: u8) -> Result<Bells, AllocError> {
+        let mut any = Vec::with_capacity(alloc, 1)?;
+        any.push(Bell::new())?;
         let mut bells = Vec::with_capacity(alloc, usize::from(count))?;
         for _bell in 0..count {
-            bells.push(Bell {
-                word: AtomicU64::new(0),
-            })?;
+            bells.push(Bell::new())?;
         }
-        Ok(Bells { bells })
+        Ok(Bells { any, bells })
     }
 
-    /// Wakes all that watch the bell of a node. If none does, it is a load. For a node that isn't the table's nothing is done.
+    /// Wakes all that watch the bell of a node, and those that watch the bell of all nodes. If none does, it is two loads. For a node that isn't
+    /// the table's nothing is done.
     pub fn ring(&self, node: u8) {
         if let Some(bell) = self.bells.get(usize::from(node)) {
             bell.ring();
+            if let Some(any) = self.any.first() {
+                any.ring();
+            }
+        }
+    }
+
+    /// Begins to watch the bell that is rung with that of each node: a sleep by `sleep_any` with this ticket ends at each ring from now on. Look
+    /// for what you wait for between the two, and never before.
+    pub fn watch_any(&self) -> Ticket {
+        match self.any.first() {
+            Some(any) => any.watch(),
+            None => Ticket { number: 0 },
+        }
+    }
+
+    /// Sleeps until the bell of some node is rung, or returns at once if one was rung since the ticket was taken. It returns when `limit` has
+    /// passed, and may also return for no reason.
+    pub fn sleep_any<R: Wait>(&self, rt: &R, ticket: Ticket, limit: Duration) {
+        if let Some(any) = self.any.first() {
+            any.word.park_timeout(rt, ticket.number, limit);
         }
     }
 

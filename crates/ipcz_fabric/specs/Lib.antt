@@ -1,4 +1,5 @@
 pub mod Places
 pub mod Portals
+pub mod Selecting
 pub mod Hubs
 pub mod Workers

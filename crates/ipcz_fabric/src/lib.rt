@@ -6,6 +6,7 @@ mod deadline;
 mod hub;
 mod portal;
 mod portals;
+mod selecting;
 mod workers;
 
 pub use hub::Hub;
@@ -14,4 +15,5 @@ pub use ipcz_cell::{
 };
 pub use portal::{Got, Portal, PortalPutRefused};
 pub use portals::{Arrival, Portals};
+pub use selecting::NoneGot;
 pub use workers::{Gate, Worker, run_worker, work, work_waiting};

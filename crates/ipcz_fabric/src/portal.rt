@@ -332,7 +332,7 @@ impl<F: FabricName> Portal<F> {
     }
 
     // Takes the next parcel, under the lock of the portal's node. It takes no memory.
-    fn take<R: Wait>(&self, rt: &R, hub: &Hub<F>) -> Result<(u64, Parcel), Refusal>
+    pub(crate) fn take<R: Wait>(&self, rt: &R, hub: &Hub<F>) -> Result<(u64, Parcel), Refusal>
         ensures taken { IfOk result (IsTaken F.table self.now.node self.now.end) }
         ensures refused { IfErr result (IsRefusedTake F.table self.now.node self.now.end) }
     {

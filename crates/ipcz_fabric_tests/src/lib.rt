@@ -35,4 +35,6 @@ mod race;
 #[cfg(test)]
 mod retries;
 #[cfg(test)]
+mod selecting;
+#[cfg(test)]
 mod wide_cells;
