@@ -118,11 +118,11 @@ const char *ipcz_version(void);
 /* Makes a world.
  *   nodes  how many nodes: 1 to IPCZ_MAX_NODES
  *   words  how many link words: at least nodes * (nodes - 1) / 2, at most IPCZ_MAX_WORDS. Each first pair has one from the start; each open
- *          takes one, and so does each bypass, which takes a node that a portal came through out of its way. A word isn't used again, so
- *          this is a limit for the whole life of the world: with 4,096 words a request that carries a portal for its answer, which takes
- *          one word for the open and one for the bypass, works some 2,048 times. (Whoever makes more requests opens pairs once and names
- *          each request in its bytes.) Once all words are used opens are refused, and portals that travel work as before, but parcels go
- *          round by the nodes they came through, and each further move makes that way longer
+ *          takes one, and so does each bypass, which takes a node that a portal came through out of its way. A word isn't used again: with
+ *          4,096 words a request that carries a portal for its answer, which takes one word for the open and one for the bypass, works some
+ *          2,048 times. So a program that goes on adds words in time (ipcz_add_words), or opens pairs once and names each request in its
+ *          bytes. Once all words are used opens are refused, and portals that travel work as before, but parcels go round by the nodes they
+ *          came through, and each further move makes that way longer
  *   world  a handle of no world; it has the new one if the status is IPCZ_OK, and else still none
  * IPCZ_ALREADY_CREATED, IPCZ_TOO_MANY, IPCZ_OUT_OF_MEMORY. */
 ipcz_status ipcz_create(uint8_t nodes, uint32_t words, ipcz_world *world);
@@ -168,6 +168,17 @@ ipcz_status ipcz_settle_counting(ipcz_world *world, uint64_t limit, uint64_t *ac
 
 /* How many link words were used. */
 uint64_t ipcz_claimed(ipcz_world *world);
+
+/* How many link words are left: if it is 0, an open is IPCZ_NO_WORD, and a portal that travels leaves the node it came through in its way. */
+uint64_t ipcz_words_left(ipcz_world *world);
+
+/* Makes so many link words more, none of them used yet: what a world that lasts is given from time to time. Nothing else of the world changes. A
+ * word takes 8 bytes, which are kept until ipcz_destroy, used or not; to add many at a time is cheaper than few. Add them before they are used
+ * up: a node that found none when a portal had moved on stays in its way. So a program that lasts says before each open
+ * `if (ipcz_words_left(&world) < 64 && ipcz_add_words(&world, 1000)) return false;`.
+ *   count  how many, 0 too. There is no limit but that of memory: IPCZ_MAX_WORDS says how many a world may begin with
+ * IPCZ_OUT_OF_MEMORY, also if there would be more than 2^64 - 1 in all: there are as many as before. To add none is never refused. */
+ipcz_status ipcz_add_words(ipcz_world *world, uint64_t count);
 
 /* Whether link word i was used; then its number is written. For tools: the repository's docs/PROTOCOL.md, "Link words", reads it. */
 bool ipcz_word(ipcz_world *world, uint64_t i, uint64_t *word);

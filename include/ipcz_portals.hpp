@@ -147,6 +147,12 @@ class World {
     // How many link words were used.
     std::uint64_t claimed() const { return ::ipcz_claimed(&world_); }
 
+    // How many link words are left.
+    std::uint64_t words_left() const { return ::ipcz_words_left(&world_); }
+
+    // Makes so many link words more: what a world that lasts is given before they are used up.
+    void add_words(std::uint64_t count) { check(::ipcz_add_words(&world_, count)); }
+
     // Whether a link word was used; then its number is written.
     bool word(std::uint64_t i, std::uint64_t &word) const { return ::ipcz_word(&world_, i, &word); }
 

@@ -74,10 +74,13 @@ int main(void) {
     uint8_t bytes[IPCZ_MAX_BYTES];
     uint64_t number, acts;
     size_t size, count;
-    bool quiet = false, created = false, opened = false, put = false, settled = false, got = false, closed = false;
+    bool quiet = false, created = false, added = false, opened = false, put = false, settled = false, got = false, closed = false;
     ipcz_status status;
     INSIST(ipcz_create(2, 8, &world), status, created);
     print("create", status, created);
+    INSIST(ipcz_add_words(&world, 1000), status, added);
+    print("add words", status, added);
+    printf("%d left\n", (int)ipcz_words_left(&world));
     INSIST(ipcz_open(&world, 0, &kept, &sent), status, opened);
     print("open", status, opened);
     INSIST(ipcz_put(&world, 0, left, "a portal", 8, &sent, 1, &number), status, put);

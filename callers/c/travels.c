@@ -1,4 +1,5 @@
-/* One thread, two nodes: a portal travels from node 0 to node 1 in a parcel, and parcels go over it. Then statuses that callers meet. */
+/* One thread, two nodes: a portal travels from node 0 to node 1 in a parcel, and parcels go over it. Then statuses that callers meet, and a world that
+ * is given more words than one may be made with. */
 #include "ipcz_portals.h"
 
 #include <inttypes.h>
@@ -179,6 +180,40 @@ static bool refusals(ipcz_world *world) {
     return true;
 }
 
+/* A world that lasts: many more requests, each with a fresh portal for its answer, than a world may be made with words for. Each takes two, one for
+ * the open and one for the bypass; where fewer are left, words are added. */
+static bool lasts(void) {
+    enum { REQUESTS = 3000, ADDED = 1000 };
+    ipcz_world world = IPCZ_WORLD_INIT;
+    ipcz_portal left = ipcz_first(0, 1, 2), right = ipcz_first(1, 0, 2), kept, sent;
+    parcel got;
+    int answered = 0, added = 0;
+    EXPECT(ipcz_create(2, 1, &world), IPCZ_OK);
+    for (; answered < REQUESTS; answered++) {
+        if (ipcz_words_left(&world) < 2) {
+            EXPECT(ipcz_add_words(&world, ADDED), IPCZ_OK);
+            added++;
+        }
+        EXPECT(ipcz_open(&world, 0, &kept, &sent), IPCZ_OK);
+        EXPECT(ipcz_put(&world, 0, left, "well?", 5, &sent, 1, NULL), IPCZ_OK);
+        EXPECT(ipcz_settle(&world, 1000, NULL, NULL), IPCZ_OK);
+        EXPECT(get(&world, 1, right, &got), IPCZ_OK);
+        EXPECT(put(&world, 1, got.portals[0], "yes"), IPCZ_OK);
+        EXPECT(ipcz_close(&world, 1, got.portals[0]), IPCZ_OK);
+        EXPECT(ipcz_settle(&world, 1000, NULL, NULL), IPCZ_OK);
+        EXPECT(get(&world, 0, kept, &got), IPCZ_OK);
+        HOLDS(got.size == 3);
+        EXPECT(get(&world, 0, kept, &got), IPCZ_PEER_CLOSED);
+        EXPECT(ipcz_close(&world, 0, kept), IPCZ_OK);
+    }
+    EXPECT(ipcz_add_words(&world, UINT64_MAX), IPCZ_OUT_OF_MEMORY);
+    EXPECT(ipcz_add_words(&world, 0), IPCZ_OK);
+    EXPECT(ipcz_open(&world, 0, &kept, &sent), IPCZ_NO_WORD);
+    printf("requests answered: %d, %" PRIu64 " words used, %d times added, %" PRIu64 " left\n", answered, ipcz_claimed(&world), added, ipcz_words_left(&world));
+    ipcz_destroy(&world);
+    return true;
+}
+
 /* A handle of no world, and limits. */
 static bool handles(void) {
     ipcz_world world = IPCZ_WORLD_INIT;
@@ -186,7 +221,8 @@ static bool handles(void) {
     uint64_t number;
     uint8_t node;
     EXPECT(put(&world, 0, left, "x"), IPCZ_NOT_CREATED);
-    HOLDS(ipcz_claimed(&world) == 0 && !ipcz_word(&world, 0, &number) && !ipcz_holder(&world, left, &node));
+    EXPECT(ipcz_add_words(&world, 1), IPCZ_NOT_CREATED);
+    HOLDS(ipcz_claimed(&world) == 0 && ipcz_words_left(&world) == 0 && !ipcz_word(&world, 0, &number) && !ipcz_holder(&world, left, &node));
     ipcz_destroy(&world);
     EXPECT(ipcz_create(0, 8, &world), IPCZ_TOO_MANY);
     EXPECT(ipcz_create(65, 4096, &world), IPCZ_TOO_MANY);
@@ -206,7 +242,7 @@ static bool handles(void) {
 int main(void) {
     ipcz_world world = IPCZ_WORLD_INIT;
     if (ipcz_create(2, 8, &world)) return 1;
-    bool well = travels(&world) && small_rooms(&world) && parcels_of_any_bytes(&world) && unwanted_outputs(&world) && refusals(&world) && handles();
+    bool well = travels(&world) && small_rooms(&world) && parcels_of_any_bytes(&world) && unwanted_outputs(&world) && refusals(&world) && lasts() && handles();
     printf("%" PRIu64 " words used\n", ipcz_claimed(&world));
     ipcz_destroy(&world);
     for (ipcz_status status = 0; status <= 14; status++) printf("%" PRIu32 " %s\n", status, ipcz_status_name(status));

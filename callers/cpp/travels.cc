@@ -52,6 +52,13 @@ int main() {
     std::uint64_t word = 9;
     std::cout << "moved: " << world.claimed() << " and " << seen.claimed() << " words, held by node ";
     std::cout << (seen.holder(sent, node) ? int(node) : -1) << ", first word " << (seen.word(0, word) ? word : 0) << '\n';
+    other.add_words(1000);
+    std::cout << "left: " << seen.words_left() << " words\n";
+    try {
+        other.add_words(UINT64_MAX);
+    } catch (const ipcz::Refused &why) {
+        std::cout << why.what() << ", and " << seen.words_left() << " are left\n";
+    }
     try {
         ipcz::World none(65, 4096);
     } catch (const ipcz::Refused &why) {

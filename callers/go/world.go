@@ -80,6 +80,17 @@ func (w *World) Claimed() uint64 {
 	return uint64(C.ipcz_claimed(w.c()))
 }
 
+// WordsLeft tells how many link words are left. If it is 0, an open is NoWord.
+func (w *World) WordsLeft() uint64 {
+	return uint64(C.ipcz_words_left(w.c()))
+}
+
+// AddWords makes so many link words more, of 8 bytes each, which are kept as long as the world: what a world that lasts is given before they are
+// used up, say 1,000 wherever WordsLeft is below 64 before an open. OutOfMemory: there are as many as before. To add none is never refused.
+func (w *World) AddWords(count uint64) error {
+	return answer(C.ipcz_add_words(w.c(), C.uint64_t(count)))
+}
+
 // Word tells the number of a link word, and whether it was used.
 func (w *World) Word(i uint64) (word uint64, used bool) {
 	var number C.uint64_t

@@ -114,6 +114,24 @@ func TestLimitsAreRefused(t *testing.T) {
 	}
 }
 
+func TestWordsAreAdded(t *testing.T) {
+	world := newWorld(t, 2, 1)
+	must(t, world.AddWords(0))
+	refused(t, world.AddWords(1<<64-1), OutOfMemory)
+	_, _, err := world.Open(0)
+	refused(t, err, NoWord)
+	must(t, world.AddWords(5000))
+	for opened := uint64(0); opened < 5000; opened++ {
+		if words := world.WordsLeft(); words != 5000-opened {
+			t.Fatalf("%d words are left behind %d opens", words, opened)
+		}
+		_, _, err := world.Open(0)
+		must(t, err)
+	}
+	_, _, err = world.Open(0)
+	refused(t, err, NoWord)
+}
+
 func TestParcelsHaveAnyBytes(t *testing.T) {
 	world := newWorld(t, 2, 1)
 	wide := make([]byte, 65_536)

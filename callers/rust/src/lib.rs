@@ -155,7 +155,7 @@ unsafe impl Send for World {}
 // SAFETY, of each call below: the handle was made EMPTY and is written only by the library, no other reference to it exists beside
 // `&mut self`, and what else is pointed to lives through the call, lies apart, and isn't null.
 impl World {
-    /// A world of 1 to 64 nodes, and of at least a link word for each two of them and at most 4096, else `TooMany`.
+    /// A world of 1 to 64 nodes, and of at least a link word for each two of them and at most 4096, else `TooMany`. [`World::add_words`] makes more.
     pub fn new(nodes: u8, words: u32) -> Result<World, Refused> {
         let mut world = World(raw::Handle::EMPTY);
         answer(unsafe { raw::ipcz_create(nodes, words, &mut world.0) })?;
@@ -259,6 +259,18 @@ impl World {
     /// How many link words were used.
     pub fn claimed(&mut self) -> u64 {
         unsafe { raw::ipcz_claimed(&mut self.0) }
+    }
+
+    /// How many link words are left. If it is 0, an open is refused `NoWord`.
+    pub fn words_left(&mut self) -> u64 {
+        unsafe { raw::ipcz_words_left(&mut self.0) }
+    }
+
+    /// Makes so many link words more, of 8 bytes each, which are kept as long as the world: what a world that lasts is given before they are used
+    /// up, as by `if world.words_left() < 64 { world.add_words(1000)?; }` before each open. `OutOfMemory`: there are as many as before. To add
+    /// none is never refused.
+    pub fn add_words(&mut self, count: u64) -> Result<(), Refused> {
+        answer(unsafe { raw::ipcz_add_words(&mut self.0, count) })
     }
 
     /// The number of link word `i`, if it was used; docs/PROTOCOL.md, "Link words", reads it.

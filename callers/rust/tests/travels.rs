@@ -80,6 +80,20 @@ fn limits_are_refused() -> Result<(), Refused> {
 }
 
 #[test]
+fn words_are_added() -> Result<(), Refused> {
+    let mut world = World::new(2, 1)?;
+    assert_eq!((world.words_left(), world.add_words(0)), (0, Ok(())));
+    assert_eq!(world.add_words(u64::MAX), Err(Refused::OutOfMemory));
+    assert_eq!(world.open(0), Err(Refused::NoWord));
+    assert_eq!((world.add_words(5000), world.words_left()), (Ok(()), 5000));
+    for _ in 0..5000 {
+        world.open(0)?;
+    }
+    assert_eq!((world.claimed(), world.words_left()), (5001, 0));
+    Ok(())
+}
+
+#[test]
 fn parcels_have_any_bytes() -> Result<(), Refused> {
     let mut world = World::new(2, 1)?;
     let bytes: Vec<u8> = (0..65_536_u32).map(|i| (i % 256) as u8).collect();

@@ -1,5 +1,5 @@
 -- What the calls of C do to the world of a handle, by the steps of the world.
-use Rattle.std.specs.Prelude.{◌≡◌, ◌⊎◌, ℕ, Bool, ◌&&◌, nat_le, if◌then◌else◌, Option, Some, None, IfSome, IsSomeAnd, List, Result, IfOk, IfErr}
+use Rattle.std.specs.Prelude.{◌≡◌, ◌≢◌, ◌⊎◌, ℕ, Bool, ◌&&◌, nat_le, if◌then◌else◌, Option, Some, None, IfSome, IsSomeAnd, option_map, List, Result, IfOk, IfErr}
 use Rattle.ipcz_base.specs.declared.end.End.{End}
 use Rattle.ipcz_base.specs.declared.parcel.Sizes.{Sizes}
 use Rattle.ipcz_base.specs.declared.profile.Profile.{Profile}
@@ -11,6 +11,7 @@ use Rattle.ipcz_world.specs.World.{World, node_limit, new_world}
 use Rattle.ipcz_world.specs.Steps.{StepFirst, next_sizes, put_of}
 use Rattle.ipcz_world.specs.Books.{Books, advance}
 use Rattle.ipcz_world.specs.Routes.{Routes, routes_after}
+use Rattle.ipcz_world.specs.HeldEnds.{grown}
 use Rattle.ipcz_world.specs.Lawful.{Lawful}
 use Rattle.ipcz_world.specs.Plain.{Plain}
 use Rattle.ipcz_world.specs.SettleBounds.{IsLawfulSettle, IsLawfulRefusal}
@@ -74,6 +75,11 @@ has_slots nodes slots = nat_le 1 nodes && nat_le nodes node_limit && nat_le 1 sl
 abbrev pub Creates : ℕ → ℕ → ℕ → Option World → Type 0
 Creates nodes words status new =
     ((status ≡ 0) × (new ≡ Some (new_world nodes words))) ⊎ ((status ≡ code_of OutOfMemory) × (new ≡ None))
+
+-- words that are added to the world of a handle: so many more, and nothing else changes; or no memory was found, which is wanted for none
+abbrev pub AddsWords : Option World → ℕ → ℕ → Option World → Type 0
+AddsWords old count status new =
+    ((status ≡ 0) × (new ≡ option_map (λ w. grown w count) old)) ⊎ ((count ≢ 0) × IsRefused (code_of OutOfMemory) old status new)
 
 -- an open
 abbrev pub Opens : Option World → ℕ → ℕ → Portal → Portal → Portal → Portal → Option World → Type 0

@@ -1,14 +1,14 @@
 //! The calls that C makes; `include/ipcz_portals.h` says what each is for, and what C must uphold.
 //!
 //! A handle that has no world is answered `NOT_CREATED`, 0 or `false`. C passes nothing for `alloc`.
-ghost use Rattle.std.specs.Prelude.{◌≡◌, None, IsSome, true, false, length, option_map, unwrap_or};
+ghost use Rattle.std.specs.Prelude.{◌≡◌, ◌-◌, None, IsSome, true, false, length, option_map, unwrap_or};
 ghost use Rattle.std.specs.Option.{IsNone};
 ghost use Rattle.ipcz_base.specs.Refusals.{code_of};
 ghost use Rattle.ipcz_world.specs.Holding.{shown_word, holder_of};
 ghost use Rattle.ipcz_c.specs.Named.{named};
 ghost use Rattle.ipcz_c.specs.Statuses.{not_created, already_created};
 ghost use Rattle.ipcz_c.specs.Told.{room_of, fits, TellsSizes};
-ghost use Rattle.ipcz_c.specs.Calls.{IsRefused, is_within, Creates, Opens, Puts, sizes_next, Gets, LacksRoom, Closes, TakesTurn, TellsTurn, Settles, read_off, written};
+ghost use Rattle.ipcz_c.specs.Calls.{IsRefused, is_within, AddsWords, Creates, Opens, Puts, sizes_next, Gets, LacksRoom, Closes, TakesTurn, TellsTurn, Settles, read_off, written};
 
 use crate::handle::Handle;
 use crate::making::{are_within, boxed_world, lists_of};
@@ -283,6 +283,39 @@ pub extern "C" fn ipcz_claimed(alloc: Global, of: &mut Handle) -> u64
     let claimed = world.claimed();
     of.give(world);
     claimed
+}
+
+/// How many link words are left.
+#[unsafe(no_mangle)]
+pub extern "C" fn ipcz_words_left(alloc: Global, of: &mut Handle) -> u64
+    ensures left { result ≡ unwrap_or (option_map (λ w. w.size - w.claimed) of.old.held.world) 0 }
+    ensures same { of.new.held.world ≡ of.old.held.world }
+{
+    if !of.has_world {
+        return 0;
+    }
+    let world = of.take(alloc);
+    let left = world.words_left();
+    of.give(world);
+    left
+}
+
+/// Makes so many link words more.
+#[unsafe(no_mangle)]
+pub extern "C" fn ipcz_add_words(alloc: Global, of: &mut Handle, count: u64) -> u32
+    ensures did { IsSome of.old.held.world → AddsWords of.old.held.world count result of.new.held.world }
+    ensures none { IsNone of.old.held.world → IsRefused not_created of.old.held.world result of.new.held.world }
+{
+    if !of.has_world {
+        return NOT_CREATED;
+    }
+    let mut world = of.take(alloc);
+    let added = world.add_words(count);
+    of.give(world);
+    match added {
+        Ok(()) => 0,
+        Err(why) => refused(why),
+    }
 }
 
 /// Whether a link word was claimed; then its number is written.

@@ -1,5 +1,5 @@
 -- What the calls of a world promise, from what their steps do.
-use Rattle.std.specs.Prelude.{◌≡◌, ◌<◌, ℕ, Bool, true, false, List, [], ◌∷◌, refl, take, length, map}
+use Rattle.std.specs.Prelude.{◌≡◌, ℕ, Bool, true, false, List, [], ◌∷◌, refl, take, length, map}
 use Rattle.std.proofs.Common.{arith, subst, sym, ap, ◌∙◌}
 use Rattle.ipcz_world.specs.declared.step.Step.{Step}
 use Rattle.ipcz_base.specs.declared.refusal.Refusal.TheVariants as refusals
@@ -86,9 +86,9 @@ settle-quiet limit w v (Err why) ok acts e = cc
 
 -- a get at rest
 pub empty-delivered : (w v : World) (n : ℕ) (at : End) (reply : Reply) → StepFirst w (Get n at) reply v → (a : Account) → Keeps w a →
-    IsQuiet w → w.claimed < a.words → reply ≡ Refused refusals.Empty → IsDelivered a at
-empty-delivered w v n at reply s a k quiet left e =
-    a_rest_delivers w v a n at k quiet left (subst (λ r. StepFirst w (Get n at) r v) e s)
+    IsQuiet w → reply ≡ Refused refusals.Empty → IsDelivered a at
+empty-delivered w v n at reply s a k quiet e =
+    a_rest_delivers w v a n at k quiet (subst (λ r. StepFirst w (Get n at) r v) e s)
 
 pub get-quiet : (w v : World) (n : ℕ) (at : End) (reply : Reply) → StepFirst w (Get n at) reply v → IsQuiet w → IsQuiet v
 get-quiet w v n at reply s quiet = each_get_stays_quiet w v n at reply quiet s

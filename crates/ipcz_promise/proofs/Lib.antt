@@ -3,6 +3,7 @@ mod CallPromises
 mod CallRuns
 mod DroppedParcels
 mod GoingOn
+mod Growing
 mod HolderOf
 mod Holders
 mod Inverting
@@ -16,6 +17,4 @@ pub mod Resting
 mod Start
 mod Tests
 pub mod TurnRuns
-mod WetCalls
-mod WetSteps
 mod WordCount

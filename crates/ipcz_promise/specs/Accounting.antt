@@ -17,7 +17,6 @@ use Rattle.ipcz_world.specs.World.{World, node_at}
 use Rattle.ipcz_world.specs.Books.{Books, is_closed, read}
 use Rattle.ipcz_world.specs.Routes.{Routes, is_opened}
 use Rattle.ipcz_world.specs.Lawful.{Lawful}
-use Rattle.ipcz_world.specs.Owed.{IsWet}
 use Rattle.ipcz_world.specs.Settling.{IsQuiet}
 use Rattle.ipcz_world.specs.Steps.{StepAny}
 use Rattle.ipcz_promise.specs.Promise.{Account, HasClosedDropped, IsDelivered, May, holds}
@@ -62,14 +61,9 @@ pub record Stands (w : World) (a : Account) : Type 0 where
   pub closed : (e : End) → a.closed e ≡ is_closed books e
   pub pending : PendingFits w books
 
--- no router has found the words used up while some are left
-abbrev pub IsWetWhileWordsLast : World → Type 0
-IsWetWhileWordsLast w = w.claimed < w.size → IsWet w
-
 -- the world keeps these accounts
 pub record Keeps (w : World) (a : Account) : Type 0 where
   pub stands : Stands w a
-  pub wet : IsWetWhileWordsLast w
   pub words : a.words ≡ w.size
 
 -- a step gets a reply that the plain machine may give, and the accounts go on as it says
@@ -81,11 +75,10 @@ abbrev pub StepsKeepThePromise : Type 0
 StepsKeepThePromise =
     (w v : World) (a : Account) (step : Step) (reply : Reply) → Keeps w a → StepAny w step reply v → IsPromised w a step reply v
 
--- law: if nothing waits and words are left, a get is Empty only if all that the peer has put was got, and the peer isn't closed
+-- law: if nothing waits, a get is Empty only if all that the peer has put was got, and the peer isn't closed
 abbrev pub RestDelivers : Type 0
 RestDelivers =
-    (w v : World) (a : Account) (n : ℕ) (at : End) → Keeps w a → IsQuiet w → w.claimed < a.words → StepAny w (Get n at) (Refused Empty) v →
-    IsDelivered a at
+    (w v : World) (a : Account) (n : ℕ) (at : End) → Keeps w a → IsQuiet w → StepAny w (Get n at) (Refused Empty) v → IsDelivered a at
 
 -- law: and then each portal that was dropped is closed
 abbrev pub RestCloses : Type 0

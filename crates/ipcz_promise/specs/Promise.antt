@@ -10,7 +10,7 @@
 -- `(x : T) → P` is "for each x" and `(x : T) × P` "there is an x"; `record` is a struct, and `record a { f = v }` is `a` with another field;
 -- `λ e. ..` is a closure; `cond c x y` is `if c { x } else { y }`; `[]` is an empty list, `x ∷ xs` has `x` before `xs`, and `xs ++ x ∷ []` has `x`
 -- behind `xs`; ℕ is a number. `End`, `Parcel`, `Refusal`, `Step` and `Reply` are the types of the API: an end of a pair is a portal.
-use Rattle.std.specs.Prelude.{◌≡◌, ◌⊎◌, ◌≤◌, ◌<◌, ℕ, Bool, true, false, cond, not, ◌&&◌, ◌||◌, nat_eq, nat_lt, if◌then◌else◌, Option, Some, None, List}
+use Rattle.std.specs.Prelude.{◌≡◌, ◌⊎◌, ◌≤◌, ◌<◌, ◌+◌, ℕ, Bool, true, false, cond, not, ◌&&◌, ◌||◌, nat_eq, nat_lt, if◌then◌else◌, Option, Some, None, List}
 use Rattle.std.specs.Prelude.{[], ◌∷◌, ◌++◌, length, take, map, slice_get, Result, Ok, Err}
 use Rattle.ipcz_base.specs.declared.side.Side.{Side}
 use Rattle.ipcz_base.specs.declared.side.Side.TheVariants.{A, B}
@@ -37,7 +37,7 @@ use Rattle.ipcz_world.specs.declared.step.Settled.TheVariants as settles
 pub record Account : Type 0 where
   -- how many nodes there are: they have the numbers below it
   pub nodes : ℕ
-  -- how many words it was made with: each pair takes one, and nodes take more for themselves
+  -- how many words there are in all: each pair takes one, and nodes take more for themselves
   pub words : ℕ
   -- which pairs of portals there are, by their numbers
   pub opened : ℕ → Bool
@@ -112,6 +112,10 @@ close_portal a at = record a {
   closed = λ e. cond (same_end e at) true (a.closed e);
   holder = λ e. cond (same_end e at) None (a.holder e);
 }
+
+-- so many words were added: nothing else changes
+abbrev pub more_words : Account → ℕ → Account
+more_words a count = record a { words = a.words + count }
 
 -- 2. WHAT IS ANSWERED
 
@@ -230,8 +234,8 @@ abbrev pub IsInOrder : Account → Type 0
 IsInOrder a = (e : End) → take (length (a.got e)) (a.put (peer e)) ≡ a.got e
 
 -- Rest. A settle that answers Settled tells that nothing waits (`ensures quiet`), and `is_quiet` tells whether it is so; it stays so while there are
--- only gets. Then, and while words are left (`words_left` isn't 0), a get is Empty only if this is so (`ensures delivered`): all that was put at the
--- peer was got, and the peer isn't closed. So at rest gets give all that was put, and then Empty, or PeerClosed if the peer is closed
+-- only gets. Then a get is Empty only if this is so (`ensures delivered`): all that was put at the peer was got, and the peer isn't closed. So at
+-- rest gets give all that was put, and then Empty, or PeerClosed if the peer is closed
 abbrev pub IsDelivered : Account → End → Type 0
 IsDelivered a at = (a.got at ≡ a.put (peer at)) × (a.closed (peer at) ≡ false)
 

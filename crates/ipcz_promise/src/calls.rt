@@ -1,11 +1,11 @@
 //! Calls on a world that carry the promise: `Keeps` ties the world to accounts, and each call hands it on with what the plain machine says of its
 //! reply (specs/Promise).
 
-ghost use Rattle.std.specs.Prelude.{◌≡◌, ◌<◌, ◌+◌, ℕ, true, false, Ok, IfOk, IfErr};
+ghost use Rattle.std.specs.Prelude.{◌≡◌, ◌+◌, ℕ, true, false, Ok, IfOk, IfErr, IsOk, OnOk};
 ghost use Rattle.ipcz_world.specs.Lawful.{IsWithinLimits};
 ghost use Rattle.ipcz_world.specs.Settling.{IsQuiet};
 ghost use Rattle.ipcz_world.specs.Steps.{put_reply};
-ghost use Rattle.ipcz_promise.specs.Promise.{Account, HasClosedDropped, IsDelivered, IsInOrder, May, MayRun, MaySettle, start};
+ghost use Rattle.ipcz_promise.specs.Promise.{Account, HasClosedDropped, IsDelivered, IsInOrder, May, MayRun, MaySettle, more_words, start};
 ghost use Rattle.ipcz_promise.specs.Accounting.{Keeps};
 ghost use Rattle.ipcz_promise.specs.CallRuns.{HasTheorem};
 
@@ -91,15 +91,14 @@ pub fn put_wide(
 /// Gets the next parcel at a portal: the reply is `Got` with its number and the parcel. The caller then holds the portals in it.
 ///
 /// Refused `Stranger` if the node's callers don't hold the portal; `PeerClosed` if the peer is closed and all that it put was got; and `Empty`
-/// if none has come yet. If nothing waits, as after a settle that answered `Settled` ([`is_quiet`]), and words are left ([`words_left`] isn't 0),
-/// `Empty` says that all was got and that the peer isn't closed; and a get leaves it so that nothing waits.
+/// if none has come yet. If nothing waits, as after a settle that answered `Settled` ([`is_quiet`]), `Empty` says that all was got and that the
+/// peer isn't closed; and a get leaves it so that nothing waits.
 ///
 /// After `put(&mut world, 0, left, bytes, ends)` and a settle, `get(&mut world, 1, right)` gives `Got` with number 0 and those lists, if `right` is the
 /// peer of `left`.
 pub fn get(world: &mut World, node: u8, at: End) -> Reply
     ensures promise { (a : Account) → Keeps world.old a → (c : Account) × May a (Step.Get node at) result c × Keeps world.new c }
-    ensures delivered { (a : Account) → Keeps world.old a → IsQuiet world.old → world.old.claimed < a.words →
-        result ≡ Reply.Refused Refusal.Empty → IsDelivered a at }
+    ensures delivered { (a : Account) → Keeps world.old a → IsQuiet world.old → result ≡ Reply.Refused Refusal.Empty → IsDelivered a at }
     ensures quiet { IsQuiet world.old → IsQuiet world.new }
 {
     world.get(node, at)
@@ -139,8 +138,8 @@ pub fn run(world: &mut World, alloc: Global, steps: &[Step]) -> Result<Vec<Reply
 }
 
 /// Lets the nodes take turns, `limit` of them at most, until nothing waits: `Settled` with how many turns that took, or `Unsettled` if all were
-/// taken and something still waits. After `Settled` a get tells by `Empty` that all was got, if words are left ([`get`]); and each portal in a
-/// parcel that a closed portal never got is closed.
+/// taken and something still waits. After `Settled` a get tells by `Empty` that all was got ([`get`]); and each portal in a parcel that a closed
+/// portal never got is closed.
 ///
 /// Refused `NumbersEnd` or `OutOfMemory` as the first turn that is refused: the turns before it stand, and that one changes nothing.
 ///
@@ -174,14 +173,31 @@ pub fn is_quiet(world: &World) -> bool
     world.is_quiet()
 }
 
-/// How many words are left of those that the world was made with: each pair takes one, and nodes take more for themselves. If it is 0, an open
-/// is refused `NoWord`.
+/// How many words are left of those that the world was made with and those that were added ([`add_words`]): each pair takes one, and nodes take
+/// more for themselves. If it is 0, an open is refused `NoWord`.
 ///
 /// In the world `new_world(alloc, 2, 8)` it is 7, since one pair is there; and 6 after an open.
 pub fn words_left(world: &World) -> u64
     ensures promise { (a : Account) → Keeps world.now a → world.now.claimed + result ≡ a.words }
 {
     world.words_left()
+}
+
+/// Makes so many words more. Nothing else of the accounts changes, and no word is taken: [`words_left`] answers so many more. If nothing waits,
+/// nothing waits behind it.
+///
+/// `count` is how many, of 8 bytes each. Refused `OutOfMemory`, also if there would be more than 2^64 - 1 words in all: then nothing changes. To add
+/// none is never refused.
+///
+/// In a world with no words left, after `add_words(&mut world, 1000)?` an open takes the first of 1,000.
+pub fn add_words(world: &mut World, count: u64) -> Result<(), Refusal>
+    ensures promise { OnOk result ((a : Account) → Keeps world.old a → Keeps world.new (more_words a count)) }
+    ensures claimed { world.new.claimed ≡ world.old.claimed }
+    ensures quiet { IsQuiet world.old → IsQuiet world.new }
+    ensures none { count ≡ 0 → IsOk result }
+    ensures kept { IfErr result (λ e. (e ≡ Refusal.OutOfMemory) × (world.new ≡ world.old)) }
+{
+    world.add_words(count)
 }
 
 /// Makes a world, as [`new_world`] does, takes these steps in it, as [`run`] does, and gives their replies and the world. Nothing else has to be believed

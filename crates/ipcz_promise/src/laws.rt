@@ -17,7 +17,7 @@ pub fn turns_keep_the_promise()
     ensures { TurnsKeepThePromise }
 {}
 
-/// If nothing waits and words are left, a get is `Empty` only if all that the peer has put was got, and the peer isn't closed.
+/// If nothing waits, a get is `Empty` only if all that the peer has put was got, and the peer isn't closed.
 pub fn a_rest_has_delivered()
     ensures { RestDelivers }
 {}

@@ -1,8 +1,8 @@
 use ipcz_base::{Bytes, End, Ends, Refusal, Sequence, Side};
 use ipcz_node::Happened;
 use ipcz_promise::{
-    close, get, holder_of, is_quiet, new_world, open, play, put, put_wide, run, settle, step, turn,
-    words_left,
+    add_words, close, get, holder_of, is_quiet, new_world, open, play, put, put_wide, run, settle,
+    step, turn, words_left,
 };
 use ipcz_world::{Reply, Settled, Step, World};
 use std::alloc::{AllocError, Global};
@@ -55,7 +55,7 @@ fn is_refused(reply: &Reply, want: Refusal) -> bool {
     matches!(reply, Reply::Refused(why) if *why == want)
 }
 
-// Whether what is put at a portal is got at its peer, after the six acts of a lone parcel; and then a get is Empty, while words are left.
+// Whether what is put at a portal is got at its peer, after the six acts of a lone parcel; and then a get is Empty.
 fn carries(alloc: Global) -> Result<bool, Refusal> {
     let mut world = new_world(alloc, 2, 8)?;
     let unused = words_left(&world);
@@ -83,6 +83,21 @@ fn carries(alloc: Global) -> Result<bool, Refusal> {
             && is_quiet(&world)
             && is_got(&got, 0, b"hello", &[])
             && is_refused(&empty, Refusal::Empty),
+    )
+}
+
+// Whether a world in which no word is left is given some, and opens a pair then.
+fn grows(alloc: Global) -> Result<bool, Refusal> {
+    let mut world = new_world(alloc, 2, 1)?;
+    let refused = open(&mut world, 0);
+    add_words(&mut world, 2)?;
+    let added = words_left(&world);
+    let opened = open(&mut world, 0);
+    Ok(
+        is_refused(&refused, Refusal::NoWord)
+            && added == 2
+            && matches!(opened, Reply::Opened(a, b) if a == THIRD && b == FOURTH)
+            && words_left(&world) == 1,
     )
 }
 
@@ -174,6 +189,11 @@ fn plays(alloc: Global, steps: &[Step; 3]) -> Result<bool, Refusal> {
 #[test]
 fn a_parcel_is_got_at_the_peer(rt: HostRuntime) {
     assert_eq!(rt; carries(rt.alloc()), Ok(true));
+}
+
+#[test]
+fn words_are_added(rt: HostRuntime) {
+    assert_eq!(rt; grows(rt.alloc()), Ok(true));
 }
 
 #[test]

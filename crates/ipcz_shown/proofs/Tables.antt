@@ -1,6 +1,6 @@
 -- What steps of turns do to the accounts of the world that a table shows, and what a quiet table has delivered.
-use Rattle.std.specs.Prelude.{◌≡◌, ◌<◌, ℕ, true, nat_lt, Some, slice_index, refl}
-use Rattle.std.proofs.Common.{arith, ap, subst, ◌∙◌}
+use Rattle.std.specs.Prelude.{◌≡◌, ◌<◌, ℕ, true, nat_lt, Some, refl}
+use Rattle.std.proofs.Common.{arith, ap, ◌∙◌}
 use Rattle.std.proofs.lemmas.Bool.Decides.{nat_tests}
 use Rattle.ipcz_base.specs.declared.end.End.{End}
 use Rattle.ipcz_base.specs.declared.refusal.Refusal.TheVariants.{Empty}
@@ -11,7 +11,6 @@ use Rattle.ipcz_world.specs.declared.step.Reply.TheVariants.{Refused}
 use Rattle.ipcz_world.specs.World.{World, node_at}
 use Rattle.ipcz_world.proofs.Vocabulary.{unless}
 use Rattle.ipcz_world.specs.Steps.{StepAny}
-use Rattle.ipcz_rule.specs.Rule.{Rules}
 use Rattle.ipcz_rule.specs.TableRuns.{all_turns}
 use Rattle.ipcz_rule.proofs.QuietParts.{quiet_parts_show_quiet}
 use Rattle.ipcz_rule.proofs.TableRuns.{steps_are_turns}
@@ -35,15 +34,8 @@ quiet_tables_deliver count size t a kept still none =
     let r = t.1 in
     let quiet = quiet_parts_show_quiet count size t.0 r still none in (
       rest_closes r.world a kept quiet,
-      λ left id v j p seat there at refused.
+      λ id v j p seat there at refused.
           let is = (r.shows.parts id v j p seat there).1 in
-          a_rest_delivers r.world r.world a p.node at kept quiet (left-words r r.words kept.words left)
+          a_rest_delivers r.world r.world a p.node at kept quiet
           (empty-get r.world p.node at is.inside (ap (λ (n : Node). get_refusal n at) is.state ∙ refused)),
     )
-  where
-    left-words : (r : Rules count size t.0) → r.world.size ≡ size → a.words ≡ r.world.size → slice_index t.0.words size < size →
-        r.world.claimed < a.words
-    left-words r same words left =
-        let here : slice_index t.0.words size ≡ r.world.claimed =
-        subst (λ k. slice_index t.0.words k ≡ r.world.claimed) same r.shows.claims in
-        omega (arith, here, left, same, words)

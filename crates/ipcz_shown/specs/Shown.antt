@@ -52,10 +52,9 @@ TableTurnsKeepThePromise =
 abbrev pub HasNoMail : ℕ → ℕ → St → Type 0
 HasNoMail count size s = (k : ℕ) → k < count * count → slice_index s.words (size + 1 + count + k) ≢ 1
 
--- law: at rest portals in dropped parcels are closed, and while words are left a get is Empty only if all was got and the peer isn't closed
+-- law: at rest portals in dropped parcels are closed, and a get is Empty only if all was got and the peer isn't closed
 abbrev pub QuietTablesDeliver : Type 0
 QuietTablesDeliver =
     (count size : ℕ) (t : Ruled count size) (a : Account) → TableKeeps count size t a →
     EachPart t.0.views (λ p. is_quiet p.state ≡ true) → HasNoMail count size t.0 →
-    HasClosedDropped a × (slice_index t.0.words size < size →
-    EachPart t.0.views (λ p. (at : End) → get_refusal p.state at ≡ Some Empty → IsDelivered a at))
+    HasClosedDropped a × EachPart t.0.views (λ p. (at : End) → get_refusal p.state at ≡ Some Empty → IsDelivered a at)
