@@ -99,8 +99,17 @@ one_more t first now next (d ∷ ds) did turns h = (turns.0, turns.1, one_more t
 
 -- what one turn more touches
 touches_more : (dids : List Did) (did : Did) (n : ℕ) (b : Bool) → (touches did.act n || (some_touches dids n || b)) ≡ (some_touches (dids ++ did ∷ []) n || b)
-touches_more [] did n b = grind
-touches_more (d ∷ ds) did n b = grind (touches_more ds did n b)
+touches_more [] did n b = alone (touches did.act n)
+  where
+    alone : (t : Bool) → (t || b) ≡ ((t || false) || b)
+    alone true = refl
+    alone false = refl
+touches_more (d ∷ ds) did n b = behind (touches did.act n) (touches d.act n) (some_touches ds n) (some_touches (ds ++ did ∷ []) n) (touches_more ds did n b)
+  where
+    behind : (t d s more : Bool) → (t || (s || b)) ≡ (more || b) → (t || ((d || s) || b)) ≡ ((d || more) || b)
+    behind true true s more e = refl
+    behind false true s more e = refl
+    behind t false s more e = e
 
 -- a turn that wasn't idle
 busy_turn : (t : TableName) (now next : CellState) (act : Act) → act ≢ acts.Idle → TriesTurn t now (Ok act) next → (event : Happened) × TakesTurn t now (record { act = act; event = event }) next

@@ -192,8 +192,10 @@ impl<F: FabricName> NodeCell<F> {
     {
         for taken in 0..limit {
             match self.turn_untold::<R>(fabric) {
-                Ok(Act::Idle) => return Ok(taken),
-                Ok(act) => add_touched(touched, act),
+                Ok(act) => match act {
+                    Act::Idle => return Ok(taken),
+                    _ => add_touched(touched, act),
+                },
                 Err(why) => return Err(why),
             }
         }
