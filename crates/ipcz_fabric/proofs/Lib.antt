@@ -4,3 +4,4 @@ pub mod Holding
 pub mod HubAnswers
 pub mod Locking
 pub mod Taking
+pub mod AskedInTurn

@@ -39,13 +39,15 @@ impl<F: FabricName> Hub<F> {
         for (place, portal) in portals.iter().enumerate() {
             match portal.take(rt, self) {
                 Ok((n, parcel)) => return Ok((place, arrival_of(portal.node(), n, parcel))),
-                Err(Refusal::Empty) => {}
-                Err(why) => {
-                    return Err(NoneGot {
-                        place: Some(place),
-                        why,
-                    });
-                }
+                Err(why) => match why {
+                    Refusal::Empty => {}
+                    _ => {
+                        return Err(NoneGot {
+                            place: Some(place),
+                            why,
+                        });
+                    }
+                },
             }
         }
         Err(NoneGot {
