@@ -3,7 +3,7 @@
     python3 tools/judge_events.py < LOG                          prints `allowed`, or the first line that isn't, and what its node could do there
     python3 tools/judge_events.py --run SCRIPT --seed N > LOG    runs a script in which each node takes any of its possible acts, as the seed draws
 
-What a log is tells docs/JUDGE.md, "Events". Nothing of it is proved; that a line is the first refused rests on this: the text of an event tells which act it is.
+What a log is tells docs/JUDGE.md, "Events". Nothing of it is proved.
 """
 import copy
 import json
@@ -117,29 +117,21 @@ class Run(model.Run):
         self.world = World(nodes, words)
 
 
-NUMBER, LINK, END = r"(?:0|[1-9]\d*)", r"(?:C(?:0|[1-9]\d*)|P[0-7]\.(?:0|[1-9]\d*))", r"(?:0|[1-9]\d*)[AB]"
-OTHERS = "BypassPeer|AcceptBypass|StopProxying|ProxyWillStop"
-# The texts of events; each has its act's own words in front.
-FORMS = [re.compile(form) for form in (
-    rf"(hand) (?:(?:item {NUMBER}|{OTHERS}) {LINK}(?: stray)?|Flush {LINK}(?: dropped)?)", rf"(close) {END}", "(idle)", "(look|post) ([0-7])",
-    rf"r({NUMBER}) (send out|send in) {NUMBER} {LINK}(?: moves {END}(?:,{END})*)?", rf"r({NUMBER}) (discard) {NUMBER}(?: leave)?",
-    rf"r({NUMBER}) (finish out|finish in) {LINK}", rf"r({NUMBER}) (leave|rest)", rf"r({NUMBER}) (mark|wake|lock|wait|refused|unlock) C{NUMBER} {NUMBER}",
-    rf"r({NUMBER}) (claim) (?:{NUMBER}|NoWord)", rf"r({NUMBER}) (begin) C{NUMBER}", rf"r({NUMBER}) (retire) {NUMBER} {LINK}",
-)]
-# Words and pairs are below 4096, other numbers have 64 bits.
-SMALL = re.compile(rf"C({NUMBER})|({NUMBER})[AB]|(?:claim |(?:mark|wake|lock|wait|refused|unlock) C{NUMBER} )({NUMBER})")
+# The first words of an event, which name its act.
+FIRST_WORDS = re.compile(rf"(hand|close|idle)\b|(look|post) (\d{{1,3}})$|r(\d{{1,20}}) ({'|'.join(VERBS)})\b", re.ASCII)
 
 
-def named(text: str) -> Act:
-    """The act that the text of an event names."""
-    found = next((found for form in FORMS if (found := form.fullmatch(text))), None)
-    small = [int(digits) for each in SMALL.findall(text) for digits in each if digits]
-    if not found or any(number >= 4096 for number in small) or any(int(digits) >= 2**64 for digits in re.findall(r"\d+", text)):
-        raise NoLine
-    parts = found.groups()
-    if len(parts) == 1:
-        return parts[0], None
-    return (parts[0], int(parts[1])) if parts[0] in ("look", "post") else (parts[1], int(parts[0]))
+def named(text: str) -> Act | None:
+    """The act that the first words of an event name, if they name one; only what it prints tells whether it is that act."""
+    match FIRST_WORDS.match(text):
+        case None:
+            return None
+        case found if found[1]:
+            return found[1], None
+        case found if found[2]:
+            return found[2], int(found[3])
+        case found:
+            return found[5], int(found[4])
 
 
 def read(line: str) -> dict[str, Any]:
@@ -157,7 +149,8 @@ def is_allowed(run: Run, line: dict[str, Any]) -> bool:
     if isinstance(text := line.get("event"), str):
         if not model.is_number(line.get("node"), 0, 255):
             raise NoLine
-        return run.world.take(int(line["node"]), named(text), may_spoil=True) == text
+        act = named(text)
+        return act is not None and run.world.take(int(line["node"]), act, may_spoil=True) == text
     command = line.get("call")
     if not isinstance(line.get("answer"), str) or not model.is_command(command, len(run.world.nodes), set()) or command[0] in ("turn", "settle"):
         raise NoLine
@@ -189,7 +182,7 @@ def verdict(log: str) -> str:
 def refused(number: int, line: dict[str, Any], nodes: int, words: int, before: list[str]) -> str:
     """What is said of a line that isn't allowed, behind the lines before it."""
     node = line.get("node")
-    if "event" not in line or node >= nodes:
+    if not isinstance(line.get("event"), str) or node >= nodes:
         return f"line {number}: refused"
     run = Run(nodes, words)
     for text in before:

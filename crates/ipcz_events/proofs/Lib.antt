@@ -1,4 +1,8 @@
+pub mod ActNames
 pub mod Deciding
+pub mod EventNames
+pub mod FirstWords
 pub mod Logs
+pub mod Names
 pub mod Runs
 pub mod Texts

@@ -28,7 +28,7 @@ entry_comes nodes words s t (entries.Call command line) at may =
     record { books = at.books; routes = at.routes; reached = at.reached; put = λ e. refl; got = λ e. refl } in
     let behind = kept-command nodes words s (λ e. parcels_in (at.books.put e)) at.books.got kept command may.0 t may.2 in
     record { books = behind.books; routes = behind.routes; reached = behind.reached }
-entry_comes nodes words s t (entries.Acted node name text) at may = record {
+entry_comes nodes words s t (entries.Acted node text) at may = record {
   books = advance s.world at.books (Turn node) (Turned may.1);
   routes = routes_after s.world at.routes (Turn node) (Turned may.1);
   reached = record {

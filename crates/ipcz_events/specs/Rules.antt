@@ -1,8 +1,8 @@
 -- THE RULES of a log with events: which calls and which acts of nodes, one after the other, the worlds of `ipcz_world` allow.
 --
--- A line is a call of a caller with the line that its answer prints, or an act of a node with the text that it prints. Nodes take their possible acts
--- in any order, where a run of a script takes the first one; nothing else happens between two lines.
-use Rattle.std.specs.Prelude.{◌≡◌, ◌<◌, ℕ, suc, Bool, true, false, List, [], ◌∷◌, ◌++◌, length, take, MatchBool, Option, Some, None}
+-- A line is a call of a caller with the line that its answer prints, or a node with the text that some act of it prints. Nodes take their possible
+-- acts in any order, where a run of a script takes the first one; nothing else happens between two lines.
+use Rattle.std.specs.Prelude.{◌≡◌, ◌<◌, ◌^◌, ℕ, suc, Bool, true, false, List, [], ◌∷◌, ◌++◌, length, take, MatchBool, Option, Some, None}
 use Rattle.ipcz_node.specs.declared.act.Act.{Act}
 use Rattle.ipcz_node.specs.declared.act.Act.TheVariants as acts
 use Rattle.ipcz_node.specs.declared.happened.Happened.{Happened}
@@ -11,6 +11,7 @@ use Rattle.ipcz_world.specs.Books.{Books}
 use Rattle.ipcz_world.specs.Lawful.{IsReached}
 use Rattle.ipcz_world.specs.Routes.{Routes}
 use Rattle.ipcz_world.specs.Theorem.{Theorem}
+use Rattle.ipcz_world.specs.World.{World}
 use Rattle.ipcz_script.specs.declared.command.Command.{Command}
 use Rattle.ipcz_script.specs.declared.command.Command.TheVariants as commands
 use Rattle.ipcz_script.specs.declared.said.Said.{Said}
@@ -20,8 +21,6 @@ use Rattle.ipcz_script.specs.ScriptLimits.{HasScriptLimits}
 use Rattle.ipcz_script.specs.Sessions.{Runs, Session, new_session, with_world}
 use Rattle.ipcz_events.specs.declared.entry.Entry.{Entry}
 use Rattle.ipcz_events.specs.declared.entry.Entry.TheVariants as entries
-use Rattle.ipcz_events.specs.declared.entry.Named.{Named}
-use Rattle.ipcz_events.specs.declared.entry.Named.TheVariants as named
 
 -- whether a command is a call, or shows the words; in place of turns and settles a log has the acts themselves
 abbrev pub is_call : Command → Bool
@@ -29,18 +28,28 @@ is_call (commands.Turn node count) = false
 is_call (commands.Settle limit) = false
 is_call other = true
 
--- the act is the one that a line names; of a hand it doesn't name the sender
-abbrev pub Names : Named → Act → Type 0
-Names named.Hand act = (sender : ℕ) × (act ≡ acts.Hand sender)
-Names (named.Act a) act = act ≡ a
+-- the numbers of an act are those of its type: a node's has 8 bits, a pair's and a serial's 64
+abbrev pub ActHasBits : Act → Type 0
+ActHasBits (acts.Hand sender) = sender < 2 ^ 8
+ActHasBits (acts.Look sender) = sender < 2 ^ 8
+ActHasBits (acts.Post to) = to < 2 ^ 8
+ActHasBits (acts.Close end) = end.pair < 2 ^ 64
+ActHasBits (acts.Router serial act) = serial < 2 ^ 64
+ActHasBits acts.Idle = Unit {0}
 
--- THE RULE OF A LINE: this is what the call may be answered, or the act is possible at the node and is seen to do this
+-- THE RULE OF A LINE: this is what the call may be answered, or some act is possible at the node whose event prints so
 abbrev pub MayEntry : Session → Entry → Session → Type 0
 MayEntry s (entries.Call command line) t =
     (said : Said) × (is_call command ≡ true) × Runs s command said t × (lines_of t.titles command said ≡ line ++ 10 ∷ [])
-MayEntry s (entries.Acted node name text) t =
-    (act : Act) × (event : Happened) × Names name act × IsActed s.world node act event t.world × (event_text event ≡ text)
+MayEntry s (entries.Acted node text) t =
+    (act : Act) × (event : Happened) × ActHasBits act × IsActed s.world node act event t.world × (event_text event ≡ text)
     × (t ≡ with_world s t.world)
+
+-- law: what a node was seen to do tells the act: of its acts that are possible in a world, two whose events print alike are one
+abbrev pub EventsTellActs : Type 0
+EventsTellActs =
+    (w u v : World) (n : ℕ) (a b : Act) (e f : Happened) → ActHasBits a → ActHasBits b → IsActed w n a e u → IsActed w n b f v →
+    event_text e ≡ event_text f → a ≡ b
 
 -- THE RULE OF A LOG: each of its lines in its turn
 abbrev pub MayLog : Session → List Entry → Session → Type 0

@@ -1,13 +1,17 @@
-//! Judging a log with events: the session takes each call and each act that the log names, and what these print is compared.
+//! Judging a log with events: the session takes each call and each act that the text of an event begins with, and what these print is compared.
 
 ghost use Rattle.std.specs.Prelude.{◌≡◌, ◌≢◌, ◌++◌, ◌∷◌, [], true, Some, MatchBool, IfOk, IfSome};
 ghost use Rattle.ipcz_node.specs.declared.act.Act.{Act};
-ghost use Rattle.ipcz_world.specs.Asking.{can_act};
+ghost use Rattle.ipcz_node.specs.declared.happened.Happened.{Happened};
+ghost use Rattle.ipcz_world.specs.Asking.{IsActed, can_act};
+ghost use Rattle.ipcz_world.specs.World.{World};
 ghost use Rattle.ipcz_script.specs.EventTexts.{event_text};
 ghost use Rattle.ipcz_script.specs.ScriptLimits.{HasScriptLimits};
-ghost use Rattle.ipcz_events.specs.Rules.{Decides, IsVerdictOf, Names, is_call};
+ghost use Rattle.ipcz_events.specs.Naming.{NameHasBits, name_of};
+ghost use Rattle.ipcz_events.specs.Rules.{ActHasBits, Decides, IsVerdictOf, is_call};
 
-use crate::entry::{Entry, Named};
+use crate::entry::Entry;
+use crate::naming::{Named, named_in};
 use ipcz_base::Refusal;
 use ipcz_node::{Act, Happened};
 use ipcz_script::{Command, Session, push_answer, push_event};
@@ -57,16 +61,21 @@ fn prints(alloc: Global, event: &Happened, text: &str) -> Result<bool, AllocErro
 }
 
 // The only act of a node that can be the one that is named, if some can.
-fn act_of(session: &Session, node: u8, named: Named) -> Option<Act>
-    ensures some { IfSome result (λ act. Names named act) }
-    ensures only { (act : Act) → Names named act → can_act session.now.world node act ≡ true → result ≡ Some act }
+fn act_of(session: &Session, node: u8, name: Named) -> Option<Act>
+    requires bits { NameHasBits name }
+    ensures some { IfSome result (λ act. ActHasBits act) }
+    ensures only { (act : Act) → name_of act ≡ name → can_act session.now.world node act ≡ true → result ≡ Some act }
 {
-    match named {
-        Named::Act(act) => Some(act),
+    match name {
         Named::Hand => match session.hand(node) {
             Some(sender) => Some(Act::Hand(sender)),
             None => None,
         },
+        Named::Look(sender) => Some(Act::Look(sender)),
+        Named::Post(to) => Some(Act::Post(to)),
+        Named::Close(end) => Some(Act::Close(end)),
+        Named::Router(serial, act) => Some(Act::Router(serial, act)),
+        Named::Idle => Some(Act::Idle),
     }
 }
 
@@ -89,21 +98,27 @@ fn judge_call(
     Ok(is_same(&text, &line))
 }
 
-// Judges an act of a node, with what it was seen to do.
-fn judge_act(
-    alloc: Global,
-    session: &mut Session,
-    node: u8,
-    named: Named,
-    event: &str,
-) -> Result<bool, AllocError>
-    ensures { IfOk result (λ allowed. Decides session.old (Entry.Acted node named event.now) allowed session.new) }
+// The only act of a node whose event can print so, if some can.
+fn act_printed(session: &Session, node: u8, text: &str) -> Option<Act>
+    ensures some { IfSome result (λ act. ActHasBits act) }
+    ensures only { (act : Act) → ActHasBits act → (event : Happened) → (w : World) → IsActed session.now.world node act event w →
+        event_text event ≡ text.now → result ≡ Some act }
 {
-    let Some(act) = act_of(session, node, named) else {
+    match named_in(text.as_bytes()) {
+        Some(name) => act_of(session, node, name),
+        None => None,
+    }
+}
+
+// Judges what a node was seen to do.
+fn judge_act(alloc: Global, session: &mut Session, node: u8, text: &str) -> Result<bool, AllocError>
+    ensures { IfOk result (λ allowed. Decides session.old (Entry.Acted node text.now) allowed session.new) }
+{
+    let Some(act) = act_printed(session, node, text) else {
         return Ok(false);
     };
     match session.act(node, act) {
-        Ok(happened) => prints(alloc, &happened, event),
+        Ok(happened) => prints(alloc, &happened, text),
         Err(NotTaken::NotPossible) => Ok(false),
         Err(NotTaken::Refused(Refusal::NumbersEnd)) => Ok(false),
         Err(NotTaken::Refused(_)) => Err(AllocError),
@@ -111,16 +126,14 @@ fn judge_act(
 }
 
 /// Judges the next line of a log, in the session that the lines before it led to: whether the rules allow it there, in which case the session is
-/// the one behind it. Else no act that is possible there and that the line names is seen to do what it says, or the call isn't answered so; then, as
-/// after an `Err`, the session is of no more use.
+/// the one behind it. Else no act that is possible there is seen to do what the line says, or the call isn't answered so; then, as after an `Err`,
+/// the session is of no more use.
 pub fn judge(alloc: Global, session: &mut Session, entry: &Entry) -> Result<bool, AllocError>
     ensures { IfOk result (λ allowed. Decides session.old entry.now allowed session.new) }
 {
     match entry {
         Entry::Call { command, line } => judge_call(alloc, session, command, line.as_str()),
-        Entry::Acted { node, named, event } => {
-            judge_act(alloc, session, *node, *named, event.as_str())
-        }
+        Entry::Acted { node, event } => judge_act(alloc, session, *node, event.as_str()),
     }
 }
 

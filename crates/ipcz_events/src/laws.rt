@@ -1,9 +1,15 @@
 //! What is proved of logs with events.
 
-ghost use Rattle.ipcz_events.specs.Rules.{AllowedAreRuns};
+ghost use Rattle.ipcz_events.specs.Rules.{AllowedAreRuns, EventsTellActs};
 
 /// A log that is allowed is a run of the relation of steps from the new world, in which each turn takes some possible act; so the theorem holds
 /// of it.
 pub fn what_is_allowed_is_a_run()
     ensures { AllowedAreRuns }
+{}
+
+/// What a node was seen to do tells the act: of its acts that are possible in a world there is one at most whose event prints so. So a line of a
+/// log needn't name its act.
+pub fn events_tell_acts()
+    ensures { EventsTellActs }
 {}

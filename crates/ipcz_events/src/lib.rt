@@ -6,9 +6,10 @@ mod entry;
 mod header;
 mod judging;
 pub mod laws;
+mod naming;
 mod reading;
 
-pub use entry::{Entry, Named};
+pub use entry::Entry;
 pub use header::{Header, header_in};
 pub use judging::{first_refused, judge};
-pub use reading::{entry_in, named_in};
+pub use reading::entry_in;

@@ -1,6 +1,6 @@
 //! Logs of one bypass, whose lines were drawn by `tools/judge_events.py`, and changes of them.
 
-use ipcz_events::{Entry, entry_in, first_refused, named_in};
+use ipcz_events::{Entry, entry_in, first_refused};
 use serde_json::Value;
 use std::alloc::{AllocError, Global};
 
@@ -62,7 +62,7 @@ struct Change {
     first: Option<usize>,
 }
 
-static CHANGES: [Change; 16] = [
+static CHANGES: [Change; 23] = [
     // a try for the lock is answered as a wait
     Change {
         at: 5,
@@ -159,6 +159,48 @@ static CHANGES: [Change; 16] = [
         line: "{\"node\": 1, \"event\": \"idle\"}",
         first: Some(3),
     },
+    // no text
+    Change {
+        at: 5,
+        line: "{\"node\": 0, \"event\": \"\"}",
+        first: Some(5),
+    },
+    // a router alone
+    Change {
+        at: 5,
+        line: "{\"node\": 0, \"event\": \"r2\"}",
+        first: Some(5),
+    },
+    // what no router does
+    Change {
+        at: 5,
+        line: "{\"node\": 0, \"event\": \"r2 fly C1 547\"}",
+        first: Some(5),
+    },
+    // a serial with a needless zero
+    Change {
+        at: 5,
+        line: "{\"node\": 0, \"event\": \"r02 lock C1 547\"}",
+        first: Some(5),
+    },
+    // a node of more than 8 bits
+    Change {
+        at: 10,
+        line: "{\"node\": 1, \"event\": \"look 256\"}",
+        first: Some(10),
+    },
+    // the act that comes, and more behind it
+    Change {
+        at: 5,
+        line: "{\"node\": 0, \"event\": \"r2 lock C1 547 \"}",
+        first: Some(5),
+    },
+    // a turn that is refused
+    Change {
+        at: 5,
+        line: "{\"node\": 0, \"event\": \"Raced\"}",
+        first: Some(5),
+    },
 ];
 
 // Adds the line of a log that this text is.
@@ -216,18 +258,4 @@ fn acts_in_another_order_are_allowed(rt: HostRuntime) {
 #[test]
 fn changed_lines_are_refused(rt: HostRuntime) {
     assert_eq!(rt; first_other(rt.alloc()), None);
-}
-
-#[test]
-fn other_texts_name_no_act(rt: HostRuntime) {
-    let texts: [&[u8]; 7] = [
-        b"",
-        b"r2",
-        b"r2 fly",
-        b"look",
-        b"look 8",
-        b"r02 rest",
-        b"Raced",
-    ];
-    assert!(rt; texts.iter().all(|text| named_in(text).is_none()));
 }

@@ -13,5 +13,5 @@ returns-in-Call c =
 pub returns-in-Acted : goal.returns-in-Acted
 returns-in-Acted c =
     subst (λ entry. IfOk c.judge_act.result (λ allowed. Decides c.args.session.now entry allowed c.judge_act.new.session)) (sym c.in-Acted.is)
-    (subst (λ event. IfOk c.judge_act.result (λ allowed. Decides c.args.session.now (entries.Acted c.in-Acted.node c.in-Acted.named event) allowed
+    (subst (λ event. IfOk c.judge_act.result (λ allowed. Decides c.args.session.now (entries.Acted c.in-Acted.node event) allowed
     c.judge_act.new.session)) c.as_str-in-Acted.ensures.same c.judge_act.ensures)
