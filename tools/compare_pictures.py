@@ -1,5 +1,5 @@
 """Draws the transcript of each script of docs/pictures, and each transcript there, and prints which stored picture is another; nothing
-if all are as stored.
+if all are as stored. Those whose names end in `_used` are drawn with the option --used.
 
     python3 tools/compare_pictures.py            compares
     python3 tools/compare_pictures.py --store    stores the pictures anew (look at each of them then)
@@ -13,8 +13,8 @@ import asked
 from asked import TOP
 
 
-def output_of(crate: str, given: bytes) -> bytes:
-    return subprocess.run([asked.built(crate)], input=given, stdout=subprocess.PIPE, check=True).stdout
+def output_of(crate: str, given: bytes, *arguments: str) -> bytes:
+    return subprocess.run([asked.built(crate), *arguments], input=given, stdout=subprocess.PIPE, check=True).stdout
 
 
 def transcripts(folder: pathlib.Path) -> Iterator[tuple[pathlib.Path, bytes]]:
@@ -34,7 +34,7 @@ def main() -> None:
         sys.exit("no script stands in docs/pictures")
     others = []
     for file, transcript in found:
-        drawn = output_of("ipcz_draw", transcript)
+        drawn = output_of("ipcz_draw", transcript, *(["--used"] if file.stem.endswith("_used") else []))
         stored = file.with_suffix(".svg")
         if stores:
             stored.write_bytes(drawn)

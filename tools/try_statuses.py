@@ -26,7 +26,7 @@ CHECK_USAGE = b"usage: ipcz_check [--help] < SCRIPT\n"
 EMPTY = b"line 1, column 1: the script is empty; expected an object with the members nodes, words and commands\n"
 NO_OBJECT = b"line 1, column 1: the script is no object; expected one with the members nodes, words and commands\n"
 TOO_LONG = b"line 1, column 1: the script is too long; expected at most 1048576 bytes\n"
-DRAW_USAGE = b"usage: ipcz_draw [--help] [FROM TO] < TRANSCRIPT\n"
+DRAW_USAGE = b"usage: ipcz_draw [--help] [--used] [FROM TO] < TRANSCRIPT\n"
 
 
 class Folder:
@@ -96,6 +96,13 @@ RUNS = [
     ("ipcz_draw", ["--help"], PUT, Full, 1, b""),
     ("ipcz_draw", ["--help", "x"], PUT, bytes, 2, DRAW_USAGE),
     ("ipcz_draw", ["run.svg"], PUT, bytes, 2, DRAW_USAGE),
+    ("ipcz_draw", ["--used"], PUT, bytes, 0, None),
+    ("ipcz_draw", ["--used", "1", "2"], PUT, bytes, 0, None),
+    ("ipcz_draw", ["--used", "2", "1"], PUT, bytes, 2, DRAW_USAGE),
+    ("ipcz_draw", ["--used", "1"], PUT, bytes, 2, DRAW_USAGE),
+    ("ipcz_draw", ["1", "2", "--used"], PUT, bytes, 2, DRAW_USAGE),
+    ("ipcz_draw", ["--used", "--help"], PUT, bytes, 2, DRAW_USAGE),
+    ("ipcz_draw", ["--used", "--used"], PUT, bytes, 2, DRAW_USAGE),
     ("ipcz_draw", ["1", "2"], PUT, bytes, 0, None),
     ("ipcz_draw", ["2", "2"], PUT, bytes, 0, None),
     ("ipcz_draw", ["2", "9"], PUT, bytes, 0, None),

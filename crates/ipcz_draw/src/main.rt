@@ -1,5 +1,6 @@
 //! `ipcz_draw` reads a transcript of `ipcz_run` from standard input, and writes a picture of it, an SVG, to standard output; with
-//! two arguments, the numbers of a first and a last line, the picture of these lines.
+//! two arguments, the numbers of a first and a last line, the picture of these lines; with `--used` in front without the nodes that take no
+//! part.
 //!
 //! All but its arguments and devices stands in `ipcz_picture`.
 #![tactic(auto)]

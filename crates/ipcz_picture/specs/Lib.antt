@@ -1,3 +1,4 @@
+pub mod Bands
 pub mod Marks
 pub mod Outputs
 pub mod Parts

@@ -62,12 +62,13 @@ status (Err faults.OutOfMemory) = 3
 
 -- the line that arguments print which ask for no part
 abbrev pub usage : List ℕ
-usage = codes "usage: ipcz_draw [--help] [FROM TO] < TRANSCRIPT" ++ 10 ∷ []
+usage = codes "usage: ipcz_draw [--help] [--used] [FROM TO] < TRANSCRIPT" ++ 10 ∷ []
 
 -- what the program is for
 abbrev pub help : List ℕ
 help = usage ++ 10 ∷ codes "Reads a transcript of ipcz_run from standard input, and writes a picture of it, an SVG, to standard output: of all its lines, or of" ++ 10 ∷
-    codes "those from line FROM to line TO, which are counted from 1. Ends with status 2, and names the line, if one is none of a transcript." ++ 10 ∷ []
+    codes "those from line FROM to line TO, which are counted from 1; with --used without the nodes that take no part. Ends with status 2, and" ++ 10 ∷
+    codes "names the line, if one is none of a transcript." ++ 10 ∷ []
 
 -- a text was written, with this status, or after a failed write some front of it, with the status 1
 abbrev pub Writes : List ℕ → ℕ → Option (List ℕ) → Option (List ℕ) → Bool → ℕ → Type 0

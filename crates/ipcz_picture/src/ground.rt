@@ -50,12 +50,14 @@ fn draw_opened_band(out: &mut Writer, walls: Walls, bottom: u64)
 }
 
 // The bands of the nodes.
-fn draw_bands(out: &mut Writer, walls: &[Walls], bottom: u64)
+fn draw_bands(out: &mut Writer, walls: &[Option<Walls>], bottom: u64)
     ensures keeps { Keeps out.old out.new }
     ensures few { Grows out.old out.new (1400 * length walls.now) }
 {
     for (node, walls) in walls.iter().enumerate() {
-        draw_band(out, node as u64, *walls, bottom);
+        if let Some(walls) = walls {
+            draw_band(out, node as u64, *walls, bottom);
+        }
     }
 }
 

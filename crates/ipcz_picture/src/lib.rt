@@ -4,6 +4,7 @@
 
 mod arrow_title;
 mod arrows;
+pub mod bands;
 mod calls;
 mod ending;
 mod ground;

@@ -213,7 +213,7 @@ fn draw_turn(out: &mut Writer, scene: &Scene, node: u8, event: &Event, text: &[u
         Event::Router { serial, event } => {
             draw_router_event(out, scene, scene.across_of_serial(node, *serial), event)
         }
-        Event::Idle => {
+        Event::Idle if scene.has_band(node) => {
             out.begin_label(left.saturating_add(3), BASE, Class::NodeNote);
             out.text(b"n");
             out.number(node as u64);

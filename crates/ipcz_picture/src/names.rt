@@ -96,12 +96,14 @@ fn draw_node_again(out: &mut Writer, node: usize, walls: Walls, top: u64)
 }
 
 // The names of the nodes.
-fn draw_nodes_again(out: &mut Writer, walls: &[Walls], top: u64)
+fn draw_nodes_again(out: &mut Writer, walls: &[Option<Walls>], top: u64)
     ensures keeps { Keeps out.old out.new }
     ensures few { Grows out.old out.new (290 * length walls.now) }
 {
     for (node, walls) in walls.iter().enumerate() {
-        draw_node_again(out, node, *walls, top);
+        if let Some(walls) = walls {
+            draw_node_again(out, node, *walls, top);
+        }
     }
 }
 

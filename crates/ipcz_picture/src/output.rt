@@ -3,6 +3,7 @@
 ghost use Rattle.std.specs.Prelude.{◌≡◌, ◌↔◌, ◌++◌, false, IsTrue, IsErrOf, IfOk, OnOk};
 ghost use Rattle.ipcz_picture.specs.Outputs.{bad_line, long_line, refused_line, IsOutput, ReadsAndWrites};
 
+use crate::bands::Bands;
 use crate::ending::Ending;
 use crate::part::{Part, bounds_of};
 use crate::picture::picture;
@@ -50,13 +51,18 @@ fn refused_output(alloc: Global, line: usize) -> Result<(Ending, Vec<u8>), Alloc
 }
 
 // What is written for a part of these bytes' lines.
-fn output(alloc: Global, input: &[u8], part: Option<Part>) -> Result<(Ending, Vec<u8>), AllocError>
+fn output(
+    alloc: Global,
+    input: &[u8],
+    part: Option<Part>,
+    bands: Bands,
+) -> Result<(Ending, Vec<u8>), AllocError>
     ensures { IfOk result (λ written. IsOutput input.now part written.0 written.1.items) }
 {
     match read(alloc, input) {
         Ok(lines) => {
             let bounds = bounds_of(part, lines.len());
-            let text = picture(alloc, lines.as_slice(), bounds)?;
+            let text = picture(alloc, lines.as_slice(), bounds, bands)?;
             Ok((Ending::Drawn, text))
         }
         Err(Unread::Refused { line }) => refused_output(alloc, line),
@@ -64,7 +70,7 @@ fn output(alloc: Global, input: &[u8], part: Option<Part>) -> Result<(Ending, Ve
     }
 }
 
-/// Reads a transcript to its end, and writes the picture of a part, or of all of it, whole and in one go.
+/// Reads a transcript to its end, and writes the picture of a part, or of all of it, with these nodes' bands, whole and in one go.
 ///
 /// At most 262,145 bytes are read. Bytes that are no transcript make one line that says which line is refused.
 /// `Fault::Read` and `Fault::Write` say that the reader or the writer has failed; `Fault::OutOfMemory` that no memory was
@@ -72,6 +78,7 @@ fn output(alloc: Global, input: &[u8], part: Option<Part>) -> Result<(Ending, Ve
 pub fn draw<R: Read, W: Write>(
     alloc: Global,
     part: Option<Part>,
+    bands: Bands,
     reader: &mut Device<R>,
     writer: &mut Device<W>,
 ) -> Result<Ending, Fault>
@@ -83,7 +90,7 @@ pub fn draw<R: Read, W: Write>(
     ensures write { IsErrOf result Fault.Write ↔ IsTrue writer.new.failed }
 {
     let input = read_up_to(alloc, reader, MOST_READ)?;
-    let Ok((ending, text)) = output(alloc, &input, part) else {
+    let Ok((ending, text)) = output(alloc, &input, part, bands) else {
         return Err(Fault::OutOfMemory);
     };
     let Ok(()) = write_whole(writer, &text) else {

@@ -8,6 +8,7 @@ ghost use Rattle.ipcz_picture.specs.Rows.{row_at, Follow, IsPicture};
 ghost use Rattle.ipcz_picture.specs.Sizes.{most_picture, most_row};
 
 use crate::arrows::draw_messages;
+use crate::bands::Bands;
 use crate::calls::draw_calls;
 use crate::ground::draw_ground;
 use crate::heading::{draw_heading, write_caption};
@@ -22,16 +23,16 @@ use crate::row::draw_row;
 use crate::rows::{Place, places};
 use crate::scene::Scene;
 use crate::word_bars::{draw_head_words, draw_word_bars};
-use ipcz_lines::ReadLine;
+use ipcz_lines::{End, ReadLine};
 use ipcz_markup::{Key, Tag, Writer, style};
 use ipcz_messages::calls::{Portals, calls};
-use ipcz_messages::closes::closes;
+use ipcz_messages::closes::{Closed, closes};
 use ipcz_messages::ends::ends;
-use ipcz_messages::messages::{messages, note_births};
+use ipcz_messages::messages::{Message, messages, note_births};
 use ipcz_messages::moves::{Moves, lines_in_sight};
 use ipcz_messages::named::{NamedPortal, named_portals};
 use ipcz_messages::origins::note_origins;
-use ipcz_messages::routers::{routers, see_calls, see_messages};
+use ipcz_messages::routers::{Router, routers, see_calls, see_messages};
 use std::alloc::{AllocError, Global};
 
 // The size of the picture, as attributes of its root.
@@ -116,8 +117,35 @@ fn named<'a>(alloc: Global, lines: &[ReadLine<'a>]) -> Result<Vec<NamedPortal<'a
     named_portals(alloc, lines)
 }
 
-/// The picture of the lines within the bounds; what it tells of them is found from all lines.
-pub fn picture(alloc: Global, lines: &[ReadLine], bounds: Bounds) -> Result<Vec<u8>, AllocError>
+// The messages that the lines tell of. How many there are is all that the size of a picture needs of them.
+fn told<'a>(
+    alloc: Global,
+    lines: &[ReadLine<'a>],
+    routers: &[Router],
+) -> Result<Vec<Message<'a>>, AllocError>
+    ensures few { IfOk result (λ messages. length messages.items ≤ length lines.now) }
+{
+    messages(alloc, lines, routers)
+}
+
+// The closes that travel, which the size of a picture needs nothing of.
+fn closed(
+    alloc: Global,
+    lines: &[ReadLine],
+    routers: &[Router],
+    ends: &[Option<End>],
+    portals: &Portals,
+) -> Result<Vec<Closed>, AllocError> {
+    closes(alloc, lines, routers, ends, portals)
+}
+
+/// The picture of the lines within the bounds, with these nodes' bands; what it tells of them is found from all lines.
+pub fn picture(
+    alloc: Global,
+    lines: &[ReadLine],
+    bounds: Bounds,
+    bands: Bands,
+) -> Result<Vec<u8>, AllocError>
     requires many { length lines.now < 2 ^ 32 }
     requires within { (bounds.first ≤ bounds.end) × (bounds.end ≤ length lines.now) }
     ensures picture { IfOk result (λ text. IsPicture (take bounds.end lines.now) bounds.first text.items) }
@@ -126,7 +154,7 @@ pub fn picture(alloc: Global, lines: &[ReadLine], bounds: Bounds) -> Result<Vec<
     let shown = &lines[..bounds.end];
     let (placed, bottom) = places(alloc, shown, bounds.first)?;
     let mut routers = routers(alloc, lines)?;
-    let messages = messages(alloc, lines, &routers)?;
+    let messages = told(alloc, lines, &routers)?;
     let moves = Moves::new(alloc, lines)?;
     note_births(alloc, lines, &messages, &moves, &mut routers)?;
     see_messages(&mut routers, &messages);
@@ -138,9 +166,9 @@ pub fn picture(alloc: Global, lines: &[ReadLine], bounds: Bounds) -> Result<Vec<
     let lanes = lanes(alloc, lines, &routers)?;
     let slots = slots(alloc, &messages, lines.len())?;
     let named = named(alloc, lines)?;
-    let closed = closes(alloc, lines, &routers, &ends, &portals)?;
+    let closed = closed(alloc, lines, &routers, &ends, &portals)?;
     let scene = Scene::new(
-        alloc, lines, bounds, &routers, &lanes, &named, &placed, bottom,
+        alloc, lines, bounds, bands, &routers, &lanes, &named, &placed, bottom,
     )?;
     let mut known = known_before(alloc, &lines[..bounds.first], scene.words)?;
     let mut out = Writer::new(alloc);

@@ -3,6 +3,7 @@
 ghost use Rattle.std.specs.Prelude.{◌≡◌, false, Ok, OnErr, Option};
 ghost use Rattle.ipcz_picture.specs.Outputs.{help, status, usage, Draws, Writes};
 
+use crate::bands::Bands;
 use crate::ending::Ending;
 use crate::output::draw;
 use crate::part::{Part, part_of};
@@ -12,16 +13,16 @@ use std::env;
 use std::env::Env;
 use std::io::{ErrorKind, Read, Write};
 
-const USAGE: &[u8] = b"usage: ipcz_draw [--help] [FROM TO] < TRANSCRIPT\n";
+const USAGE: &[u8] = b"usage: ipcz_draw [--help] [--used] [FROM TO] < TRANSCRIPT\n";
 
 const HELP: &[u8] =
-    b"usage: ipcz_draw [--help] [FROM TO] < TRANSCRIPT\n\nReads a transcript of ipcz_run from standard input, and writes a picture of it, an SVG, to standard output: of all its lines, or of\nthose from line FROM to line TO, which are counted from 1. Ends with status 2, and names the line, if one is none of a transcript.\n";
+    b"usage: ipcz_draw [--help] [--used] [FROM TO] < TRANSCRIPT\n\nReads a transcript of ipcz_run from standard input, and writes a picture of it, an SVG, to standard output: of all its lines, or of\nthose from line FROM to line TO, which are counted from 1; with --used without the nodes that take no part. Ends with status 2, and\nnames the line, if one is none of a transcript.\n";
 
 /// What the arguments of the program ask for.
 #[derive(Clone, Copy, Debug, PartialEq, Eq)]
 pub enum Asked {
-    /// A picture of a part, or of all if there are no arguments.
-    Picture(Option<Part>),
+    /// A picture of a part, or of all if there is none, with the bands of these nodes.
+    Picture(Option<Part>, Bands),
     /// There is the one word `--help` or `-h`: what the program does.
     Help,
     /// How the program is called.
@@ -29,9 +30,9 @@ pub enum Asked {
 }
 
 // What two words ask for: a part, if they are the numbers of its first line and its last one.
-fn asked_part(from: &[u8], to: &[u8]) -> Asked {
+fn asked_part(from: &[u8], to: &[u8], bands: Bands) -> Asked {
     match part_of(from, to) {
-        Some(part) => Asked::Picture(Some(part)),
+        Some(part) => Asked::Picture(Some(part), bands),
         None => Asked::Usage,
     }
 }
@@ -46,12 +47,17 @@ pub fn asked_for(rt: &(impl Env + Alloc)) -> Result<Asked, AllocError> {
         Err(_) => return Ok(Asked::Usage),
     };
     let _name = arguments.next();
-    let Some(from) = arguments.next() else {
-        return Ok(Asked::Picture(None));
+    let (bands, from) = match arguments.next() {
+        Some(word) if word.as_str() == "--used" => (Bands::Used, arguments.next()),
+        word => (Bands::All, word),
     };
+    let Some(from) = from else {
+        return Ok(Asked::Picture(None, bands));
+    };
+    let is_help = bands == Bands::All && (from.as_str() == "--help" || from.as_str() == "-h");
     match (arguments.next(), arguments.next()) {
-        (None, _) if from.as_str() == "--help" || from.as_str() == "-h" => Ok(Asked::Help),
-        (Some(to), None) => Ok(asked_part(from.as_bytes(), to.as_bytes())),
+        (None, _) if is_help => Ok(Asked::Help),
+        (Some(to), None) => Ok(asked_part(from.as_bytes(), to.as_bytes(), bands)),
         _ => Ok(Asked::Usage),
     }
 }
@@ -84,6 +90,7 @@ fn write_text<W: Write>(writer: &mut Device<W>, text: &[u8], status: u8) -> u8
 fn draw_to_status<R: Read, W: Write>(
     alloc: Global,
     part: Option<Part>,
+    bands: Bands,
     reader: &mut Device<R>,
     writer: &mut Device<W>,
 ) -> u8
@@ -92,7 +99,7 @@ fn draw_to_status<R: Read, W: Write>(
     ensures { Draws part (R.remaining reader.old.inner) (R.remaining reader.new.inner)
         (W.contents writer.old.inner) (W.contents writer.new.inner) reader.new.failed writer.new.failed result }
 {
-    status_of(draw(alloc, part, reader, writer))
+    status_of(draw(alloc, part, bands, reader, writer))
 }
 
 /// The program but for its arguments and devices, which it is given: it draws the transcript that the reader gives, and
@@ -110,7 +117,7 @@ pub fn run_program<R: Read, W: Write>(
 ) -> u8
     requires reader_works { reader.old.failed ≡ false }
     requires writer_works { writer.old.failed ≡ false }
-    ensures picture { (part : Option Part) → asked ≡ Ok (Asked.Picture part) → Draws part (R.remaining reader.old.inner) (R.remaining reader.new.inner)
+    ensures picture { (part : Option Part) (bands : Bands) → asked ≡ Ok (Asked.Picture part bands) → Draws part (R.remaining reader.old.inner) (R.remaining reader.new.inner)
         (W.contents writer.old.inner) (W.contents writer.new.inner) reader.new.failed writer.new.failed result }
     ensures help { asked ≡ Ok Asked.Help →
         Writes help 0 (W.contents writer.old.inner) (W.contents writer.new.inner) writer.new.failed result }
@@ -121,7 +128,7 @@ pub fn run_program<R: Read, W: Write>(
     ensures no_memory { OnErr asked ((result ≡ 3) × (reader.new ≡ reader.old) × (writer.new ≡ writer.old)) }
 {
     match asked {
-        Ok(Asked::Picture(part)) => draw_to_status(alloc, part, reader, writer),
+        Ok(Asked::Picture(part, bands)) => draw_to_status(alloc, part, bands, reader, writer),
         Ok(Asked::Help) => write_text(writer, HELP, 0),
         Ok(Asked::Usage) => write_text(writer, USAGE, 2),
         Err(AllocError) => 3,

@@ -1,9 +1,11 @@
 //! Where things stand in a picture.
 
 ghost use Rattle.std.specs.Prelude.{◌≡◌, ◌≤◌, ◌<◌, ◌↔◌, length, slice_get, IfOk, IsTrue};
+ghost use Rattle.ipcz_picture.specs.Bands.{is_shown, HaveBands};
 ghost use Rattle.ipcz_picture.specs.Parts.{IsWithin, Meets};
-ghost use Rattle.ipcz_picture.specs.Scenes.{across_of_portal, across_of_router, column_at, walls_of, IsPlaceOfCall, IsPortalCalled};
+ghost use Rattle.ipcz_picture.specs.Scenes.{across_of_portal, across_of_router, column_at, has_walls, walls_of, IsPlaceOfCall, IsPortalCalled};
 
+use crate::bands::{Bands, is_shown};
 use crate::lanes::Lane;
 use crate::part::Bounds;
 use crate::rows::{Place, TOP, UNIT, value_count};
@@ -36,7 +38,8 @@ pub struct Walls {
 }
 
 /// What is drawn: all lines, which of them have rows, how far down the row of each of those begins, the routers with their
-/// lanes, the portals that are named, the nodes' walls and those of the opened portals, where the link words begin, and the size of it all.
+/// lanes, the portals that are named, the walls of the nodes that have a band and those of the opened portals, where the link words begin,
+/// and the size of it all.
 #[derive(Drop)]
 pub struct Scene<'a> {
     pub lines: &'a [ReadLine<'a>],
@@ -45,7 +48,7 @@ pub struct Scene<'a> {
     pub lanes: &'a [Lane],
     pub named: &'a [NamedPortal<'a>],
     pub tops: Vec<u64>,
-    pub nodes: Vec<Walls>,
+    pub nodes: Vec<Option<Walls>>,
     pub opened: Option<Walls>,
     pub words: usize,
     pub words_left: u64,
@@ -161,7 +164,7 @@ fn router_columns(routers: &[Router], lanes: &[Lane], node: u8) -> usize {
 }
 
 // The walls of a band of so many columns, at least one, that begins after the band before it.
-fn walls_behind(before: Option<&Walls>, columns: usize) -> Walls {
+fn walls_behind(before: Option<Walls>, columns: usize) -> Walls {
     let left = match before {
         Some(walls) => walls.right.saturating_add(GAP),
         None => FIRST_BAND,
@@ -176,31 +179,46 @@ fn walls_behind(before: Option<&Walls>, columns: usize) -> Walls {
     }
 }
 
-// The walls of the nodes.
+// The walls of the last node that has a band.
+fn last_walls(nodes: &[Option<Walls>]) -> Option<Walls> {
+    let mut last = None;
+    for walls in nodes {
+        last = (*walls).or(last);
+    }
+    last
+}
+
+// The walls of the nodes that have a band.
 fn node_walls(
     alloc: Global,
+    bands: Bands,
     lines: &[ReadLine],
     routers: &[Router],
     lanes: &[Lane],
     named: &[NamedPortal],
-) -> Result<Vec<Walls>, AllocError>
+) -> Result<Vec<Option<Walls>>, AllocError>
+    ensures bands { IfOk result (λ walls. HaveBands (is_shown bands lines.now named.now) walls.items) }
     ensures few { IfOk result (λ walls. length walls.items ≤ 8) }
 {
     let mut walls = Vec::new(alloc);
     for node in 0..node_count(lines, named) {
-        let portals = count_of(named, Some(node));
-        let columns = portals.saturating_add(router_columns(routers, lanes, node));
-        let next = walls_behind(walls.as_slice().last(), columns);
-        walls.push(next)?;
+        if is_shown(bands, lines, named, node) {
+            let portals = count_of(named, Some(node));
+            let columns = portals.saturating_add(router_columns(routers, lanes, node));
+            let next = walls_behind(last_walls(walls.as_slice()), columns);
+            walls.push(Some(next))?;
+        } else {
+            walls.push(None)?;
+        }
     }
     Ok(walls)
 }
 
 // The walls of the opened portals, if there are any, behind those of the nodes.
-fn opened_walls(nodes: &[Walls], named: &[NamedPortal]) -> Option<Walls> {
+fn opened_walls(nodes: &[Option<Walls>], named: &[NamedPortal]) -> Option<Walls> {
     match count_of(named, None) {
         0 => None,
-        columns => Some(walls_behind(nodes.last(), columns)),
+        columns => Some(walls_behind(last_walls(nodes), columns)),
     }
 }
 
@@ -239,6 +257,7 @@ impl<'a> Scene<'a> {
         alloc: Global,
         lines: &'a [ReadLine<'a>],
         bounds: Bounds,
+        bands: Bands,
         routers: &'a [Router],
         lanes: &'a [Lane],
         named: &'a [NamedPortal<'a>],
@@ -251,10 +270,10 @@ impl<'a> Scene<'a> {
         ensures named { IfOk result (λ scene. scene.named.now ≡ named.now) }
         ensures nodes { IfOk result (λ scene. length scene.nodes.items ≤ 8) }
     {
-        let nodes = node_walls(alloc, lines, routers, lanes, named)?;
+        let nodes = node_walls(alloc, bands, lines, routers, lanes, named)?;
         let opened = opened_walls(nodes.as_slice(), named);
         let words = word_count(lines);
-        let inner = match opened.as_ref().or(nodes.as_slice().last()) {
+        let inner = match opened.or(last_walls(nodes.as_slice())) {
             Some(walls) => walls.right,
             None => FIRST_BAND - 34,
         };
@@ -319,17 +338,24 @@ impl<'a> Scene<'a> {
         }
     }
 
-    /// The walls of a node; of one that no line names, where the first band would begin.
+    /// The walls of a node; of one that has no band, where the first one would begin.
     pub fn walls_of(&self, node: u8) -> Walls
         ensures { result ≡ walls_of self.now.nodes.items node }
     {
         match self.nodes.as_slice().get(node as usize) {
-            Some(walls) => *walls,
-            None => Walls {
+            Some(Some(walls)) => *walls,
+            _ => Walls {
                 left: FIRST_BAND,
                 right: FIRST_BAND,
             },
         }
+    }
+
+    /// Whether a node has a band.
+    pub fn has_band(&self, node: u8) -> bool
+        ensures { result ≡ has_walls self.now.nodes.items node }
+    {
+        matches!(self.nodes.as_slice().get(node as usize), Some(Some(_)))
     }
 
     /// How far to the right a router stands: behind the portals that are named of its node.

@@ -3,6 +3,7 @@
 use crate::arguments::Arguments;
 use ipcz_device::Device;
 use ipcz_device::slow::{SlowReader, SlowWriter};
+use ipcz_picture::bands::Bands;
 use ipcz_picture::part::Part;
 use ipcz_picture::program::{Asked, asked_for, run_program};
 use std::alloc::{AllocError, Global};
@@ -12,18 +13,23 @@ const TRANSCRIPT: &[u8] =
 
 const NAME: &[u8] = b"ipcz_draw";
 
-const FIVE_TO_TWENTY: Asked = Asked::Picture(Some(Part { from: 5, to: 20 }));
+const FIVE_TO_TWENTY: Asked = Asked::Picture(Some(Part { from: 5, to: 20 }), Bands::All);
 
-const SEVENTH: Asked = Asked::Picture(Some(Part { from: 7, to: 7 }));
+const USED_OF_FIVE_TO_TWENTY: Asked = Asked::Picture(Some(Part { from: 5, to: 20 }), Bands::Used);
 
-const TO_THE_LAST: Asked = Asked::Picture(Some(Part {
-    from: 1,
-    to: 18_446_744_073_709_551_615,
-}));
+const SEVENTH: Asked = Asked::Picture(Some(Part { from: 7, to: 7 }), Bands::All);
 
-const ASKED: [(&[&[u8]], Asked); 15] = [
-    (&[], Asked::Picture(None)),
-    (&[NAME], Asked::Picture(None)),
+const TO_THE_LAST: Asked = Asked::Picture(
+    Some(Part {
+        from: 1,
+        to: 18_446_744_073_709_551_615,
+    }),
+    Bands::All,
+);
+
+const ASKED: [(&[&[u8]], Asked); 22] = [
+    (&[], Asked::Picture(None, Bands::All)),
+    (&[NAME], Asked::Picture(None, Bands::All)),
     (&[NAME, b"5", b"20"], FIVE_TO_TWENTY),
     (&[NAME, b"7", b"7"], SEVENTH),
     (&[NAME, b"1", b"18446744073709551615"], TO_THE_LAST),
@@ -37,6 +43,13 @@ const ASKED: [(&[&[u8]], Asked); 15] = [
     (&[NAME, b"05", b"20"], Asked::Usage),
     (&[NAME, b"+5", b"20"], Asked::Usage),
     (&[NAME, b"5", b"end"], Asked::Usage),
+    (&[NAME, b"--used"], Asked::Picture(None, Bands::Used)),
+    (&[NAME, b"--used", b"5", b"20"], USED_OF_FIVE_TO_TWENTY),
+    (&[NAME, b"--used", b"5"], Asked::Usage),
+    (&[NAME, b"5", b"20", b"--used"], Asked::Usage),
+    (&[NAME, b"--used", b"--used"], Asked::Usage),
+    (&[NAME, b"--used", b"--help"], Asked::Usage),
+    (&[NAME, b"--help"], Asked::Help),
 ];
 
 // Whether this is asked for by these arguments.
@@ -65,7 +78,7 @@ fn asks_for_what_its_arguments_say(rt: HostRuntime) {
 fn drawn_part(alloc: Global, part: Option<Part>, transcript: &[u8], out: &mut Vec<u8>) -> u8 {
     run_program(
         alloc,
-        Ok(Asked::Picture(part)),
+        Ok(Asked::Picture(part, Bands::All)),
         &mut Device::new(transcript),
         &mut Device::new(out),
     )
@@ -602,6 +615,28 @@ fn a_part_has_the_lines_that_there_are(rt: HostRuntime) {
     assert_eq!(rt; first_other_part(rt.alloc()), None);
 }
 
+// How often each node's name stands in the picture of three nodes, of which node 0 sends, node 1 is only idle, and node 2 looks.
+fn band_names(alloc: Global, bands: Bands) -> [usize; 3] {
+    let mut out = Vec::new(alloc);
+    run_program(
+        alloc,
+        Ok(Asked::Picture(None, bands)),
+        &mut Device::new(b"n1: idle\nn2: look 0\n".as_slice()),
+        &mut Device::new(&mut out),
+    );
+    [
+        times(&out, b">node 0</text>"),
+        times(&out, b">node 1</text>"),
+        times(&out, b">node 2</text>"),
+    ]
+}
+
+#[test]
+fn a_node_that_is_only_idle_may_be_left_out(rt: HostRuntime) {
+    assert_eq!(rt; band_names(rt.alloc(), Bands::All), [1, 1, 1]);
+    assert_eq!(rt; band_names(rt.alloc(), Bands::Used), [1, 0, 1]);
+}
+
 #[test]
 fn draws_no_rows_for_no_bytes(rt: HostRuntime) {
     assert!(rt; shows(rt.alloc(), b"", "A run of ipcz in 0 lines"));
@@ -636,7 +671,7 @@ fn ends_after_a_failed_read(alloc: Global, status: u8) -> bool {
     let mut out = Vec::new(alloc);
     let ended = run_program(
         alloc,
-        Ok(Asked::Picture(None)),
+        Ok(Asked::Picture(None, Bands::All)),
         &mut Device::new(SlowReader {
             bytes: TRANSCRIPT,
             at_once: 1,
@@ -652,7 +687,7 @@ fn ends_after_a_failed_write(alloc: Global, status: u8, text: &[u8]) -> bool {
     let mut out = Vec::new(alloc);
     let ended = run_program(
         alloc,
-        Ok(Asked::Picture(None)),
+        Ok(Asked::Picture(None, Bands::All)),
         &mut Device::new(TRANSCRIPT),
         &mut Device::new(SlowWriter {
             taken: &mut out,
@@ -700,7 +735,7 @@ fn reads_nothing(
 
 #[test]
 fn reads_nothing_where_the_usage_is_asked_for(rt: HostRuntime) {
-    let usage = b"usage: ipcz_draw [--help] [FROM TO] < TRANSCRIPT\n";
+    let usage = b"usage: ipcz_draw [--help] [--used] [FROM TO] < TRANSCRIPT\n";
     assert!(rt; reads_nothing(rt.alloc(), Ok(Asked::Usage), 20, 2, usage));
     assert!(rt; reads_nothing(rt.alloc(), Ok(Asked::Help), 2, 1, b"usage:"));
     assert!(rt; reads_nothing(rt.alloc(), Ok(Asked::Usage), 2, 1, b"usage:"));
