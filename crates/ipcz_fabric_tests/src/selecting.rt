@@ -74,7 +74,9 @@ fn answers<F: FabricName, R: Wait + Clock>(
     hub.acts(rt, 1, 100).ok()?;
     hub.acts(rt, 0, 100).ok()?;
     let closed = told(rt, &hub, &list, Duration::ZERO);
-    Some([before, parcel, closed, told(rt, &hub, &[], Duration::ZERO)])
+    let none: Vec<Portal<F>> = Vec::new(alloc);
+    let nothing = told(rt, &hub, &none, Duration::ZERO);
+    Some([before, parcel, closed, nothing])
 }
 
 fn answers_of<R: Wait + Clock>(
