@@ -37,12 +37,8 @@ def changed(draw: random.Random, log: list[dict[str, Any]]) -> bytes:
     log = json.loads(json.dumps(log))
     at = draw.randrange(1, len(log))
     match draw.randrange(9):
-        case 0:
-            del log[at]
-        case 1:
-            log.insert(at, log[at])
-        case 2:
-            log[at - 1 : at + 1] = log[at - 1 : at + 1][::-1]
+        case 0 | 1 | 2:
+            compare_judges.change_order(draw, log, at)
         case 3:
             text = bytearray(judge_events.written(log).encode())
             text[draw.randrange(len(text))] = draw.randrange(128)

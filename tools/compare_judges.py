@@ -46,17 +46,24 @@ def other(draw: random.Random, line: dict[str, Any], log: list[dict[str, Any]]) 
             line[name] = draw.choice(names)
 
 
+def change_order(draw: random.Random, log: list[dict[str, Any]], at: int) -> None:
+    """Leaves a line out, writes it twice, or puts it before the one before it."""
+    match draw.randrange(3):
+        case 0:
+            del log[at]
+        case 1:
+            log.insert(at, log[at])
+        case _:
+            log[at - 1 : at + 1] = log[at - 1 : at + 1][::-1]
+
+
 def changed(draw: random.Random, log: list[dict[str, Any]]) -> bytes:
     """The log with one change."""
     log = json.loads(json.dumps(log))
     at = draw.randrange(1, len(log))
     match draw.randrange(8):
-        case 0:
-            del log[at]
-        case 1:
-            log.insert(at, log[at])
-        case 2:
-            log[at - 1 : at + 1] = log[at - 1 : at + 1][::-1]
+        case 0 | 1 | 2:
+            change_order(draw, log, at)
         case 3:
             log[at] = {"node": log[at]["node"], "op": log[at]["op"], "at": log[at].get("at", "x"), "bytes": "", "refused": draw.choice(judge.WORDS)}
         case 4:
