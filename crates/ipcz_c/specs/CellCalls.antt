@@ -13,8 +13,8 @@ use Rattle.ipcz_cell.specs.Making.{AreFirst}
 use Rattle.ipcz_cell.specs.Opens.{OpensPair, ShowsWord}
 use Rattle.ipcz_cell.specs.TableNames.{TableName}
 use Rattle.ipcz_cell.specs.Retries.{Retries}
-use Rattle.ipcz_cell.specs.declared.retry.Retry.{Retry}
-use Rattle.ipcz_cell.specs.declared.retry.Retry.TheVariants as retries
+use Rattle.ipcz_rule.specs.declared.retry.Retry.{Retry}
+use Rattle.ipcz_rule.specs.declared.retry.Retry.TheVariants as retries
 use Rattle.ipcz_cell.specs.declared.node_set.NodeSet.{NodeSet}
 use Rattle.ipcz_cell.specs.NodeSets.{no_nodes}
 use Rattle.ipcz_cell.specs.TurnChains.{RunsTouching}

@@ -43,12 +43,12 @@ count_may t id word serial m told picked whole can at =
 
 module _ (t : TableName) (n : Node) (hand : Option Message) (tos : List ℕ) (id : TableId) (me : Mine) (was : IsCell t n hand tos id me) (id' : TableId) (me' : Mine) (same : id' ≡ id) (sound : AreSound t.count t.size me'.0) where
   -- a cell after loads, and then a claim
-  pub claimed_cell : (n' : Node) (serial : ℕ) (seen : List (ℕ × ℕ)) (answer : Answer) → me' ≡ (change_part (act_part (acts.Router serial router_acts.Claim) answer) (record { parts = me.0.parts; seen = seen; announced = None }), me.1) →
+  pub claimed_cell : (n' : Node) (serial : ℕ) (seen : List (ℕ × ℕ)) (answer : Answer) → me' ≡ (change_part (act_part (acts.Router serial router_acts.Claim) answer) (record { parts = me.0.parts; seen = seen; announced = None; caller = me.0.caller }), me.1) →
       n' ≡ commit n (acts.Router serial router_acts.Claim) answer → IsCell t n' hand tos id' me'
   claimed_cell n' serial seen answer done e =
       let a = acts.Router serial router_acts.Claim in
       let p' = act_part a answer (part_in me.0) in
-      let v' = change_part (act_part a answer) (record { parts = me.0.parts; seen = seen; announced = None }) in
+      let v' = change_part (act_part a answer) (record { parts = me.0.parts; seen = seen; announced = None; caller = me.0.caller }) in
       let state : p'.state ≡ n' = act_state a answer (part_in me.0) ∙ (ap (λ (z : Node). commit z a answer) was.seated.state ∙ sym e) in
       touched_cell t n n' hand tos id id' me me' p' v' was
       (reseated t n id me was.seated n' id' me' p' v' me.1 same done refl state sound) done refl (router_act_keeps serial router_acts.Claim answer (part_in me.0))

@@ -127,7 +127,7 @@ pub hand_may_after : (t : TableName) (id word : ℕ) (m m' : Mine) (node from : 
     (part_in m.0).state.hand ≡ Some from → (x : Message) → (part_in m.0).message ≡ Some x → message_lacks_serials (part_in m.0).state from x source ≡ false → IsKnown t.size from x source → m.1 ≡ (slot_of t from node, None) ∷ rest m.1 →
     mail_word t from node ≡ word → Keeps t.reuses t.count t.size t.id.slots id m' word (λ _. 0) (λ _. told m' 0)
 hand_may_after t id word m m' node sender source told picked parts held whole is hand x message serials known slot at =
-    let v : List Part → View = λ ps. record { parts = ps; seen = m'.0.seen; announced = m'.0.announced } in
+    let v : List Part → View = λ ps. record { parts = ps; seen = m'.0.seen; announced = m'.0.announced; caller = m'.0.caller } in
     subst (λ (h : List (ℕ × Slot)). Keeps t.reuses t.count t.size t.id.slots id (m'.0, h) word (λ _. 0) (λ _. told (m'.0, h) 0)) (sym held)
     (subst (λ (ps : List Part). Keeps t.reuses t.count t.size t.id.slots id (v ps, m.1) word (λ _. 0) (λ _. told (v ps, m.1) 0)) (sym parts)
     (hand_may t id word (v m.0.parts, m.1) node sender source told picked whole is hand x message serials known slot at))

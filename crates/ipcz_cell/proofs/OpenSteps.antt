@@ -60,10 +60,10 @@ serials_left k can = let yes : has_serials k.node.next_router 2 ≡ true = grind
 
 module _ (t : TableName) (n : Node) (hand : Option Message) (tos : List ℕ) (id : TableId) (me : Mine) (was : IsCell t n hand tos id me) (id' : TableId) (me' : Mine) (same : id' ≡ id) (sound : AreSound t.count t.size me'.0) where
   -- a cell after a change of its part that leaves the hand, and steps that have seen something
-  pub changed_cell : (f : Part → Part) (seen : List (ℕ × ℕ)) (n' : Node) → me' ≡ (change_part f (record { parts = me.0.parts; seen = seen; announced = None }), me.1) →
+  pub changed_cell : (f : Part → Part) (seen : List (ℕ × ℕ)) (n' : Node) → me' ≡ (change_part f (record { parts = me.0.parts; seen = seen; announced = None; caller = me.0.caller }), me.1) →
       (f (part_in me.0)).state ≡ n' → KeepsHands (part_in me.0) (f (part_in me.0)) → IsCell t n' hand tos id' me'
   changed_cell f seen n' done state keeps =
-      let v' = change_part f (record { parts = me.0.parts; seen = seen; announced = None }) in
+      let v' = change_part f (record { parts = me.0.parts; seen = seen; announced = None; caller = me.0.caller }) in
       touched_cell t n n' hand tos id id' me me' (f (part_in me.0)) v' was
       (reseated t n id me was.seated n' id' me' (f (part_in me.0)) v' me.1 same done refl state sound) done refl keeps
 

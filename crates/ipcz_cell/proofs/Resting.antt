@@ -109,6 +109,7 @@ left_none t node count old id me tos done was all =
       put = (part_in me.0).put;
       got = (part_in me.0).got;
       gone = (part_in me.0).gone;
+      history = (part_in me.0).history;
     } in (
       was.whole ∙ ap (λ (p : Part). p ∷ []) (same ∙ was.same),
       was.slots ∙ (ap (λ (l : List ℕ). probed_slots t.count node l ++ hand_slots t.count node (part_in me.0).state.hand) none_left ∙ ap (λ (p : Part). hand_slots t.count node p.state.hand) was.same),

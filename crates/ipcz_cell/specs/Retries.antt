@@ -7,8 +7,8 @@ use Rattle.ipcz_rule.specs.Steps.{wet_part}
 use Rattle.ipcz_cell.specs.TableNames.{TableName}
 use Rattle.ipcz_cell.specs.CellStates.{CellState}
 use Rattle.ipcz_cell.specs.Claims.{AreReached, FindsNone}
-use Rattle.ipcz_cell.specs.declared.retry.Retry.{Retry}
-use Rattle.ipcz_cell.specs.declared.retry.Retry.TheVariants as retries
+use Rattle.ipcz_rule.specs.declared.retry.Retry.{Retry}
+use Rattle.ipcz_rule.specs.declared.retry.Retry.TheVariants as retries
 
 -- the first router of the node that was told that there is no word, or there is none
 abbrev pub IsFirstDry : Node → Option (ℕ × End) → Type 0

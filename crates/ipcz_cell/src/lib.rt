@@ -32,5 +32,5 @@ pub use cell::NodeCell;
 pub use ending::finish;
 pub use fabric::{Fabric, FabricName};
 pub use making::{Blank, start, start_lasting};
+pub use ipcz_rule::Retry;
 pub use node_set::NodeSet;
-pub use retry::Retry;

@@ -291,7 +291,7 @@ fn deal_all<F: FabricName>(
     mut cells: Vec<NodeCell<F>>,
 ) -> Vec<NodeCell<F>>
     requires own { seat.table_id ≡ F.table.id }
-    requires me { mine_of seat.me ≡ (record { parts = opening_parts F.table.count 0 F.table.count; seen = []; announced = None }, []) }
+    requires me { mine_of seat.me ≡ (record { parts = opening_parts F.table.count 0 F.table.count; seen = []; announced = None; caller = None }, []) }
     requires bodies { AreBodies F.table.count F.table.count bodies.items }
     requires room { F.table.count ≤ vec_capacity cells }
     requires empty { vec_len cells ≡ 0 }

@@ -14,18 +14,8 @@ use crate::plays::Outcome;
 use crate::seat::TableSeat;
 use crate::slots::{leave_slot, number_at};
 use ipcz_base::End;
+use ipcz_rule::Retry;
 use std::marker::Brand;
-
-/// What [`NodeCell::retry`] found.
-#[derive(Clone, Copy, Debug, PartialEq, Eq)]
-pub enum Retry {
-    /// No router of the node was told that there is no slot.
-    NoneWaits,
-    /// A router was told so, and still none is to be had.
-    NoSlot,
-    /// The router of this serial was told so, and asks again at the node's next turns.
-    Again(u64),
-}
 
 // A router may claim again, as a step on the node's inbox. X is what it tells.
 fn wet_here<F: FabricName, X: Outcome>(

@@ -18,8 +18,8 @@ use Rattle.ipcz_fabric.specs.Portals.{PortalValue, portal_at, portals_at}
 use Rattle.ipcz_cell.specs.TurnChains.{RunsTurns}
 use Rattle.ipcz_cell.specs.TurnEnds.{Turns}
 use Rattle.ipcz_cell.specs.Retries.{Retries}
-use Rattle.ipcz_cell.specs.declared.retry.Retry.{Retry}
-use Rattle.ipcz_cell.specs.declared.retry.Retry.TheVariants as retries
+use Rattle.ipcz_rule.specs.declared.retry.Retry.{Retry}
+use Rattle.ipcz_rule.specs.declared.retry.Retry.TheVariants as retries
 
 -- these are the ends that callers of a node hold whose terminals have a serial from this one on, by rising serials; a serial is below
 -- 2 ^ 64

@@ -187,7 +187,7 @@ pub acts_touch : (count size slots id i : ℕ) (m : Mine) (p : Part) (serial : �
 acts_touch count size slots id i m p serial rt act is can e unwritten =
     let p' = plain_part serial act answers.Plain p in
     let v' = with_part p' m.0 in
-    touches_turn count size slots id i m p p' v' (OfRouter serial act) is refl (refl, refl) (record { node = refl; hand = act_hand p.state serial act answers.Plain; message = refl; probed = refl })
+    touches_turn count size slots id i m p p' v' (OfRouter serial act) is refl (refl, refl, refl) (record { node = refl; hand = act_hand p.state serial act answers.Plain; message = refl; probed = refl; history = refl })
     (λ s r seat inside state.
     let w = r.world in
     let n : ℕ = p.node in

@@ -17,7 +17,8 @@ use Rattle.ipcz_rule.specs.Rule.{Slot, St, Mine, inbox, mailbox, MailAt, Inboxes
 use Rattle.ipcz_rule.specs.Kinds.{Follows, IsKept, IsTurns, Announces, LoadsForPost}
 use Rattle.ipcz_rule.proofs.Joins.{joined_same}
 use Rattle.ipcz_rule.proofs.KeptEnds.{turns_keep}
-use Rattle.ipcz_rule.proofs.Moved.{ruled_with, spelled, only}
+use Rattle.ipcz_rule.proofs.Moved.{ruled_with, spelled}
+use Rattle.ipcz_rule.proofs.Histories.{only}
 use Rattle.ipcz_rule.proofs.Touches.{others_spell, own_spells}
 use Rattle.ipcz_rule.proofs.Wording.{same_moves, sees}
 
@@ -37,7 +38,7 @@ boxes_stay w words i to n' k index inside = get_or-set_other words i (mailbox w 
 
 -- a step on an inbox that leaves n' there
 module _ (count size : ℕ) (s : St) (r : Rules count size s) (id : ℕ) (v v' : View) (p : Part) (i to n' : ℕ)
-    (at : get_elem? s.views id ≡ some v) (is : v.parts ≡ p ∷ []) (is' : v'.parts ≡ p ∷ []) (seen : v'.seen ≡ v.seen) (index : i ≡ inbox r.world to) (inside : to < r.world.count) where
+    (at : get_elem? s.views id ≡ some v) (is : v.parts ≡ p ∷ []) (is' : v'.parts ≡ p ∷ []) (seen : v'.seen ≡ v.seen) (caller : v'.caller ≡ v.caller) (index : i ≡ inbox r.world to) (inside : to < r.world.count) where
   abbrev w : World
   w = r.world
 
@@ -63,7 +64,7 @@ module _ (count size : ℕ) (s : St) (r : Rules count size s) (id : ℕ) (v v' :
   inbox_rules inboxes =
       let sp = spelled s r id v p at is in
       let moves = same_moves w p.node p.state sp.state in
-      ruled_with s r w r.books r.routes (set s.words i n') s.homes id v v' p p at is is' (inl seen) (record {
+      ruled_with s r w r.books r.routes (set s.words i n') s.homes id v v' p p at is is' (inl seen) caller (record {
         count = refl;
         size = refl;
         wide = length-set s.words i n';
@@ -74,6 +75,7 @@ module _ (count size : ℕ) (s : St) (r : Rules count size s) (id : ℕ) (v v' :
         grows = omega arith;
         mail = λ k l. subst (λ (z : ℕ). MailAt z (get_elem? s.homes k) (mail_at w k)) (sym (boxes k)) (r.shows.mail k l);
         node = refl;
+        history = refl;
         own = own_spells s w w (set s.words i n') p.node p.state moves boxes p p refl refl refl refl refl refl sp;
         others = others_spell s w w (set s.words i n') p.node p.state moves boxes;
       }) inboxes (joined_same s.views id v v' p p r.books at is is' refl refl refl r.joined) r.lawful (AreTurns w r.books r.routes []) (refl, refl, refl)
@@ -90,7 +92,7 @@ module _ (count size : ℕ) (s : St) (r : Rules count size s) (id : ℕ) (v : Vi
       (λ e. all a (ap (λ k. bit_at (slice_index s.words k) a) (index ∙ ap (inbox r.world) (sym e)) ∙ was)) (λ ne. was)
 
   pub announced_rules : Follows count size s r [] record { words = words'; homes = s.homes; views = set s.views id (announcing to v) }
-  announced_rules = inbox_rules count size s r id v (announcing to v) p i to n' at is is refl index inside (record {
+  announced_rules = inbox_rules count size s r id v (announcing to v) p i to n' at is is refl refl index inside (record {
     full = λ from b lf lb e. bit from b (r.inboxes.full from b lf lb (sym (boxes_stay r.world s.words i to n' (way r.world from b) index inside) ∙ e));
     announced = λ j u k q b seat there says lb has. ⊎_elim
         (λ (t : (j ≡ id) × (announcing to v ≡ u)).
@@ -138,7 +140,7 @@ module _ (count size id i to : ℕ) (m : Mine) (p : Part) (is : m.0.parts ≡ p 
   loads_by : (b : Bool) → eqb (bit_at n p.node) 1 ≡ b → F b
   loads_by true e =
       (announcing to m.0, keeps, tt, announced_rules count size s r id m.0 p i to n at is (inbox_is count size s r i to at_i) (let c = r.nodes in omega (arith, c, small_to)) (eqb-true (bit_at n p.node) 1 e) (λ j was. was), refl)
-  loads_by false e = (forgetting m.0, keeps, tt, sees s r i id m.0 (forgetting m.0) p at is is (refl, inl refl), refl)
+  loads_by false e = (forgetting m.0, keeps, tt, sees s r i id m.0 (forgetting m.0) p at is is (refl, inl refl, refl), refl)
 
   pub loaded_for_post : F (eqb (bit_at n p.node) 1)
   loaded_for_post = loads_by (eqb (bit_at n p.node) 1) refl

@@ -101,7 +101,7 @@ pub gets : (all : Bool) → Gets (IsKept all)
 gets all count size slots id i m p at number q is fine got =
     let p' = get_part at number q p in
     let v' = with_part p' m.0 in
-    touches all count size slots id i m p p' v' is refl (refl, refl) (record { node = refl; hand = get_hand p.state (terminal_of p.state at); message = refl; probed = refl })
+    touches all count size slots id i m p p' v' is refl (refl, refl, refl) (record { node = refl; hand = get_hand p.state (terminal_of p.state at); message = refl; probed = refl; history = refl })
     (λ s r seat inside state.
     let w = r.world in
     let b = r.books in
@@ -165,7 +165,7 @@ pub closes : (all : Bool) → Closes (IsKept all)
 closes all count size slots id i m p at is fine =
     let p' = close_part at p in
     let v' = with_part p' m.0 in
-    touches all count size slots id i m p p' v' is refl (refl, refl) (record { node = refl; hand = close_hand p.state (release_ends p.state (at ∷ [])) (terminal_of (release_ends p.state (at ∷ [])) at) refl; message = refl; probed = refl })
+    touches all count size slots id i m p p' v' is refl (refl, refl, refl) (record { node = refl; hand = close_hand p.state (release_ends p.state (at ∷ [])) (terminal_of (release_ends p.state (at ∷ [])) at) refl; message = refl; probed = refl; history = refl })
     (λ s r seat inside state.
     let w = r.world in
     let b = r.books in
@@ -226,7 +226,7 @@ pub pending_closes_turns : PendingCloses IsTurns
 pending_closes_turns count size slots id i m p e is first =
     let p' = act_part (node_acts.Close e) answers.Plain p in
     let v' = with_part p' m.0 in
-    touches_turn count size slots id i m p p' v' (node_acts.Close e) is refl (refl, refl) (record { node = refl; hand = pending_hand p.state e; message = refl; probed = refl })
+    touches_turn count size slots id i m p p' v' (node_acts.Close e) is refl (refl, refl, refl) (record { node = refl; hand = pending_hand p.state e; message = refl; probed = refl; history = refl })
     (λ s r seat inside state.
     let w = r.world in
     let b = r.books in

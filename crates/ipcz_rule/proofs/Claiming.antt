@@ -57,7 +57,7 @@ module _ (count size : ℕ) (s : St) (r : Rules count size s) (id : ℕ) (v v' :
   boxes j = get_or-set_other s.words size (mailbox w j) n' 0 (λ e. let z = r.words in omega arith)
 
   pub claim_rules : (r' : Rules count size record { words = set s.words size n'; homes = s.homes; views = set s.views id v' }) × G r'.world r'.books r'.routes
-  claim_rules = ruled_with s r w' r.books g' (set s.words size n') s.homes id v v' p p' at is is' sight.1 (record {
+  claim_rules = ruled_with s r w' r.books g' (set s.words size n') s.homes id v v' p p' at is is' sight.1 sight.2 (record {
     count = moves.count;
     size = moves.size;
     wide = length-set s.words size n';
@@ -68,6 +68,7 @@ module _ (count size : ℕ) (s : St) (r : Rules count size s) (id : ℕ) (v v' :
     grows = omega (arith, up, claimed);
     mail = mails_show s w w' (set s.words size n') p.node p'.state moves boxes r.owner r.shows;
     node = k.node;
+    history = k.history;
     own = own_spells s w w' (set s.words size n') p.node p'.state moves boxes p p' refl k.node refl k.hand k.message k.probed (spelled s r id v p at is);
     others = others_spell s w w' (set s.words size n') p.node p'.state moves boxes;
   }) (inboxes_stay s r w' (set s.words size n') id v' moves.count moves.size sight.0 (λ to l. get_or-set_other s.words size (inbox w to) n' 0 (λ e. let z = r.words in omega arith)) (λ from to lf lt e. inl (sym (boxes (way w from to)) ∙ e))) (joined_same s.views id v v' p p' r.books at is is' put got gone r.joined) lawful G known
@@ -120,13 +121,13 @@ module _ (count size id : ℕ) (m : Mine) (p : Part) (serial : ℕ) (rt : Router
         v',
         keeps,
         tt,
-        claim_rules count size s r id m.0 v' p p' w' g' (c + 1) at is refl (refl, inr (size, refl)) (claim_moves w (c + 1) p.node p'.state)
+        claim_rules count size s r id m.0 v' p p' w' g' (c + 1) at is refl (refl, inr (size, refl), refl) (claim_moves w (c + 1) p.node p'.state)
             (λ j. word-set_node (set_claimed w (c + 1)) p.node p'.state j ∙ word-set_claimed w (c + 1) j) (sym (claimed-set_node (set_claimed w (c + 1)) p.node p'.state ∙ claimed-set_claimed w (c + 1))) (omega (arith, found))
-            (record { node = refl; hand = act_hand p.state serial acts.Claim (answers.Claimed c); message = refl; probed = refl }) refl refl refl done.0
+            (record { node = refl; hand = act_hand p.state serial acts.Claim (answers.Claimed c); message = refl; probed = refl; history = refl }) refl refl refl done.0
             (AreTurns w r.books r.routes ((p.node, OfRouter serial acts.Claim) ∷ [])) done.1,
         refl,
       )
-  claims_by false e = (saw size n m.0, keeps, tt, sees s r size id m.0 (saw size n m.0) p at is is (refl, inr (size, refl)), refl)
+  claims_by false e = (saw size n m.0, keeps, tt, sees s r size id m.0 (saw size n m.0) p at is is (refl, inr (size, refl), refl), refl)
 
   pub claimed_word : F (eqb n c)
   claimed_word = claims_by (eqb n c) refl
@@ -174,13 +175,13 @@ module _ (count size id : ℕ) (m : Mine) (p : Part) (serial : ℕ) (rt : Router
         v',
         keeps,
         tt,
-        claim_rules count size s r id m.0 v' p dry_part (set_node w p.node dry_part.state) g' seen_count at is refl (refl, inr (size, refl)) (set_moves w p.node dry_part.state)
+        claim_rules count size s r id m.0 v' p dry_part (set_node w p.node dry_part.state) g' seen_count at is refl (refl, inr (size, refl), refl) (set_moves w p.node dry_part.state)
             (word-set_node w p.node dry_part.state) (found ∙ sym (claimed-set_node w p.node dry_part.state)) (omega (arith, found))
-            (record { node = refl; hand = act_hand p.state serial acts.Claim answers.NoWord; message = refl; probed = refl }) refl refl refl done.0
+            (record { node = refl; hand = act_hand p.state serial acts.Claim answers.NoWord; message = refl; probed = refl; history = refl }) refl refl refl done.0
             (AreTurns w r.books r.routes ((p.node, OfRouter serial acts.Claim) ∷ [])) done.1,
         refl,
       )
-  dry_by false e = (saw size seen_count m.0, keeps, tt, sees s r size id m.0 (saw size seen_count m.0) p at is is (refl, inr (size, refl)), refl)
+  dry_by false e = (saw size seen_count m.0, keeps, tt, sees s r size id m.0 (saw size seen_count m.0) p at is is (refl, inr (size, refl), refl), refl)
 
   pub dry_found : Dry (eqb seen_count size)
   dry_found = dry_by (eqb seen_count size) refl
@@ -233,13 +234,13 @@ module _ (count size id : ℕ) (m : Mine) (p : Part) (c : ℕ) (is : m.0.parts �
         v',
         keeps,
         tt,
-        claim_rules count size s r id m.0 v' p p' w' r.routes (c + 1) at is refl (refl, inr (size, refl)) (half_moves w (c + 1) p.node p'.state)
+        claim_rules count size s r id m.0 v' p p' w' r.routes (c + 1) at is refl (refl, inr (size, refl), refl) (half_moves w (c + 1) p.node p'.state)
             (λ j. word-set_claimed (set_node w p.node p'.state) (c + 1) j ∙ word-set_node w p.node p'.state j) (sym (claimed-set_claimed (set_node w p.node p'.state) (c + 1))) (omega (arith, found))
-            (record { node = refl; hand = refl; message = refl; probed = refl }) refl refl refl lawful (λ u b g. KeepsEnds true w u) ends,
+            (record { node = refl; hand = refl; message = refl; probed = refl; history = refl }) refl refl refl lawful (λ u b g. KeepsEnds true w u) ends,
         refl,
       )
   half_by false e =
-      let f = sees s r size id m.0 (saw size count_found m.0) p at is is (refl, inr (size, refl)) in
+      let f = sees s r size id m.0 (saw size count_found m.0) p at is is (refl, inr (size, refl), refl) in
       (saw size count_found m.0, keeps, tt, (f.0, ((λ k side held. inl (subst (λ (u : World). IsEndHeld u k side) f.1.0 held)), (λ h k side held. subst (λ (u : World). IsEndHeld u k side) (sym f.1.0) held))), refl)
 
   pub half_claimed : Half (eqb count_found c)

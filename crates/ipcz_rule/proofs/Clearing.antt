@@ -53,14 +53,14 @@ module _ (count size : ℕ) (s : St) (r : Rules count size s) (id : ℕ) (v : Vi
       (hand_stands w r.books r.routes p.node from r.lawful sp.inside hand_is) (r.shows.mail (way w from p.node) inside)).0
 
   bit : (a b : ℕ) → a < w.count → b < w.count → (slice_index s.words (mailbox w (way w a b)) ≢ 2) → bit_at (slice_index s.words (inbox w b)) a ≡ 1 → bit_at (slice_index words' (inbox w b)) a ≡ 1
-  bit a b la lb other was = bit_by count size s r id v (forgetting v) p i p.node n' at is is refl index sp.inside a b
+  bit a b la lb other was = bit_by count size s r id v (forgetting v) p i p.node n' at is is refl refl index sp.inside a b
       (λ e. kept_stays (slice_index s.words i) kept a (ap (λ k. bit_at (slice_index s.words k) a) (index ∙ ap (inbox w) (sym e)) ∙ was)
       (others a (let few = (lists_have_lengths w r.books r.routes r.lawful).few in omega (arith, la, few))
       (λ f. other (ap (λ k. slice_index s.words (mailbox w (way w k b))) f ∙ (ap (λ k. slice_index s.words (mailbox w (way w from k))) e ∙ two)))))
       (λ ne. was)
 
   pub cleared_rules : Follows count size s r [] record { words = words'; homes = s.homes; views = set s.views id (forgetting v) }
-  cleared_rules = inbox_rules count size s r id v (forgetting v) p i p.node n' at is is refl index sp.inside (record {
+  cleared_rules = inbox_rules count size s r id v (forgetting v) p i p.node n' at is is refl refl index sp.inside (record {
     full = λ a b la lb e.
         let one = sym (boxes_stay w s.words i p.node n' (way w a b) index sp.inside) ∙ e in
         bit a b la lb (λ t. absurd (omega (arith, t, one))) (r.inboxes.full a b la lb one);

@@ -12,9 +12,9 @@ use Rattle.ipcz_rule.specs.Rule.{HasSeenCounts}
 abbrev pub Sees : List ℕ → View → View → Type 0
 Sees words v v' = (v'.seen ≡ v.seen) ⊎ ((i : ℕ) × (v'.seen ≡ v.seen ++ (i, slice_index words i) ∷ []))
 
--- so it is, and the view has announced nothing
+-- so it is, and the view has announced nothing, and has the same caller
 abbrev pub Silent : List ℕ → View → View → Type 0
-Silent words v v' = (v'.announced ≡ None) × Sees words v v'
+Silent words v v' = (v'.announced ≡ None) × Sees words v v' × (v'.caller ≡ v.caller)
 
 -- so it is if the claim count doesn't fall
 pub keeps_counts : (views : List View) (words : List ℕ) (w w' : World) (id : ℕ) (v v' : View) → get_elem? views id ≡ some v → Sees words v v' →

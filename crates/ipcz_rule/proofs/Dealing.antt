@@ -13,7 +13,8 @@ use Rattle.ipcz_rule.specs.declared.view.Part.{Part}
 use Rattle.ipcz_rule.specs.Rule.{St, Spells, InParts, Rules, puts_of, gets_of, drops_of}
 use Rattle.ipcz_rule.specs.Start.{head_parts, tail_parts, dealt, after_deal, opening_part, opening_parts}
 use Rattle.ipcz_rule.proofs.Inboxes.{has_not}
-use Rattle.ipcz_rule.proofs.Moved.{only, at_inside}
+use Rattle.ipcz_rule.proofs.Moved.{at_inside}
+use Rattle.ipcz_rule.proofs.Histories.{only}
 use Rattle.ipcz_rule.proofs.Starting.{parts_are}
 
 -- an element of a list with one more, and where it stands

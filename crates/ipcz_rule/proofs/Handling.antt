@@ -110,8 +110,8 @@ hands_turns count size slots id i k from m p x rest is at_k at_i holds has seria
     let homes' = set s.homes k (some None) in
     let long : i < length s.words = omega (arith, index, inside, wide) in
     let same_three : nat_eq (slice_index s.words i) 3 ≡ nat_eq 0 3 = ap (λ q. nat_eq q 3) two in
-    let rules = mail_rules count size s r id m.0 (with_part p' m.0) p p' w' g' i k 0 homes' mails.Empty at is refl (refl, inl refl) moves index inside (length-set s.homes k (some None))
-    (λ j ne. set_else s.homes k j (some None) ne) (set_here s.homes k (some None) (omega (arith, inside, deep_is)), refl) refl r.books (joined_same s.views id m.0 (with_part p' m.0) p p' r.books at is refl refl refl refl r.joined)
+    let rules = mail_rules count size s r id m.0 (with_part p' m.0) p p' w' g' i k 0 homes' mails.Empty at is refl (refl, inl refl, refl) moves index inside (length-set s.homes k (some None))
+    (λ j ne. set_else s.homes k j (some None) ne) (set_here s.homes k (some None) (omega (arith, inside, deep_is)), refl) refl refl r.books (joined_same s.views id m.0 (with_part p' m.0) p p' r.books at is refl refl refl refl r.joined)
     (empty_hand w' n (deliver p.state from x (trusted from x)).hand (deliver_hand p.state from x (trusted from x) holds))
     (λ t l. sp.probed t l ∙ three_stays s.words i 0 (mailbox w (way w n t)) long same_three)
     (λ q sq ne a e same. way_second w.count a from q.node n sq.inside n_in ne (same ∙ kk))

@@ -10,7 +10,8 @@ use Rattle.ipcz_world.specs.Books.{Books}
 use Rattle.ipcz_rule.specs.declared.view.View.{View}
 use Rattle.ipcz_rule.specs.declared.view.Part.{Part}
 use Rattle.ipcz_rule.specs.Rule.{InParts, Joined, puts_of, gets_of, drops_of}
-use Rattle.ipcz_rule.proofs.Moved.{only, at_inside}
+use Rattle.ipcz_rule.proofs.Moved.{at_inside}
+use Rattle.ipcz_rule.proofs.Histories.{only}
 
 module _ {X : Type 0} (of : Part → List X) (views : List View) (id : ℕ) (v v' : View) (p p' : Part) (at : get_elem? views id ≡ some v) (is : v.parts ≡ p ∷ []) (is' : v'.parts ≡ p' ∷ []) where
   -- what stood in a part still stands in one, if the part that changed keeps its entries

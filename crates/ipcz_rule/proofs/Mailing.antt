@@ -63,7 +63,7 @@ module _ (count size : ℕ) (s : St) (r : Rules count size s) (id : ℕ) (v v' :
     (at : get_elem? s.views id ≡ some v) (is : v.parts ≡ p ∷ []) (is' : v'.parts ≡ p' ∷ []) (sight : Silent s.words v v') (moves : MailMoves r.world w' p.node p'.state k mail)
     (index : i ≡ mailbox r.world k) (inside : k < r.world.count * r.world.count)
     (deep : length homes ≡ length s.homes) (homes_else : (j : ℕ) → j ≢ k → get_elem? homes j ≡ get_elem? s.homes j) (shown : MailAt n' (get_elem? homes k) mail)
-    (node : p'.node ≡ p.node) (books' : Books) (joined : Joined (set s.views id v') books')
+    (node : p'.node ≡ p.node) (history : p'.history ≡ p.history) (books' : Books) (joined : Joined (set s.views id v') books')
     (message : hand_of w' p.node p'.state.hand ≡ p'.message)
     (probed : (to : ℕ) → to < r.world.count → has_number p'.probed to ≡ nat_eq (slice_index (set s.words i n') (mailbox r.world (way r.world p.node to))) 3)
     (hands : (q : Part) → Spells s.words r.world q → q.node ≢ p.node → (from : ℕ) → q.state.hand ≡ Some from → way r.world from q.node ≢ k)
@@ -121,7 +121,7 @@ module _ (count size : ℕ) (s : St) (r : Rules count size s) (id : ℕ) (v v' :
       (λ apart. inl (sym (box_else (way w from to) apart) ∙ is))
 
   pub mail_rules : Follows count size s r turns record { words = set s.words i n'; homes = homes; views = set s.views id v' }
-  mail_rules = ruled_with s r w' books' g' (set s.words i n') homes id v v' p p' at is is' sight.1 (record {
+  mail_rules = ruled_with s r w' books' g' (set s.words i n') homes id v v' p p' at is is' sight.1 sight.2 (record {
     count = moves.count;
     size = moves.size;
     wide = length-set s.words i n';
@@ -132,6 +132,7 @@ module _ (count size : ℕ) (s : St) (r : Rules count size s) (id : ℕ) (v v' :
     grows = let same = moves.claimed in omega (arith, same);
     mail = mails_shown;
     node = node;
+    history = history;
     own = own;
     others = others;
   }) (inboxes_stay s r w' (set s.words i n') id v' moves.count moves.size sight.0 (λ to l. else (inbox w to) (λ e. let x = index in omega (arith, x, l, e))) posted) joined lawful (AreTurns r.world r.books r.routes turns) how

@@ -18,19 +18,12 @@ use Rattle.ipcz_rule.specs.declared.view.View.{View}
 use Rattle.ipcz_rule.specs.declared.view.Part.{Part}
 use Rattle.ipcz_rule.specs.Rule.{Homes, St, mailbox, MailAt, Spells, Shows, Inboxes, Joined, HaveParts, Rules}
 use Rattle.ipcz_rule.proofs.Counts.{Sees, keeps_counts}
+use Rattle.ipcz_rule.proofs.Histories.{only, histories_stay}
 
 pub at_inside : {A : Type 0} (l : List A) (i : ℕ) (a : A) → get_elem? l i ≡ some a → i < length l
 at_inside [] i a e = absurd (some-ne-none a (sym e))
 at_inside (x ∷ xs) zero a e = omega arith
 at_inside (x ∷ xs) (suc i) a e = let h = at_inside xs i a e in omega arith
-
--- the one part of a list of one
-pub only : (ps : List Part) (p q : Part) (k : ℕ) → ps ≡ p ∷ [] → get_elem? ps k ≡ some q → p ≡ q
-only ps p q k is at = one k (subst (λ (l : List Part). get_elem? l k ≡ some q) is at)
-  where
-    one : (k : ℕ) → get_elem? (p ∷ []) k ≡ some q → p ≡ q
-    one zero e = some-injective p q e
-    one (suc k) e = absurd (some-ne-none q (sym e))
 
 -- what a step owes that leaves these words and homes, if the part p becomes p' and the shown world w becomes w'
 pub record Moves (s : St) (w w' : World) (words : List ℕ) (homes : Homes) (p p' : Part) : Type 0 where
@@ -44,6 +37,7 @@ pub record Moves (s : St) (w w' : World) (words : List ℕ) (homes : Homes) (p p
   pub grows : w.claimed ≤ w'.claimed
   pub mail : (k : ℕ) → k < w'.count * w'.count → MailAt (slice_index words (mailbox w' k)) (get_elem? homes k) (mail_at w' k)
   pub node : p'.node ≡ p.node
+  pub history : p'.history ≡ p.history
   pub own : Spells words w' p'
   pub others : (q : Part) → q.node ≢ p.node → Spells s.words w q → Spells words w' q
 
@@ -94,10 +88,10 @@ parts_stay views count id v v' p p' at is is' same all node below = let h = all 
 
 -- the rule after such a step, if the new world is lawful with the new books
 pub ruled : {count size : ℕ} (s : St) (r : Rules count size s) (w' : World) (b' : Books) (g' : Routes) (words : List ℕ) (homes : Homes) (id : ℕ) (v v' : View) (p p' : Part) →
-    get_elem? s.views id ≡ some v → v.parts ≡ p ∷ [] → v'.parts ≡ p' ∷ [] → Sees s.words v v' → Moves s r.world w' words homes p p' →
+    get_elem? s.views id ≡ some v → v.parts ≡ p ∷ [] → v'.parts ≡ p' ∷ [] → Sees s.words v v' → v'.caller ≡ v.caller → Moves s r.world w' words homes p p' →
     Inboxes words (set s.views id v') w' → Joined (set s.views id v') b' → Lawful w' b' g' →
     Rules count size record { words = words; homes = homes; views = set s.views id v' }
-ruled {count} s r w' b' g' words homes id v v' p p' at is is' sight m inboxes joined lawful = record {
+ruled {count} s r w' b' g' words homes id v v' p p' at is is' sight caller m inboxes joined lawful = record {
   world = w';
   books = b';
   routes = g';
@@ -113,15 +107,16 @@ ruled {count} s r w' b' g' words homes id v v' p p' at is is' sight m inboxes jo
   sources = m.sources;
   counted = keeps_counts s.views s.words r.world w' id v v' at sight m.size m.grows r.shows.claims r.counted;
   parts = parts_stay s.views count id v v' p p' at is is' m.node r.parts;
+  histories = histories_stay s.views id v v' p p' at is is' m.node m.history caller r.histories;
 }
 
 -- the rule after it, with what is known of the world that is shown then
 pub ruled_with : {count size : ℕ} (s : St) (r : Rules count size s) (w' : World) (b' : Books) (g' : Routes) (words : List ℕ) (homes : Homes) (id : ℕ) (v v' : View) (p p' : Part) →
-    get_elem? s.views id ≡ some v → v.parts ≡ p ∷ [] → v'.parts ≡ p' ∷ [] → Sees s.words v v' → Moves s r.world w' words homes p p' →
+    get_elem? s.views id ≡ some v → v.parts ≡ p ∷ [] → v'.parts ≡ p' ∷ [] → Sees s.words v v' → v'.caller ≡ v.caller → Moves s r.world w' words homes p p' →
     Inboxes words (set s.views id v') w' → Joined (set s.views id v') b' → Lawful w' b' g' → (G : World → Books → Routes → Type 0) → G w' b' g' →
     (r' : Rules count size record { words = words; homes = homes; views = set s.views id v' }) × G r'.world r'.books r'.routes
 unfolding ruled
-ruled_with s r w' b' g' words homes id v v' p p' at is is' sight m inboxes joined lawful G known = (ruled s r w' b' g' words homes id v v' p p' at is is' sight m inboxes joined lawful, known)
+ruled_with s r w' b' g' words homes id v v' p p' at is is' sight caller m inboxes joined lawful G known = (ruled s r w' b' g' words homes id v v' p p' at is is' sight caller m inboxes joined lawful, known)
 
 -- if the words stay, so do their sources
 pub keeps_sources : (w w' : World) → ((i : ℕ) → word_at w' i ≡ word_at w i) → ((i : ℕ) → HasNode (word_at w i).source) → (i : ℕ) → HasNode (word_at w' i).source

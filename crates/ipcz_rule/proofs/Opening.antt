@@ -132,7 +132,7 @@ module _ (count size : ℕ) (s : St) (r : Rules count size s) (id : ℕ) (v v' :
   open_rules =
       let sp = spelled s r id v p at is in
       let moves = open_moves w i open_word p.node p'.state in
-      ruled_with s r w' r.books g' (set s.words i n') s.homes id v v' p p' at is is' sight.1 (record {
+      ruled_with s r w' r.books g' (set s.words i n') s.homes id v v' p p' at is is' sight.1 sight.2 (record {
         count = moves.count;
         size = moves.size;
         wide = length-set s.words i n';
@@ -143,6 +143,7 @@ module _ (count size : ℕ) (s : St) (r : Rules count size s) (id : ℕ) (v v' :
         grows = let same = claimed-set_word (set_node w p.node p'.state) i open_word ∙ claimed-set_node w p.node p'.state in omega (arith, same);
         mail = mails_show s w w' (set s.words i n') p.node p'.state moves boxes r.owner r.shows;
         node = refl;
+        history = refl;
         own = own_spells s w w' (set s.words i n') p.node p'.state moves boxes p p' refl refl refl refl refl refl sp;
         others = others_spell s w w' (set s.words i n') p.node p'.state moves boxes;
       }) (inboxes_stay s r w' (set s.words i n') id v' moves.count moves.size sight.0 (λ to l. get_or-set_other s.words i (inbox w to) n' 0 (λ e. let q = below in omega arith)) (λ from to lf lt e. inl (sym (boxes (way w from to)) ∙ e)))
@@ -159,7 +160,7 @@ opens_all count size slots id i m p is opening fine s r deep at small =
     let zero_here : n ≡ 0 = r.shows.links i (rw r.words inside) ∙ ap bits_of empty ∙ empty_bits in
     let v' = with_part (open_part i p) (saw i n m.0) in
     let G : Bool → Type 0 = λ b. (r' : Rules count size (stepped s i (either b (bits_of open_word) n) id m.1 v' keeps)) × KeepsEnds true r.world r'.world in
-    (v', keeps, tt, subst G (sym (eq-eqb n 0 zero_here)) (open_rules count size s r id m.0 v' p i (bits_of open_word) at is opening fine inside refl refl (refl, inr (i, refl))), (zero_here, refl))
+    (v', keeps, tt, subst G (sym (eq-eqb n 0 zero_here)) (open_rules count size s r id m.0 v' p i (bits_of open_word) at is opening fine inside refl refl (refl, inr (i, refl), refl)), (zero_here, refl))
 
 pub opens : (all : Bool) → Opens (IsKept all)
 opens all count size slots id i m p is opening fine =

@@ -190,8 +190,8 @@ posts_turns count size slots id i k to m p x rest is at_k at_i small_to has told
     λ q sq from e same. no_hand (mail_at w (way w from q.node)) (ap (mail_at w) same ∙ empty) (hand_stands w r.books r.routes q.node from r.lawful sq.inside (ap (λ y. y.hand) sq.state ∙ e)) in
     let homes' = set s.homes k (some (Some x)) in
     let long : i < length s.words = omega (arith, index, inside, wide) in
-    let rules = mail_rules count size s r id m.0 (with_part p' m.0) p p' w' g' i k 1 homes' (mails.Full x) at is refl (refl, inl refl) moves index inside (length-set s.homes k (some (Some x)))
-    (λ j ne. set_else s.homes k j (some (Some x)) ne) (x, set_here s.homes k (some (Some x)) (omega (arith, inside, deep_is)), refl) refl r.books (joined_same s.views id m.0 (with_part p' m.0) p p' r.books at is refl refl refl refl r.joined)
+    let rules = mail_rules count size s r id m.0 (with_part p' m.0) p p' w' g' i k 1 homes' (mails.Full x) at is refl (refl, inl refl, refl) moves index inside (length-set s.homes k (some (Some x)))
+    (λ j ne. set_else s.homes k j (some (Some x)) ne) (x, set_here s.homes k (some (Some x)) (omega (arith, inside, deep_is)), refl) refl refl r.books (joined_same s.views id m.0 (with_part p' m.0) p p' r.books at is refl refl refl refl r.joined)
     (ap (hand_of w' n) (post_hand p.state to) ∙ (same_hand w w' n p.state.hand moves.count (λ from e. moves.mails (way w from n) (not_hand p sp from e)) ∙ sp.message))
     (λ t l. dite (ℕ_discrete t to)
     (λ e. ap (has_number (without_number p.probed to)) e ∙ (without_itself p.probed to ∙ sym (ap (λ q. nat_eq q 3)
@@ -241,8 +241,8 @@ module _ (count size slots id i k from : ℕ) (m : Mine) (p : Part) (is : m.0.pa
       (subst (λ u. Kept u r.books) (look_after w n from p.state x sp.state full') (subst (Kept (after_act w n (node_acts.Look from))) (look_written w r.books n from) kept)) in
       let long : i < length s.words = omega (arith, index, inside, wide) in
       let same_three : nat_eq (slice_index s.words i) 3 ≡ nat_eq 2 3 = ap (λ q. nat_eq q 3) one in
-      mail_rules count size s r id m.0 (with_part p' (saw i (slice_index s.words i) m.0)) p p' w' g' i k 2 (set s.homes k none) (mails.Hand x) at is refl (refl, inr (i, refl)) moves index inside (length-set s.homes k none)
-      (λ j ne. set_else s.homes k j none ne) (x, refl) refl r.books (joined_same s.views id m.0 (with_part p' (saw i (slice_index s.words i) m.0)) p p' r.books at is refl refl refl refl r.joined)
+      mail_rules count size s r id m.0 (with_part p' (saw i (slice_index s.words i) m.0)) p p' w' g' i k 2 (set s.homes k none) (mails.Hand x) at is refl (refl, inr (i, refl), refl) moves index inside (length-set s.homes k none)
+      (λ j ne. set_else s.homes k j none ne) (x, refl) refl refl r.books (joined_same s.views id m.0 (with_part p' (saw i (slice_index s.words i) m.0)) p p' r.books at is refl refl refl refl r.joined)
       (ap (hand_of w' n) (look_hand p.state from) ∙ found w' n from x k (kk ∙ ap (λ q. from * q + n) (sym moves.count)) moves.mail)
       (λ t l. sp.probed t l ∙ three_stays s.words i 2 (mailbox w (way w n t)) long same_three)
       (λ q sq ne a e same. way_second w.count a from q.node n sq.inside n_in ne (same ∙ kk))
@@ -275,7 +275,7 @@ module _ (count size slots id i k from : ℕ) (m : Mine) (p : Part) (is : m.0.pa
       let kk : k ≡ from * w.count + p.node = at_k ∙ ap (λ q. from * q + p.node) (sym c) in omega (arith, kk) in
       let shown : MailAt 1 (get_elem? s.homes k) (mail_at w k) = subst (λ q. MailAt q (get_elem? s.homes k) (mail_at w k)) (ap (slice_index s.words) (sym index) ∙ one) (r.shows.mail k inside) in
       (with_part (look_part from shown.0 p) (saw i n m.0), takes k (Some shown.0), shown.1, taken count size slots id i k from m p is at_k at_i small_from idle s r at shown.0 one shown.1 shown.2, (shown.0, refl))
-  looks_by false e = (saw i n m.0, keeps, tt, sees s r i id m.0 (saw i n m.0) p at is is (refl, inr (i, refl)), refl)
+  looks_by false e = (saw i n m.0, keeps, tt, sees s r i id m.0 (saw i n m.0) p at is is (refl, inr (i, refl), refl), refl)
 
   pub looked : F (eqb n 1)
   looked = looks_by (eqb n 1) refl

@@ -57,8 +57,8 @@ module _ (count size id i k to : ℕ) (m : Mine) (p : Part) (is : m.0.parts ≡ 
         v',
         takes k None,
         shown.0,
-        mail_rules count size s r id m.0 v' p p' w r.routes i k 3 (set s.homes k none) mails.Empty at is refl (refl, inr (i, refl)) moves index inside (length-set s.homes k none)
-            (λ j ne. set_else s.homes k j none ne) refl refl r.books (joined_same s.views id m.0 v' p p' r.books at is refl refl refl refl r.joined) sp.message
+        mail_rules count size s r id m.0 v' p p' w r.routes i k 3 (set s.homes k none) mails.Empty at is refl (refl, inr (i, refl), refl) moves index inside (length-set s.homes k none)
+            (λ j ne. set_else s.homes k j none ne) refl refl refl r.books (joined_same s.views id m.0 v' p p' r.books at is refl refl refl refl r.joined) sp.message
             (λ t l. dite (ℕ_discrete t to)
             (λ h. let itself : nat_eq t to ≡ true = grind (arith, h, nat_tests) in ap (λ b. b || has_number p.probed t) itself ∙ sym (ap (λ q. nat_eq q 3)
             (ap (λ q. slice_index (set s.words i 3) (mailbox w (way w p.node q))) h ∙ (ap (slice_index (set s.words i 3)) (ap (mailbox w) (sym kk) ∙ sym index) ∙ get_or-set_same s.words i 3 0 long))))
@@ -69,7 +69,7 @@ module _ (count size id i k to : ℕ) (m : Mine) (p : Part) (is : m.0.parts ≡ 
             (λ e a b la lb same. absurd (omega (arith, e))) r.lawful [] (refl, refl, refl),
         refl,
       )
-  probes_by false e = (saw i n m.0, keeps, tt, sees s r i id m.0 (saw i n m.0) p at is is (refl, inr (i, refl)), refl)
+  probes_by false e = (saw i n m.0, keeps, tt, sees s r i id m.0 (saw i n m.0) p at is is (refl, inr (i, refl), refl), refl)
 
   pub probed_mail : F (eqb n 0)
   probed_mail = probes_by (eqb n 0) refl

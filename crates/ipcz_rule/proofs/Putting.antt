@@ -25,7 +25,7 @@ puts all profile count size slots id i m p at bytes ends is fine =
     let p' = put_part at bytes ends p in
     let item = Parcel (record { bytes = bytes; ends = ends }) in
     let v' = with_part p' m.0 in
-    touches all count size slots id i m p p' v' is refl (refl, refl) (record { node = refl; hand = found_hand p.state (terminal_of p.state at) (record { bytes = bytes; ends = ends }); message = refl; probed = refl })
+    touches all count size slots id i m p p' v' is refl (refl, refl, refl) (record { node = refl; hand = found_hand p.state (terminal_of p.state at) (record { bytes = bytes; ends = ends }); message = refl; probed = refl; history = refl })
     (λ s r seat inside state.
     let w = r.world in
     let b = r.books in

@@ -65,7 +65,7 @@ retires count size slots id i m p serial rt is can =
     let x = commit p.state (OfRouter serial acts.Retire) answers.Plain in
     let p' = add_put_entry rt.end (next_number rt) Gone (with_state x p) in
     let v' = with_part p' m.0 in
-    touches_turn count size slots id i m p p' v' (OfRouter serial acts.Retire) is refl (refl, refl) (record { node = refl; hand = act_hand p.state serial acts.Retire answers.Plain; message = refl; probed = refl })
+    touches_turn count size slots id i m p p' v' (OfRouter serial acts.Retire) is refl (refl, refl, refl) (record { node = refl; hand = act_hand p.state serial acts.Retire answers.Plain; message = refl; probed = refl; history = refl })
     (λ s r seat inside state.
     let w = r.world in
     let b = r.books in

@@ -48,8 +48,8 @@ unprobes_turns count size slots id i k to m p rest is at_k at_i small_to has slo
     λ q sq from e same. no_hand (mail_at w (way w from q.node)) (ap (mail_at w) same ∙ empty) (hand_stands w r.books r.routes q.node from r.lawful sq.inside (ap (λ y. y.hand) sq.state ∙ e)) in
     let homes' = set s.homes k (some None) in
     let long : i < length s.words = omega (arith, index, inside, wide) in
-    let rules = mail_rules count size s r id m.0 (with_part p' m.0) p p' w r.routes i k 0 homes' mails.Empty at is refl (refl, inl refl) moves index inside (length-set s.homes k (some None))
-    (λ j ne. set_else s.homes k j (some None) ne) (set_here s.homes k (some None) (omega (arith, inside, deep_is)), refl) refl r.books (joined_same s.views id m.0 (with_part p' m.0) p p' r.books at is refl refl refl refl r.joined)
+    let rules = mail_rules count size s r id m.0 (with_part p' m.0) p p' w r.routes i k 0 homes' mails.Empty at is refl (refl, inl refl, refl) moves index inside (length-set s.homes k (some None))
+    (λ j ne. set_else s.homes k j (some None) ne) (set_here s.homes k (some None) (omega (arith, inside, deep_is)), refl) refl refl r.books (joined_same s.views id m.0 (with_part p' m.0) p p' r.books at is refl refl refl refl r.joined)
     sp.message
     (λ t l. dite (ℕ_discrete t to)
     (λ e. ap (has_number (without_number p.probed to)) e ∙ (without_itself p.probed to ∙ sym (ap (λ q. nat_eq q 3)
@@ -103,8 +103,8 @@ gives_back_turns count size slots id i k from m p y rest is at_k at_i holds slot
     let long : i < length s.words = omega (arith, index, inside, wide) in
     let v' = saw i word m.0 in
     let at_word : MailAt word (get_elem? homes' k) (mail_at w k) = subst (λ q. MailAt (slice_index s.words q) (get_elem? homes' k) (mail_at w k)) (sym index) shown.1 in
-    let rules = mail_rules count size s r id m.0 v' p p w r.routes i k word homes' (mail_at w k) at is is (refl, inr (i, refl)) moves index inside (length-set s.homes k (some y))
-    (λ j ne. set_else s.homes k j (some y) ne) at_word refl r.books (joined_same s.views id m.0 v' p p r.books at is is refl refl refl r.joined)
+    let rules = mail_rules count size s r id m.0 v' p p w r.routes i k word homes' (mail_at w k) at is is (refl, inr (i, refl), refl) moves index inside (length-set s.homes k (some y))
+    (λ j ne. set_else s.homes k j (some y) ne) at_word refl refl r.books (joined_same s.views id m.0 v' p p r.books at is is refl refl refl r.joined)
     sp.message
     (λ t l. sp.probed t l ∙ three_stays s.words i word (mailbox w (way w n t)) long refl)
     (λ q sq ne a e same. way_second w.count a from q.node n sq.inside n_in ne (same ∙ kk))

@@ -38,7 +38,7 @@ unfolding router_at
 dries all count size slots id i m p serial rt is can =
     let p' = plain_part serial router_acts.Claim answers.NoWord p in
     let v' = with_part p' m.0 in
-    touches all count size slots id i m p p' v' is refl (refl, refl) (record { node = refl; hand = act_hand p.state serial router_acts.Claim answers.NoWord; message = refl; probed = refl })
+    touches all count size slots id i m p p' v' is refl (refl, refl, refl) (record { node = refl; hand = act_hand p.state serial router_acts.Claim answers.NoWord; message = refl; probed = refl; history = refl })
     (λ s r seat inside state.
     let w = r.world in
     let n : ℕ = p.node in

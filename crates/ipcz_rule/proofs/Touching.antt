@@ -53,22 +53,23 @@ pub record Touched (w : World) (views : List View) (p p' : Part) (G : World → 
   pub lawful : Lawful world books routes
   pub known : G world books routes
 
--- a part that stands for the same node, has the same hand and has probed the same mailboxes
+-- a part that stands for the same node, has the same hand and history, and has probed the same mailboxes
 pub record KeepsHands (p p' : Part) : Type 0 where
   pub node : p'.node ≡ p.node
   pub hand : p'.state.hand ≡ p.state.hand
   pub message : p'.message ≡ p.message
   pub probed : p'.probed ≡ p.probed
+  pub history : p'.history ≡ p.history
 
 -- touch: any word of the table stays, and the own node changes
-touched : (count size id i : ℕ) (m : Mine) (p p' : Part) (v' : View) → m.0.parts ≡ p ∷ [] → v'.parts ≡ p' ∷ [] → (v'.announced ≡ None) × (v'.seen ≡ m.0.seen) → KeepsHands p p' →
+touched : (count size id i : ℕ) (m : Mine) (p p' : Part) (v' : View) → m.0.parts ≡ p ∷ [] → v'.parts ≡ p' ∷ [] → (v'.announced ≡ None) × (v'.seen ≡ m.0.seen) × (v'.caller ≡ m.0.caller) → KeepsHands p p' →
     (s : St) (r : Rules count size s) → get_elem? s.views id ≡ some m.0 → (G : World → Books → Routes → Type 0) → Touched r.world (set s.views id v') p p' G →
     (r' : Rules count size record { words = set s.words i (slice_index s.words i); homes = s.homes; views = set s.views id v' }) × G r'.world r'.books r'.routes
 touched count size id i m p p' v' is is' same_seen k s r at G t =
     let sp = spelled s r id m.0 p at is in
     let same : (j : ℕ) → slice_index s.words (mailbox r.world j) ≡ slice_index s.words (mailbox r.world j) = λ j. refl in
     let After : List ℕ → Type 0 = λ ws. (r' : Rules count size record { words = ws; homes = s.homes; views = set s.views id v' }) × G r'.world r'.books r'.routes in
-    let rules : After s.words = ruled_with s r t.world t.books t.routes s.words s.homes id m.0 v' p p' at is is' (inl same_seen.1) (record {
+    let rules : After s.words = ruled_with s r t.world t.books t.routes s.words s.homes id m.0 v' p p' at is is' (inl same_seen.1) same_seen.2 (record {
       count = t.moves.count;
       size = t.moves.size;
       wide = refl;
@@ -79,6 +80,7 @@ touched count size id i m p p' v' is is' same_seen k s r at G t =
       grows = let kept = t.claimed in omega (arith, kept);
       mail = mails_show s r.world t.world s.words p.node p'.state t.moves same r.owner r.shows;
       node = k.node;
+      history = k.history;
       own = own_spells s r.world t.world s.words p.node p'.state t.moves same p p' refl k.node refl k.hand k.message k.probed sp;
       others = others_spell s r.world t.world s.words p.node p'.state t.moves same;
     }) (inboxes_stay s r t.world s.words id v' t.moves.count t.moves.size same_seen.0 (λ to l. refl) (λ from to lf lt e. inl e)) t.joined t.lawful G t.known in
@@ -91,7 +93,7 @@ any_kept all count size slots id m i f turns told may s r deep at small =
     let h = may s r deep at small in (h.0, h.1, h.2, (h.3.0, (h.3.1.0, (λ e. h.3.1.1 refl))), h.4)
 
 -- touch, of a call
-pub touches : (all : Bool) (count size slots id i : ℕ) (m : Mine) (p p' : Part) (v' : View) → m.0.parts ≡ p ∷ [] → v'.parts ≡ p' ∷ [] → (v'.announced ≡ None) × (v'.seen ≡ m.0.seen) → KeepsHands p p' →
+pub touches : (all : Bool) (count size slots id i : ℕ) (m : Mine) (p p' : Part) (v' : View) → m.0.parts ≡ p ∷ [] → v'.parts ≡ p' ∷ [] → (v'.announced ≡ None) × (v'.seen ≡ m.0.seen) × (v'.caller ≡ m.0.caller) → KeepsHands p p' →
     ((s : St) (r : Rules count size s) → get_elem? s.views id ≡ some m.0 → p.node < r.world.count → node_at r.world p.node ≡ p.state →
     Touched r.world (set s.views id v') p p' (λ w b g. KeepsEnds true r.world w)) →
     IsKept all count size slots id m i (λ n. n) (λ n. []) (λ n m'. m' ≡ (v', m.1))
@@ -101,7 +103,7 @@ touches all count size slots id i m p p' v' is is' same_seen k owes =
     (v', keeps, tt, touched count size id i m p p' v' is is' same_seen k s r at (λ w b g. KeepsEnds true r.world w) (owes s r at sp.inside sp.state), refl))
 
 -- touch, of an act
-pub touches_turn : (count size slots id i : ℕ) (m : Mine) (p p' : Part) (v' : View) (act : Act) → m.0.parts ≡ p ∷ [] → v'.parts ≡ p' ∷ [] → (v'.announced ≡ None) × (v'.seen ≡ m.0.seen) → KeepsHands p p' →
+pub touches_turn : (count size slots id i : ℕ) (m : Mine) (p p' : Part) (v' : View) (act : Act) → m.0.parts ≡ p ∷ [] → v'.parts ≡ p' ∷ [] → (v'.announced ≡ None) × (v'.seen ≡ m.0.seen) × (v'.caller ≡ m.0.caller) → KeepsHands p p' →
     ((s : St) (r : Rules count size s) → get_elem? s.views id ≡ some m.0 → p.node < r.world.count → node_at r.world p.node ≡ p.state →
     Touched r.world (set s.views id v') p p' (AreTurns r.world r.books r.routes ((p.node, act) ∷ []))) →
     IsTurns count size slots id m i (λ n. n) (λ n. (p.node, act) ∷ []) (λ n m'. m' ≡ (v', m.1))

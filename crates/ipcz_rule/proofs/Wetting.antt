@@ -40,7 +40,7 @@ wets all count size slots id i m p serial is has =
     let rt = some.0 in
     let p' = wet_part serial p in
     let v' = with_part p' m.0 in
-    touches all count size slots id i m p p' v' is refl (refl, refl) (record { node = refl; hand = wet_hand p.state serial; message = refl; probed = refl })
+    touches all count size slots id i m p p' v' is refl (refl, refl, refl) (record { node = refl; hand = wet_hand p.state serial; message = refl; probed = refl; history = refl })
     (λ s r seat inside state.
     let w = r.world in
     let n : ℕ = p.node in

@@ -57,7 +57,7 @@ unfolding word_after
 refusal_fits s o x h = ap bits_of (sym (by_refusal s o x (plan_of x s) (ap (λ z. is_refusal (plan_of z s)) (sym (sets_return x)) ∙ h)))
 
 pub loads_turns : Loads IsTurns
-loads_turns count size slots id i m p is s r deep at small = (saw i (slice_index s.words i) m.0, keeps, tt, sees s r i id m.0 (saw i (slice_index s.words i) m.0) p at is is (refl, inr (i, refl)), refl)
+loads_turns count size slots id i m p is s r deep at small = (saw i (slice_index s.words i) m.0, keeps, tt, sees s r i id m.0 (saw i (slice_index s.words i) m.0) p at is is (refl, inr (i, refl), refl), refl)
 
 pub loads : (all : Bool) → Loads (IsKept all)
 loads all count size slots id i m p is s r deep at small =
@@ -112,7 +112,7 @@ loads_for_hand_turns count size slots id from old m p x is holds has named s r d
     let n : ℕ = slice_index s.words old in
     let t = old_link s r p from old x (spelled s r id m.0 p at is) holds has named in
     let found : word_of_bits n ≡ word_at w old = ap word_of_bits (r.shows.links old (rw r.words t.0)) ∙ sets_return (word_at w old) in
-    (saw old n m.0, keeps, tt, sees s r old id m.0 (saw old n m.0) p at is is (refl, inr (old, refl)), (ap (λ (z : Word). z.source) found ∙ t.1, refl))
+    (saw old n m.0, keeps, tt, sees s r old id m.0 (saw old n m.0) p at is is (refl, inr (old, refl), refl), (ap (λ (z : Word). z.source) found ∙ t.1, refl))
 
 pub loads_for_hand : (all : Bool) → LoadsForHand (IsKept all)
 loads_for_hand all count size slots id from old m p x is holds has named s r deep at small =

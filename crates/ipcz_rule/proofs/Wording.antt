@@ -110,7 +110,7 @@ module _ (count size : ℕ) (s : St) (r : Rules count size s) (id : ℕ) (v v' :
   word_rules =
       let sp = spelled s r id v p at is in
       let moves = word_moves w i y p.node p'.state in
-      ruled_with s r w' r.books (act_routes w r.routes p.node serial act) (set s.words i n') s.homes id v v' p p' at is is' sight.1 (record {
+      ruled_with s r w' r.books (act_routes w r.routes p.node serial act) (set s.words i n') s.homes id v v' p p' at is is' sight.1 sight.2 (record {
         count = moves.count;
         size = moves.size;
         wide = length-set s.words i n';
@@ -121,6 +121,7 @@ module _ (count size : ℕ) (s : St) (r : Rules count size s) (id : ℕ) (v v' :
         grows = let same = claimed-set_node (set_word w i y) p.node p'.state ∙ claimed-set_word w i y in omega (arith, same);
         mail = mails_show s w w' (set s.words i n') p.node p'.state moves boxes r.owner r.shows;
         node = refl;
+        history = refl;
         own = own_spells s w w' (set s.words i n') p.node p'.state moves boxes p p' refl refl refl (act_hand p.state serial act (word_answer (word_at r.world i) rt.end.side (source_of rt) act)) refl refl sp;
         others = others_spell s w w' (set s.words i n') p.node p'.state moves boxes;
       }) (inboxes_stay s r w' (set s.words i n') id v' moves.count moves.size sight.0 (λ to l. get_or-set_other s.words i (inbox w to) n' 0 (λ e. let q = below in omega arith)) (λ from to lf lt e. inl (sym (boxes (way w from to)) ∙ e)))
@@ -137,7 +138,7 @@ sees {count} {size} s r i id v v' p at is is' sight =
     let w = r.world in
     let moves = same_moves w p.node p.state sp.state in
     let same : (j : ℕ) → slice_index s.words (mailbox w j) ≡ slice_index s.words (mailbox w j) = λ j. refl in
-    let rules : Follows count size s r [] record { words = s.words; homes = s.homes; views = set s.views id v' } = ruled_with s r w r.books r.routes s.words s.homes id v v' p p at is is' sight.1 (record {
+    let rules : Follows count size s r [] record { words = s.words; homes = s.homes; views = set s.views id v' } = ruled_with s r w r.books r.routes s.words s.homes id v v' p p at is is' sight.1 sight.2 (record {
       count = refl;
       size = refl;
       wide = refl;
@@ -148,6 +149,7 @@ sees {count} {size} s r i id v v' p at is is' sight =
       grows = omega arith;
       mail = r.shows.mail;
       node = refl;
+      history = refl;
       own = sp;
       others = λ q ne h. h;
     }) (inboxes_stay s r w s.words id v' refl refl sight.0 (λ to l. refl) (λ from to lf lt e. inl e)) (joined_same s.views id v v' p p r.books at is is' refl refl refl r.joined) r.lawful (AreTurns r.world r.books r.routes []) (refl, refl, refl) in
@@ -182,14 +184,14 @@ module _ (count size id : ℕ) (m : Mine) (p : Part) (serial : ℕ) (rt : Router
     keeps,
     tt,
     word_rules count size s r id m.0 (plain_view i n serial rt.end.side (source_of rt) act p m.0) p serial rt act i (f n) at is can on primary inside
-        (ap f spelled_word ∙ fits (word_at r.world i) (subst IsLinkNumber spelled_word (found_word s r i inside)) (ap hit (sym spelled_word) ∙ e)) (ap (λ x. plain_part serial act (word_answer x rt.end.side (source_of rt) act) p ∷ []) back) (refl, inr (i, refl)),
+        (ap f spelled_word ∙ fits (word_at r.world i) (subst IsLinkNumber spelled_word (found_word s r i inside)) (ap hit (sym spelled_word) ∙ e)) (ap (λ x. plain_part serial act (word_answer x rt.end.side (source_of rt) act) p ∷ []) back) (refl, inr (i, refl), refl),
     refl,
   )
   by false e = (
     saw i n m.0,
     keeps,
     tt,
-    subst (λ (k : ℕ). Follows count size s r [] (stepped s i k id m.1 (saw i n m.0) keeps)) (sym (stays n e)) (sees s r i id m.0 (saw i n m.0) p at is is (refl, inr (i, refl))),
+    subst (λ (k : ℕ). Follows count size s r [] (stepped s i k id m.1 (saw i n m.0) keeps)) (sym (stays n e)) (sees s r i id m.0 (saw i n m.0) p at is is (refl, inr (i, refl), refl)),
     refl,
   )
 

@@ -11,7 +11,7 @@ use Rattle.ipcz_rule.specs.Rule.{St, Joined, Rules}
 
 -- a view of these parts
 abbrev pub view_of : List Part → View
-view_of ps = record { parts = ps; seen = []; announced = None }
+view_of ps = record { parts = ps; seen = []; announced = None; caller = None }
 
 -- the states of the nodes that parts are of
 abbrev pub states_of : List Part → List Node
@@ -24,7 +24,7 @@ pub record AreAll (count : ℕ) (ps : List Part) : Type 0 where
 
 -- a part whose probed mailboxes have been given back
 abbrev pub rested : Part → Part
-rested p = record { node = p.node; state = p.state; message = p.message; probed = []; put = p.put; got = p.got; gone = p.gone }
+rested p = record { node = p.node; state = p.state; message = p.message; probed = []; put = p.put; got = p.got; gone = p.gone; history = p.history }
 
 -- the world that was shown when the table of so many nodes and words came to its end: the table kept the rule, with this world, and with the
 -- books that the parts keep; one view had these parts, but for what was probed; the world's nodes are those of the parts, each with the

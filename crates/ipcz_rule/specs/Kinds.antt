@@ -9,7 +9,7 @@ use Rattle.std.specs.Int.{bit_at}
 use prog.Atomic.{either}
 use mathlib.Core.Option.{some}
 use lib.ListN.{get_elem?}
-use Rattle.atomic_table.specs.Table.{Act as TableAct, Joins, Valid, stepped, carried_after}
+use Rattle.atomic_table.specs.Table.{Act as TableAct, Enters, Joins, Splits, Valid, stepped, carried_after}
 use Rattle.ipcz_base.specs.declared.profile.Profile.{Profile}
 use Rattle.ipcz_base.specs.declared.end.End.{End}
 use Rattle.ipcz_base.specs.declared.message.Message.{Message}
@@ -32,6 +32,9 @@ use Rattle.ipcz_node.specs.Hands.{message_lacks_serials}
 use Rattle.ipcz_world.specs.WordAnswers.{word_after}
 use Rattle.ipcz_rule.specs.declared.view.View.{View}
 use Rattle.ipcz_rule.specs.declared.view.Part.{Part}
+use Rattle.ipcz_rule.specs.declared.history.Call.{Call}
+use Rattle.ipcz_rule.specs.declared.history.CallerView.{CallerView}
+use Rattle.ipcz_rule.specs.Histories.{IsNoted, lent_caller, new_caller, caller_view, without_caller}
 use Rattle.ipcz_world.specs.HeldEnds.{IsEndHeld}
 use Rattle.ipcz_world.specs.Ranks.{AreTurns}
 use Rattle.ipcz_world.specs.World.{World}
@@ -287,12 +290,25 @@ GivesBack F = (count size slots id i k from : ℕ) (m : Mine) (p : Part) (s : Sl
 
 -- a view that has the parts of two
 abbrev pub together : View → View → View
-together v w = record { parts = v.parts ++ w.parts; seen = v.seen; announced = None }
+together v w = record { parts = v.parts ++ w.parts; seen = v.seen; announced = None; caller = lent_caller v.caller w.caller }
 
 -- a view that says nothing
 abbrev pub spent : View
-spent = record { parts = []; seen = []; announced = None }
+spent = record { parts = []; seen = []; announced = None; caller = None }
 
--- join: a seat takes in the parts of another
+-- join: a seat takes in the parts of another, and its caller
 abbrev pub JoinsParts : Type 0
 JoinsParts = (count size id : ℕ) (v : View) (other : ℕ) (w : View) → Joins (Rules count size) id v other w (together v w) spent
+
+-- a load by which a call is written into the history of the seat's node, of a caller that has lent its view
+abbrev pub Notes : Form → Type 0
+Notes F = (count size slots id i : ℕ) (m : Mine) (p : Part) (c : CallerView) (call : Call) → m.0.parts ≡ p ∷ [] → m.0.caller ≡ Some c →
+    F count size slots id m i (λ n. n) (λ n. []) (λ n m'. IsNoted m.0 p c call m'.0 × (m'.1 ≡ m.1))
+
+-- split: a seat's caller goes on with a seat of its own
+abbrev pub ReturnsCaller : Type 0
+ReturnsCaller = (count size id : ℕ) (v : View) → Splits (Rules count size) id v (without_caller v) (caller_view v.caller)
+
+-- a new seat: a caller that has called nothing yet
+abbrev pub CallersCome : Type 0
+CallersCome = (count size slots i : ℕ) → Enters (Rules count size) slots i (λ n w. (id : ℕ) × (w ≡ caller_view (Some (new_caller id))))

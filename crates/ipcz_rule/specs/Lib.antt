@@ -1,5 +1,6 @@
 pub mod End
 pub mod GivenUp
+pub mod Histories
 pub mod Kinds
 pub mod Races
 pub mod Rule

@@ -23,6 +23,7 @@ use Rattle.ipcz_world.specs.Lawful.{Lawful}
 use Rattle.ipcz_world.specs.Laws.{LengthLaw, StrayLaw}
 use Rattle.ipcz_rule.specs.declared.view.View.{View}
 use Rattle.ipcz_rule.specs.declared.view.Part.{Part}
+use Rattle.ipcz_rule.specs.Histories.{Histories}
 
 -- what a slot has: a message while its mailbox is full
 abbrev pub Slot : Type 0
@@ -158,23 +159,24 @@ pub record Rules (count size : ℕ) (s : St) : Type 0 where
   pub sources : (i : ℕ) → HasNode (word_at world i).source
   pub counted : HasSeenCounts s.views world
   pub parts : HaveParts s.views count
+  pub histories : Histories s.views
 
 -- the view with another part, its only one
 abbrev pub with_part : Part → View → View
-with_part p v = record { parts = p ∷ []; seen = v.seen; announced = None }
+with_part p v = record { parts = p ∷ []; seen = v.seen; announced = None; caller = v.caller }
 
 -- the view that has seen the word i to be n
 abbrev pub saw : ℕ → ℕ → View → View
-saw i n v = record { parts = v.parts; seen = v.seen ++ (i, n) ∷ []; announced = None }
+saw i n v = record { parts = v.parts; seen = v.seen ++ (i, n) ∷ []; announced = None; caller = v.caller }
 
 -- the view that has announced a message to a node
 abbrev pub announcing : ℕ → View → View
-announcing to v = record { parts = v.parts; seen = v.seen; announced = Some to }
+announcing to v = record { parts = v.parts; seen = v.seen; announced = Some to; caller = v.caller }
 
 -- the view of a seat that no longer knows that it has announced a message
 abbrev pub forgetting : View → View
-forgetting v = record { parts = v.parts; seen = v.seen; announced = None }
+forgetting v = record { parts = v.parts; seen = v.seen; announced = None; caller = v.caller }
 
 -- the part with another state of its node
 abbrev pub with_state : Node → Part → Part
-with_state x p = record { node = p.node; state = x; message = p.message; probed = p.probed; put = p.put; got = p.got; gone = p.gone }
+with_state x p = record { node = p.node; state = x; message = p.message; probed = p.probed; put = p.put; got = p.got; gone = p.gone; history = p.history }

@@ -19,7 +19,7 @@ no_messages n = replicate n None
 
 -- what a seat says of a node at the start
 abbrev pub opening_part : ℕ → ℕ → Part
-opening_part count n = record { node = n; state = new_node n count; message = None; probed = []; put = []; got = []; gone = [] }
+opening_part count n = record { node = n; state = new_node n count; message = None; probed = []; put = []; got = []; gone = []; history = [] }
 
 -- the parts of so many nodes from one on
 abbrev pub opening_parts : ℕ → ℕ → ℕ → List Part
@@ -27,7 +27,7 @@ opening_parts count n left = map (opening_part count) (numbers_from n left)
 
 -- the view of the first seat: it says all of all nodes
 abbrev pub opening_view : ℕ → View
-opening_view count = record { parts = opening_parts count 0 count; seen = []; announced = None }
+opening_view count = record { parts = opening_parts count 0 count; seen = []; announced = None; caller = None }
 
 -- the first part of a list, alone
 abbrev pub head_parts : List Part → List Part
@@ -41,8 +41,8 @@ tail_parts (p ∷ ps) = ps
 
 -- the view that a new seat gets when a part is dealt
 abbrev pub dealt : View → View
-dealt v = record { parts = head_parts v.parts; seen = v.seen; announced = None }
+dealt v = record { parts = head_parts v.parts; seen = v.seen; announced = None; caller = None }
 
 -- and the view that stays
 abbrev pub after_deal : View → View
-after_deal v = record { parts = tail_parts v.parts; seen = v.seen; announced = None }
+after_deal v = record { parts = tail_parts v.parts; seen = v.seen; announced = None; caller = v.caller }

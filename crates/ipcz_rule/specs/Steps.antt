@@ -39,6 +39,7 @@ add_put_entry e n item p = record {
       [];
   got = p.got;
   gone = p.gone;
+  history = p.history;
 }
 
 -- the part with a parcel more that was got
@@ -52,6 +53,7 @@ add_got_entry e n q p = record {
   got = p.got ++
       ((e, n), q) ∷ [];
   gone = p.gone;
+  history = p.history;
 }
 
 -- the part with an item more that was dropped
@@ -64,6 +66,7 @@ add_gone_entry e n p = record {
   put = p.put;
   got = p.got;
   gone = p.gone ++ (e, n) ∷ [];
+  history = p.history;
 }
 
 -- the part after a put
@@ -153,6 +156,7 @@ probe_part to p = record {
   put = p.put;
   got = p.got;
   gone = p.gone;
+  history = p.history;
 }
 
 -- the part of a node that has given back the mailbox to another
@@ -165,6 +169,7 @@ unprobe_part to p = record {
   put = p.put;
   got = p.got;
   gone = p.gone;
+  history = p.history;
 }
 
 -- the part of a node that has posted to another
@@ -177,6 +182,7 @@ post_part to p = record {
   put = p.put;
   got = p.got;
   gone = p.gone;
+  history = p.history;
 }
 
 -- the part of a node that has taken a message of this sender into its hand
@@ -189,6 +195,7 @@ look_part from x p = record {
   put = p.put;
   got = p.got;
   gone = p.gone;
+  history = p.history;
 }
 
 -- the source that a message in hand has by the rule: an AcceptBypass comes from the node that the old link's word names
@@ -211,4 +218,5 @@ hand_part from source x p = record {
   put = p.put;
   got = p.got;
   gone = p.gone;
+  history = p.history;
 }

@@ -1,3 +1,4 @@
+use crate::history::{CallerView, Entry};
 use crate::node::PlainNode;
 use ipcz_base::{End, Item, Message, Parcel};
 use std::collections::LinkedList;
@@ -17,6 +18,8 @@ pub struct Part {
     pub got: LinkedList<((End, u64), Parcel)>,
     /// The items that sinks dropped here, by end and number.
     pub gone: LinkedList<(End, u64)>,
+    /// What was called here by callers whose calls are kept, in order.
+    pub history: LinkedList<Entry>,
 }
 
 /// What a seat knows. No value of it is made.
@@ -26,4 +29,6 @@ pub struct View {
     pub seen: LinkedList<(u64, u64)>,
     /// The node whose inbox it has just found, or left, with the bit of its own node set. With each other step that is forgotten.
     pub announced: Option<u64>,
+    /// What a caller knows that has the seat, or has lent its view to it.
+    pub caller: Option<CallerView>,
 }

@@ -19,7 +19,7 @@ loop-node-init g c =
     let many = bodies-many count count c.args.bodies.items c.requires.bodies in
     record {
       own = c.requires.own;
-      me = c.requires.me ∙ ap (λ (n : ℕ). (record { parts = opening_parts count 0 n; seen = []; announced = None }, [])) (sym all);
+      me = c.requires.me ∙ ap (λ (n : ℕ). (record { parts = opening_parts count 0 n; seen = []; announced = None; caller = None }, [])) (sym all);
       left = c.from_vec-bodies.ensures.items ∙ (c.requires.bodies ∙ ap (λ (n : ℕ). map (opening_body count) (numbers_from 0 n)) (sym all));
       cells = subst (AreFirst count 0) (sym none_yet) (record { parts = refl; seen = refl });
       many = omega (arith, c.from_vec-bodies.ensures.len, many);
@@ -48,13 +48,13 @@ loop-node-preserved g c =
     let nodes = c.fabric.invariant.3 in
     let below : n < count = omega (arith, c.loop-node-test.true, nodes) in
     let taken = body-taken _ _ _ _ _ _ below l.left c.pop_front.ensures.items c.in-Some.is in
-    let v : View = record { parts = opening_parts count n (count - n); seen = []; announced = None } in
+    let v : View = record { parts = opening_parts count n (count - n); seen = []; announced = None; caller = None } in
     let kept = kept_opening count v n below refl in
     let own = ap (λ (m : Mine). m.0) c.deal-own.ensures.dealt ∙ ap (λ (m : Mine). dealt m.0) l.me in
     let one = ap (λ (r : Option BodyValue). length (option_to_list r)) c.in-Some.is in
     record {
       own = c.deal-own.ensures.table.0;
-      me = c.deal-own.ensures.kept ∙ (ap (λ (m : Mine). (after_deal m.0, m.1)) l.me ∙ λ j. (record { parts = kept j; seen = []; announced = None }, []));
+      me = c.deal-own.ensures.kept ∙ (ap (λ (m : Mine). (after_deal m.0, m.1)) l.me ∙ λ j. (record { parts = kept j; seen = []; announced = None; caller = None }, []));
       left = taken.1;
       cells = cells-more count n _ _ _ l.cells (ap part_in own ∙ ap first_part (dealt_opening count v n below refl)) (ap (λ (z : View). z.seen) own)
           c.push_reserved.ensures.items;

@@ -10,7 +10,7 @@ use Rattle.ipcz_cell.specs.Seats.{mine_of}
 abbrev pub invariant-loop-node : goal.invariant-loop-node
 invariant-loop-node g l = record {
   own : l.seat.table_id ≡ g.F.FabricName.table.id;
-  me : (mine_of l.seat.me) ≡ (record { parts = opening_parts g.F.FabricName.table.count l.node (g.F.FabricName.table.count - l.node); seen = []; announced = None }, []);
+  me : (mine_of l.seat.me) ≡ (record { parts = opening_parts g.F.FabricName.table.count l.node (g.F.FabricName.table.count - l.node); seen = []; announced = None; caller = None }, []);
   left : l.bodies.items ≡ map (opening_body g.F.FabricName.table.count) (numbers_from l.node (g.F.FabricName.table.count - l.node));
   cells : AreFirst g.F.FabricName.table.count l.node l.cells.items;
   many : deque_len l.bodies ≡ g.F.FabricName.table.count - l.node;
