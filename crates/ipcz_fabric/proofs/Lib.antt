@@ -5,3 +5,5 @@ pub mod HubAnswers
 pub mod Locking
 pub mod Taking
 pub mod AskedInTurn
+pub mod Books
+pub mod Replaying

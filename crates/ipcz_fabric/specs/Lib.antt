@@ -1,5 +1,6 @@
 pub mod Places
 pub mod Portals
 pub mod Selecting
+pub mod Replays
 pub mod Hubs
 pub mod Workers

@@ -3,6 +3,7 @@
 #![tactic(auto)]
 
 mod deadline;
+mod desk;
 mod hub;
 mod portal;
 mod portals;

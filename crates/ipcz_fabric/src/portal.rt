@@ -152,7 +152,7 @@ impl<F: FabricName> Portal<F> {
     }
 
     // Puts a parcel at the end, whose node's cell this is. Room for the list of ends is taken first.
-    fn put_here(
+    pub(crate) fn put_here(
         &self,
         cell: &mut NodeCell<F>,
         hub: &Hub<F>,

@@ -1,0 +1,286 @@
+//! Desks: what lies behind a node's lock. It is the node's cell, whose history tells how its state was reached.
+ghost use Rattle.std.specs.Prelude.{◌≡◌, ◌<◌, ℕ, Result, Ok, Err, true, false, MatchResult, None, Some, unwrap_or, OnOk, OnErr, IfOk, IfErr};
+ghost use Rattle.ipcz_node.specs.Calls.{put_refusal, put_number, get_refusal, got_at, close_refusal, next_sizes};
+ghost use Rattle.ipcz_rule.specs.declared.history.Call.TheVariants as calls;
+ghost use Rattle.ipcz_rule.specs.Histories.{entry_of, noted};
+ghost use Rattle.ipcz_cell.specs.Callers.{IsWritten};
+ghost use Rattle.ipcz_cell.specs.CellStates.{CellState};
+ghost use Rattle.ipcz_cell.specs.Cells.{IsSoundCell};
+ghost use Rattle.ipcz_cell.specs.Opens.{OpensPair};
+ghost use Rattle.ipcz_cell.specs.Retries.{Retries};
+ghost use Rattle.ipcz_cell.specs.TurnChains.{RunsTurns};
+ghost use Rattle.ipcz_cell.specs.TurnEnds.{Turns};
+ghost use Rattle.ipcz_fabric.specs.Places.{IsCellOf, IsRefusedFor, IsRefusedInOrder};
+ghost use Rattle.ipcz_fabric.specs.Portals.{ends_of, has_ends, wants_list};
+ghost use Rattle.ipcz_fabric.specs.Replays.{Extends, IsNotedCell, PutsAt, entered};
+
+use crate::hub::Hub;
+use crate::portal::{Portal, PortalPutRefused};
+use ipcz_base::{End, Parcel, Profile, Refusal, Sizes};
+use ipcz_cell::{CallName, CallerSeat, Fabric, FabricName, NodeCell, Retry};
+use ipcz_node::Happened;
+use std::marker::{Brand, Model};
+
+/// A node's cell. What its callers call it answers, and then it is written down as theirs.
+#[derive(Drop)]
+pub(crate) struct Desk<F: FabricName> {
+    cell: NodeCell<F>,
+}
+
+impl<F: FabricName> Model for Desk<F> {
+    ghost use Rattle.std.specs.FinMap.{code};
+    ghost use Rattle.std.specs.FinSet as sets;
+    ghost use Rattle.std.specs.Coded.{codes};
+    ghost use Rattle.ipcz_cell.specs.CellStates.{CellState};
+    ghost use Rattle.ipcz_fabric.specs.Replays.{IsReached};
+
+    ghost Value = { CellState };
+
+    ghost coded = { Prim.hlevel (codes, code, sets.code) };
+
+    ghost view = { λ d. d.cell };
+
+    ghost invariant = { λ d. IsReached F.table d.cell.part };
+}
+
+/// Which call a put is, by what it is answered.
+pub(crate) trait PutName {
+    ghost use Rattle.std.specs.Prelude.{ℕ, Result};
+    ghost use Rattle.ipcz_base.specs.declared.refusal.Refusal.{Refusal as Why};
+    ghost use Rattle.ipcz_rule.specs.declared.history.Call.{Call};
+
+    ghost puts: { Result ℕ Why → Call };
+}
+
+impl PutName for Brand {
+    ghost use Rattle.ipcz_rule.specs.declared.history.Call.TheVariants as calls;
+    ghost use Rattle.ipcz_rule.specs.declared.retry.Retry.TheVariants.{NoneWaits};
+
+    ghost puts = { λ answer. calls.Retried NoneWaits };
+}
+
+// Writes a call into the history of a cell's node, as one of this caller. Which call it is each use picks, by what was asked and answered.
+fn note_as<F: FabricName, C: CallName, Q, A>(
+    cell: &mut NodeCell<F>,
+    fabric: &Fabric<F>,
+    me: &mut CallerSeat<F>,
+    asked: &Q,
+    answer: &A,
+)
+    ensures part { cell.new.part ≡ noted (entry_of cell.old.part.node me.old.id C.call) cell.old.part }
+    ensures seen { cell.new.seen ≡ cell.old.seen }
+    ensures me { IsWritten (entry_of cell.old.part.node me.old.id C.call) cell.new.part.history me.old me.new }
+{
+    let _asked = asked;
+    let _answer = answer;
+    cell.note::<C>(fabric, me);
+}
+
+// What a put was answered.
+fn told<F: FabricName>(put: &Result<u64, PortalPutRefused<F>>) -> Result<u64, Refusal>
+    ensures { MatchResult put.now (λ n. result ≡ Ok n) (λ e. result ≡ Err e.why) }
+{
+    match put {
+        Ok(n) => Ok(*n),
+        Err(refused) => Err(refused.why),
+    }
+}
+
+// Puts a parcel at a portal of a cell's node, and writes it down, as the call that P names.
+fn put_noted<F: FabricName, P: PutName>(
+    cell: &mut NodeCell<F>,
+    hub: &Hub<F>,
+    me: &mut CallerSeat<F>,
+    portal: &Portal<F>,
+    profile: Profile,
+    bytes: Vec<u8>,
+    portals: Vec<Portal<F>>,
+) -> Result<u64, PortalPutRefused<F>>
+    ensures allowed { OnOk result (put_refusal profile cell.old.part.state portal.now.end bytes.items (ends_of portals.items) ≡ None) }
+    ensures number { IfOk result (λ n. n ≡ put_number cell.old.part.state portal.now.end) }
+    ensures why { IfErr result
+        (λ e. IsRefusedInOrder (wants_list (ends_of portals.items))
+        (put_refusal profile cell.old.part.state portal.now.end bytes.items (ends_of portals.items)) e.why) }
+    ensures back { IfErr result (λ e. (e.bytes.items ≡ bytes.items) × (e.portals.items ≡ portals.items)) }
+    ensures noted { (told : Result ℕ Refusal) × MatchResult result (λ n. told ≡ Ok n) (λ e. told ≡ Err e.why) × (done : CellState) ×
+        PutsAt profile portal.now.end bytes.items (ends_of portals.items) told cell.old.part done.part ×
+        IsNotedCell (entry_of done.part.node me.old.id (P.puts told)) done cell.new ×
+        IsWritten (entry_of done.part.node me.old.id (P.puts told)) cell.new.part.history me.old me.new }
+{
+    let put = portal.put_here(cell, hub, profile, bytes, portals);
+    let answer = told(&put);
+    note_as::<F, Brand, _, _>(cell, hub.fabric(), me, &(), &answer);
+    put
+}
+
+impl<F: FabricName> Desk<F> {
+    // A desk with a cell, where it is written down in which state the node comes behind its lock.
+    pub(crate) fn new(fabric: &Fabric<F>, cell: NodeCell<F>) -> Desk<F>
+        ensures { (by : ℕ) × (result.part ≡ entered by cell.part) }
+    {
+        let mut cell = cell;
+        let mut me = fabric.caller();
+        note_as::<F, Brand, _, _>(&mut cell, fabric, &mut me, &(), &());
+        Desk { cell }
+    }
+
+    // The cell.
+    pub(crate) fn into_cell(self) -> NodeCell<F>
+        ensures { result ≡ self }
+    {
+        self.cell
+    }
+
+    // The number of the node.
+    pub(crate) fn node(&self) -> u8
+        ensures node { result ≡ self.now.part.node }
+        ensures inside { result < F.table.count }
+        ensures sound { IsSoundCell F.table self.now }
+    {
+        self.cell.node()
+    }
+
+    // How many bytes and ends the parcel has that a get at this end would give.
+    pub(crate) fn next_sizes(&self, at: End) -> Option<Sizes>
+        ensures { result ≡ next_sizes self.now.part.state at }
+    {
+        self.cell.next_sizes(at)
+    }
+
+    // Takes one turn of the node.
+    pub(crate) fn turn(
+        &mut self,
+        fabric: &Fabric<F>,
+        me: &mut CallerSeat<F>,
+    ) -> Result<Happened, Refusal>
+        requires { IsCellOf F.table self.old.part.node self.old }
+        ensures did { (turned : CellState) × Turns F.table self.old result turned × (self.new.part.node ≡ self.old.part.node) }
+        ensures extends { Extends F.table self.old.part.node (calls.Turned result) me.old me.new }
+    {
+        let answer = self.cell.turn(fabric);
+        note_as::<F, Brand, _, _>(&mut self.cell, fabric, me, &(), &answer);
+        answer
+    }
+
+    // Takes turns of the node, one after the other.
+    pub(crate) fn acts(
+        &mut self,
+        fabric: &Fabric<F>,
+        me: &mut CallerSeat<F>,
+        limit: u64,
+    ) -> Result<u64, Refusal>
+        requires { IsCellOf F.table self.old.part.node self.old }
+        ensures did { (acted : CellState) × RunsTurns F.table limit self.old result acted }
+        ensures extends { Extends F.table self.old.part.node (calls.Acted limit result) me.old me.new }
+    {
+        let answer = self.cell.acts(fabric, limit);
+        note_as::<F, Brand, _, _>(&mut self.cell, fabric, me, &limit, &answer);
+        answer
+    }
+
+    // Lets a proxy of the node ask again for its slot.
+    pub(crate) fn retry(&mut self, fabric: &Fabric<F>, me: &mut CallerSeat<F>) -> Retry
+        requires { IsCellOf F.table self.old.part.node self.old }
+        ensures did { (asked : CellState) × Retries F.table self.old result asked }
+        ensures extends { Extends F.table self.old.part.node (calls.Retried result) me.old me.new }
+    {
+        let answer = self.cell.retry(fabric);
+        note_as::<F, Brand, _, _>(&mut self.cell, fabric, me, &(), &answer);
+        answer
+    }
+
+    // Opens a pair at the node.
+    pub(crate) fn open_pair(
+        &mut self,
+        fabric: &Fabric<F>,
+        me: &mut CallerSeat<F>,
+    ) -> Result<(End, End), Refusal>
+        requires { IsCellOf F.table self.old.part.node self.old }
+        ensures did { (opened : CellState) × OpensPair F.table self.old opened result }
+        ensures extends { Extends F.table self.old.part.node (calls.Opened result) me.old me.new }
+    {
+        let answer = self.cell.open_pair(fabric);
+        note_as::<F, Brand, _, _>(&mut self.cell, fabric, me, &(), &answer);
+        answer
+    }
+
+    // Puts a parcel at a portal of the node.
+    pub(crate) fn put_as(
+        &mut self,
+        hub: &Hub<F>,
+        me: &mut CallerSeat<F>,
+        portal: &Portal<F>,
+        profile: Profile,
+        bytes: Vec<u8>,
+        portals: Vec<Portal<F>>,
+    ) -> Result<u64, PortalPutRefused<F>>
+        ensures allowed { OnOk result (put_refusal profile self.old.part.state portal.now.end bytes.items (ends_of portals.items) ≡ None) }
+        ensures number { IfOk result (λ n. n ≡ put_number self.old.part.state portal.now.end) }
+        ensures why { IfErr result
+            (λ e. IsRefusedInOrder (wants_list (ends_of portals.items))
+            (put_refusal profile self.old.part.state portal.now.end bytes.items (ends_of portals.items)) e.why) }
+        ensures back { IfErr result (λ e. (e.bytes.items ≡ bytes.items) × (e.portals.items ≡ portals.items)) }
+        ensures extends { MatchResult result
+            (λ n. Extends F.table self.old.part.node (calls.Put profile portal.now.end bytes.items (ends_of portals.items) (Ok n)) me.old me.new)
+            (λ e. Extends F.table self.old.part.node (calls.Put profile portal.now.end bytes.items (ends_of portals.items) (Err e.why)) me.old me.new) }
+    {
+        put_noted::<F, Brand>(&mut self.cell, hub, me, portal, profile, bytes, portals)
+    }
+
+    // Takes the next parcel at an end, if there is room for its portals.
+    pub(crate) fn get(
+        &mut self,
+        fabric: &Fabric<F>,
+        me: &mut CallerSeat<F>,
+        at: End,
+        has_room: bool,
+    ) -> Result<(u64, Parcel), Refusal>
+        requires room { has_room ≡ false → has_ends (next_sizes self.old.part.state at) ≡ true }
+        ensures allowed { OnOk result (get_refusal self.old.part.state at ≡ None) }
+        ensures parcel { IfOk result (λ g. got_at self.old.part.state at ≡ Some g) }
+        ensures why { IfErr result (IsRefusedFor (has_ends (next_sizes self.old.part.state at)) (get_refusal self.old.part.state at)) }
+        ensures extends { Extends F.table self.old.part.node (calls.Got at result) me.old me.new }
+    {
+        let answer = if has_room {
+            self.cell.get(fabric, at)
+        } else {
+            Err(Refusal::OutOfMemory)
+        };
+        note_as::<F, Brand, _, _>(&mut self.cell, fabric, me, &at, &answer);
+        answer
+    }
+
+    // Takes the next parcel at an end, without room for its portals.
+    pub(crate) fn take(
+        &mut self,
+        fabric: &Fabric<F>,
+        me: &mut CallerSeat<F>,
+        at: End,
+    ) -> Result<(u64, Parcel), Refusal>
+        ensures allowed { OnOk result (get_refusal self.old.part.state at ≡ None) }
+        ensures parcel { IfOk result (λ g. got_at self.old.part.state at ≡ Some g) }
+        ensures why { IfErr result (λ e. get_refusal self.old.part.state at ≡ Some e) }
+        ensures extends { Extends F.table self.old.part.node (calls.Taken at result) me.old me.new }
+    {
+        let answer = self.cell.get(fabric, at);
+        note_as::<F, Brand, _, _>(&mut self.cell, fabric, me, &at, &answer);
+        answer
+    }
+
+    // Closes an end.
+    pub(crate) fn close(
+        &mut self,
+        fabric: &Fabric<F>,
+        me: &mut CallerSeat<F>,
+        at: End,
+    ) -> Result<u64, Refusal>
+        ensures allowed { OnOk result (close_refusal self.old.part.state at ≡ None) }
+        ensures number { IfOk result (λ n. n ≡ put_number self.old.part.state at) }
+        ensures why { IfErr result (λ e. e ≡ unwrap_or (close_refusal self.old.part.state at) Refusal.OutOfMemory) }
+        ensures extends { Extends F.table self.old.part.node (calls.Closed at result) me.old me.new }
+    {
+        let answer = self.cell.close(fabric, at);
+        note_as::<F, Brand, _, _>(&mut self.cell, fabric, me, &at, &answer);
+        answer
+    }
+}
