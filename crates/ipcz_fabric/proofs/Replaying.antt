@@ -1,16 +1,27 @@
 -- A call more that is written down: what was reached, and what its caller knows.
 use Rattle.std.proofs.Common.{◌≡◌, ◌<◌, ℕ, List, [], ◌∷◌, ◌++◌, refl, sym, subst, ap, ◌∙◌, append_assoc}
 use Rattle.std.proofs.lemmas.List.{append-nil}
+use Rattle.std.specs.Prelude.{Option, None, Some, Result, Ok, Err, MatchResult, OnOk, OnErr, IfOk, IfErr, unwrap_or}
+use Rattle.ipcz_base.specs.declared.end.End.{End}
+use Rattle.ipcz_base.specs.declared.parcel.Parcel as parcels
+use Rattle.ipcz_base.specs.declared.profile.Profile.{Profile}
+use Rattle.ipcz_base.specs.declared.refusal.Refusal.{Refusal}
+use Rattle.ipcz_base.specs.declared.refusal.Refusal.TheVariants as refusals
+use Rattle.ipcz_node.specs.Calls.{put_refusal, put_number, get_refusal, got_at, close_refusal}
 use Rattle.ipcz_rule.specs.declared.history.Call.{Call}
 use Rattle.ipcz_rule.specs.declared.history.CallerView.{CallerView}
 use Rattle.ipcz_rule.specs.declared.history.Entry.{Entry}
 use Rattle.ipcz_rule.specs.declared.view.Part.{Part}
 use Rattle.ipcz_rule.specs.Histories.{entry_of, noted}
+use Rattle.ipcz_rule.specs.Steps.{put_part, close_part}
 use Rattle.ipcz_cell.specs.Callers.{IsWritten}
 use Rattle.ipcz_cell.specs.CellStates.{CellState}
+use Rattle.ipcz_cell.specs.Cells.{IsSoundCell}
+use Rattle.ipcz_cell.specs.Parts.{got_part}
 use Rattle.ipcz_cell.specs.TableNames.{TableName}
-use Rattle.ipcz_fabric.specs.Places.{IsCellOf}
-use Rattle.ipcz_fabric.specs.Replays.{Changes, Does, Replays, IsReached, Extends, ExtendsInTurn, entered}
+use Rattle.ipcz_fabric.specs.Places.{IsCellOf, IsRefusedInOrder}
+use Rattle.ipcz_fabric.specs.Portals.{wants_list}
+use Rattle.ipcz_fabric.specs.Replays.{Changes, PutsAt, GivesAt, ClosesAt, Does, Replays, IsReached, Extends, ExtendsInTurn, entered}
 use Rattle.ipcz_fabric.proofs.Books.{same_book}
 
 -- a call more at the end
@@ -78,3 +89,43 @@ pub calls_at : (t : TableName) (call : Call) (o old done new : CellState) (c c' 
     new.part ≡ noted (entry_of done.part.node c.id call) done.part → IsWritten (entry_of done.part.node c.id call) new.part.history c c' → Extends t old.part.node call c c'
 calls_at t call o old done new c c' is reached does noted written = subst (λ (x : CellState). Extends t x.part.node call c c') is
     (extends_by t call o.part done.part new.part c c' reached does noted written)
+
+-- what a put has done, by what it was answered
+pub puts_by : {E : Type 0} (why : E → Refusal) (profile : Profile) (at : End) (bytes : List ℕ) (ends : List End) (p q : Part) (r : Result ℕ E) (told : Result ℕ Refusal) →
+    MatchResult r (λ n. told ≡ Ok n) (λ e. told ≡ Err (why e)) → OnOk r (put_refusal profile p.state at bytes ends ≡ None) → IfOk r (λ n. n ≡ put_number p.state at) →
+    OnOk r (q ≡ put_part at bytes ends p) → IfErr r (λ e. IsRefusedInOrder (wants_list ends) (put_refusal profile p.state at bytes ends) (why e)) → OnErr r (q ≡ p) →
+    PutsAt profile at bytes ends told p q
+puts_by why profile at bytes ends p q (Ok n) told is allowed number ok refused err = subst (λ (a : Result ℕ Refusal). PutsAt profile at bytes ends a p q) (sym is) (allowed, number, ok)
+puts_by why profile at bytes ends p q (Err e) told is allowed number ok refused err = subst (λ (a : Result ℕ Refusal). PutsAt profile at bytes ends a p q) (sym is) (refused, err)
+
+-- and a get
+pub gives_by : (at : End) (Refuses : Refusal → Type 0) (p q : Part) (r : Result (ℕ × parcels.Parcel) Refusal) → OnOk r (get_refusal p.state at ≡ None) →
+    IfOk r (λ g. got_at p.state at ≡ Some g) → OnOk r (q ≡ got_part at p) → IfErr r Refuses → OnErr r (q ≡ p) → GivesAt at Refuses r p q
+gives_by at Refuses p q (Ok g) allowed there ok why err = (allowed, there, ok)
+gives_by at Refuses p q (Err e) allowed there ok why err = (why, err)
+
+-- and a close
+pub closes_by : (at : End) (p q : Part) (r : Result ℕ Refusal) → OnOk r (close_refusal p.state at ≡ None) → IfOk r (λ n. n ≡ put_number p.state at) →
+    OnOk r (q ≡ close_part at p) → IfErr r (λ e. e ≡ unwrap_or (close_refusal p.state at) refusals.OutOfMemory) → OnErr r (q ≡ p) → ClosesAt at r p q
+closes_by at p q (Ok n) allowed number ok why err = (allowed, number, ok)
+closes_by at p q (Err e) allowed number ok why err = (why, err)
+
+-- what holds of the answer that was told
+pub by_told : {E : Type 0} (why : E → Refusal) (Holds : Result ℕ Refusal → Type 0) (r : Result ℕ E) (told : Result ℕ Refusal) →
+    MatchResult r (λ n. told ≡ Ok n) (λ e. told ≡ Err (why e)) → Holds told → MatchResult r (λ n. Holds (Ok n)) (λ e. Holds (Err (why e)))
+by_told why Holds (Ok n) told is h = subst Holds is h
+by_told why Holds (Err e) told is h = subst Holds is h
+
+-- to write down a call leaves the node
+pub noted_node : (e : Entry) (p q : Part) → q ≡ noted e p → q.node ≡ p.node
+noted_node e p q is = ap (λ (x : Part). x.node) is
+
+pub here_is : (o old : CellState) → o ≡ old → o.part.node ≡ old.part.node
+here_is o old is = ap (λ (x : CellState). x.part.node) is
+
+-- the node of a cell is the one that it is of
+pub own_cell : (t : TableName) (node : ℕ) (c : CellState) → IsCellOf t node c → IsCellOf t c.part.node c
+own_cell t node c here = record { node_is = refl; inside = subst (λ (n : ℕ). n < t.count) (sym here.node_is) here.inside; sound = here.sound }
+
+pub sound_cell : (t : TableName) (c : CellState) → IsSoundCell t c → IsCellOf t c.part.node c
+sound_cell t c sound = record { node_is = refl; inside = sound.inside; sound = sound }

@@ -15,9 +15,13 @@ use Rattle.ipcz_cell.specs.CellStates.{CellState}
 use Rattle.ipcz_cell.specs.Opens.{OpensPair}
 use Rattle.ipcz_fabric.specs.Places.{CellWhere}
 use Rattle.ipcz_fabric.specs.Portals.{PortalValue, portal_at, portals_at}
+use Rattle.ipcz_fabric.specs.Replays.{Extends, IsNotedCell}
 use Rattle.ipcz_cell.specs.TurnChains.{RunsTurns}
 use Rattle.ipcz_cell.specs.TurnEnds.{Turns}
 use Rattle.ipcz_cell.specs.Retries.{Retries}
+use Rattle.ipcz_rule.specs.declared.history.Call.TheVariants as calls
+use Rattle.ipcz_rule.specs.declared.history.CallerView.{CallerView}
+use Rattle.ipcz_rule.specs.declared.history.Entry.{Entry}
 use Rattle.ipcz_rule.specs.declared.retry.Retry.{Retry}
 use Rattle.ipcz_rule.specs.declared.retry.Retry.TheVariants as retries
 
@@ -68,14 +72,15 @@ abbrev pub is_idle : Result Happened Refusal → Bool
 is_idle (Ok Idle) = true
 is_idle other = false
 
--- a turn of a cell answers this and leaves the cell; behind an idle one a proxy was let ask again, and it is told whether one does
-abbrev pub TurnsAsking : TableName → CellState → Result Happened Refusal → Bool → CellState → Type 0
-TurnsAsking t old answer asks new = (turned : CellState) × Turns t old answer turned ×
-    MatchBool (is_idle answer) ((found : Retry) × Retries t turned found new × (asks ≡ is_again found)) ((new ≡ turned) × (asks ≡ false))
+-- a turn of a cell answers this, and is written down; behind an idle one a proxy was let ask again, and it is told whether one does
+abbrev pub TurnsAsking : TableName → CellState → Result Happened Refusal → Bool → Type 0
+TurnsAsking t old answer asks = (turned : CellState) × Turns t old answer turned ×
+    MatchBool (is_idle answer) ((e : Entry) × (noted : CellState) × IsNotedCell e turned noted ×
+    ((found : Retry) × (new : CellState) × Retries t noted found new × (asks ≡ is_again found))) (asks ≡ false)
 
 -- a turn of a node, and a proxy of it that may have been let ask again, are told so
 abbrev pub IsAskingAnswer : TableName → ℕ → Result Happened Refusal → Bool → Type 0
-IsAskingAnswer t node answer asks = CellWhere t node (λ old. (new : CellState) × TurnsAsking t old answer asks new)
+IsAskingAnswer t node answer asks = CellWhere t node (λ old. TurnsAsking t old answer asks)
 
 -- a proxy of a node that asks again is answered this
 abbrev pub IsRetryAnswer : TableName → ℕ → Result Retry Refusal → Type 0
@@ -100,3 +105,11 @@ OpensPortals t node old answer new = (ends : Result (End × End) Refusal) × Ope
 -- the open of a pair at a node answers these portals
 abbrev pub IsOpenAnswer : TableName → ℕ → Result (PortalValue × PortalValue) Refusal → Type 0
 IsOpenAnswer t node answer = CellWhere t node (λ old. (new : CellState) × OpensPortals t node old answer new)
+
+-- the caller's next call was the open of a pair, at a node, that answered these portals
+abbrev pub ExtendsByOpen : TableName → ℕ → Result (PortalValue × PortalValue) Refusal → CallerView → CallerView → Type 0
+ExtendsByOpen t node answer c c' = (ends : Result (End × End) Refusal) × (answer ≡ opened_portals node ends) × Extends t node (calls.Opened ends) c c'
+
+-- the caller's next call let a proxy ask again, at a node, and was answered this
+abbrev pub ExtendsByRetry : TableName → ℕ → Result Retry Refusal → CallerView → CallerView → Type 0
+ExtendsByRetry t node answer c c' = (found : Retry) × (answer ≡ Ok found) × Extends t node (calls.Retried found) c c'

@@ -1,6 +1,6 @@
 -- What the history of a node tells: in which state the node came behind its lock, and what each call since then answered there, one after the
 -- other. A caller knows a beginning of it.
-use Rattle.std.specs.Prelude.{◌≡◌, ℕ, List, [], ◌∷◌, ◌++◌, Option, Some, None, Result, Ok, Err, MatchResult, unwrap_or, take}
+use Rattle.std.specs.Prelude.{◌≡◌, ℕ, zero, suc, List, [], ◌∷◌, ◌++◌, Option, Some, None, Result, Ok, Err, MatchResult, unwrap_or, take}
 use Rattle.ipcz_base.specs.declared.end.End.{End}
 use Rattle.ipcz_base.specs.declared.parcel.Parcel as parcels
 use Rattle.ipcz_base.specs.declared.profile.Profile.{Profile}
@@ -104,12 +104,23 @@ pub record IsParcelOf (node : ℕ) (bytes : List ℕ) (portals : List PortalValu
   pub bytes_are : bytes ≡ parcel.bytes
   pub portals_are : portals ≡ portals_at node (take 8 parcel.ends)
 
--- the caller's next call was a get, at an end of this node, that gave a parcel of this number, with these bytes and these portals
-abbrev pub ExtendsByGot : TableName → ℕ → End → ℕ → List ℕ → List PortalValue → CallerView → CallerView → Type 0
-ExtendsByGot t node at number bytes portals c c' = (parcel : parcels.Parcel) × IsParcelOf node bytes portals parcel ×
+-- the caller's next call was a get, at an end of a node, that gave a parcel of this number, with these bytes and these portals of a node
+abbrev pub GetsParcel : TableName → ℕ → ℕ → End → ℕ → List ℕ → List PortalValue → CallerView → CallerView → Type 0
+GetsParcel t node here at number bytes portals c c' = (parcel : parcels.Parcel) × IsParcelOf here bytes portals parcel ×
     Extends t node (calls.Got at (Ok (number, parcel))) c c'
 
--- a cell of this node was left by a call, and then the call was written down
+-- the calls of a get that sleeps while there is nothing: so many tries that found none, and a last one that was answered this
+abbrev pub tries : ℕ → End → Result (ℕ × parcels.Parcel) Refusal → List Call
+tries zero at answer = calls.Taken at answer ∷ []
+tries (suc more) at answer = calls.Taken at (Err refusals.Empty) ∷ tries more at answer
+
+-- the caller's next calls were the tries of such a get, at an end of a node, and the last gave a parcel of this number, with these bytes and these
+-- portals of that node
+abbrev pub WaitsForParcel : TableName → ℕ → End → ℕ → List ℕ → List PortalValue → CallerView → CallerView → Type 0
+WaitsForParcel t node at number bytes portals c c' = (parcel : parcels.Parcel) × IsParcelOf node bytes portals parcel ×
+    ((vain : ℕ) × ExtendsInTurn t node (tries vain at (Ok (number, parcel))) c c')
+
+-- behind a call a cell was left so, and then the call was written down in it
 pub record IsNotedCell (e : Entry) (c c' : CellState) : Type 0 where
   pub part : c'.part ≡ noted e c.part
   pub seen : c'.seen ≡ c.seen

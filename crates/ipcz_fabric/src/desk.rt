@@ -1,7 +1,8 @@
 //! Desks: what lies behind a node's lock. It is the node's cell, whose history tells how its state was reached.
-ghost use Rattle.std.specs.Prelude.{◌≡◌, ◌<◌, ℕ, Result, Ok, Err, true, false, MatchResult, None, Some, unwrap_or, OnOk, OnErr, IfOk, IfErr};
+ghost use Rattle.std.specs.Prelude.{◌≡◌, ◌<◌, ℕ, Result, Ok, Err, true, MatchResult, None, Some, unwrap_or, OnOk, OnErr, IfOk, IfErr};
 ghost use Rattle.ipcz_node.specs.Calls.{put_refusal, put_number, get_refusal, got_at, close_refusal, next_sizes};
 ghost use Rattle.ipcz_rule.specs.declared.history.Call.TheVariants as calls;
+ghost use Rattle.ipcz_rule.specs.declared.history.Entry.{Entry};
 ghost use Rattle.ipcz_rule.specs.Histories.{entry_of, noted};
 ghost use Rattle.ipcz_cell.specs.Callers.{IsWritten};
 ghost use Rattle.ipcz_cell.specs.CellStates.{CellState};
@@ -10,7 +11,7 @@ ghost use Rattle.ipcz_cell.specs.Opens.{OpensPair};
 ghost use Rattle.ipcz_cell.specs.Retries.{Retries};
 ghost use Rattle.ipcz_cell.specs.TurnChains.{RunsTurns};
 ghost use Rattle.ipcz_cell.specs.TurnEnds.{Turns};
-ghost use Rattle.ipcz_fabric.specs.Places.{IsCellOf, IsRefusedFor, IsRefusedInOrder};
+ghost use Rattle.ipcz_fabric.specs.Places.{IsCellOf, IsRefusedInOrder};
 ghost use Rattle.ipcz_fabric.specs.Portals.{ends_of, has_ends, wants_list};
 ghost use Rattle.ipcz_fabric.specs.Replays.{Extends, IsNotedCell, PutsAt, entered};
 
@@ -154,7 +155,8 @@ impl<F: FabricName> Desk<F> {
         me: &mut CallerSeat<F>,
     ) -> Result<Happened, Refusal>
         requires { IsCellOf F.table self.old.part.node self.old }
-        ensures did { (turned : CellState) × Turns F.table self.old result turned × (self.new.part.node ≡ self.old.part.node) }
+        ensures did { (turned : CellState) × Turns F.table self.old result turned × (e : Entry) × IsNotedCell e turned self.new }
+        ensures here { self.new.part.node ≡ self.old.part.node }
         ensures extends { Extends F.table self.old.part.node (calls.Turned result) me.old me.new }
     {
         let answer = self.cell.turn(fabric);
@@ -227,27 +229,29 @@ impl<F: FabricName> Desk<F> {
         put_noted::<F, Brand>(&mut self.cell, hub, me, portal, profile, bytes, portals)
     }
 
-    // Takes the next parcel at an end, if there is room for its portals.
+    // Takes the next parcel at an end, where there is room for its portals.
     pub(crate) fn get(
         &mut self,
         fabric: &Fabric<F>,
         me: &mut CallerSeat<F>,
         at: End,
-        has_room: bool,
     ) -> Result<(u64, Parcel), Refusal>
-        requires room { has_room ≡ false → has_ends (next_sizes self.old.part.state at) ≡ true }
         ensures allowed { OnOk result (get_refusal self.old.part.state at ≡ None) }
         ensures parcel { IfOk result (λ g. got_at self.old.part.state at ≡ Some g) }
-        ensures why { IfErr result (IsRefusedFor (has_ends (next_sizes self.old.part.state at)) (get_refusal self.old.part.state at)) }
+        ensures why { IfErr result (λ e. get_refusal self.old.part.state at ≡ Some e) }
         ensures extends { Extends F.table self.old.part.node (calls.Got at result) me.old me.new }
     {
-        let answer = if has_room {
-            self.cell.get(fabric, at)
-        } else {
-            Err(Refusal::OutOfMemory)
-        };
-        note_as::<F, Brand, _, _>(&mut self.cell, fabric, me, &at, &answer);
-        answer
+        let got = self.cell.get(fabric, at);
+        note_as::<F, Brand, _, _>(&mut self.cell, fabric, me, &at, &got);
+        got
+    }
+
+    // Refuses a get at an end, where there is no room for its portals.
+    pub(crate) fn refuse_get(&mut self, fabric: &Fabric<F>, me: &mut CallerSeat<F>, at: End)
+        requires { has_ends (next_sizes self.old.part.state at) ≡ true }
+        ensures { Extends F.table self.old.part.node (calls.Got at (Err Refusal.OutOfMemory)) me.old me.new }
+    {
+        note_as::<F, Brand, _, _>(&mut self.cell, fabric, me, &at, &());
     }
 
     // Takes the next parcel at an end, without room for its portals.

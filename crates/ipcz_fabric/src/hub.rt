@@ -1,17 +1,16 @@
 //! Hubs: cells that threads share, each behind a lock of its own. There is no other lock.
-ghost use Rattle.std.specs.Prelude.{◌≡◌, ◌⊎◌, ◌≤◌, ◌<◌, true, false, OnOk, IfOk, IfErr, Err, vec_len, vec_capacity};
+ghost use Rattle.std.specs.Prelude.{◌≡◌, ◌⊎◌, ◌≤◌, ◌<◌, [], true, false, OnOk, IfOk, IfErr, Err, vec_len, vec_capacity};
 ghost use Rattle.std.specs.Sync.Mutex.{mutex_guard_value};
 ghost use Rattle.ipcz_cell.specs.Ending.{FinishRefuses, is_in_order};
-ghost use Rattle.ipcz_cell.specs.TurnChains.{RunsTurns};
-ghost use Rattle.ipcz_cell.specs.TurnEnds.{Turns};
-ghost use Rattle.ipcz_cell.specs.Retries.{Retries};
 ghost use Rattle.ipcz_fabric.specs.Places.{IsCellOf};
-ghost use Rattle.ipcz_fabric.specs.Hubs.{AddsFirst, AddsHeld, AreFirstPortals, ArePair, OpensPortals};
+ghost use Rattle.ipcz_fabric.specs.Hubs.{AddsFirst, AddsHeld, AreFirstPortals, ArePair};
 ghost use Rattle.ipcz_fabric.specs.Hubs.{AreTurnAnswers, IsOpenAnswer, IsOpenRefusal, IsRetryAnswer, IsTurnAnswer, IsTurnRefusal, IsAskingAnswer, TurnsAsking, is_again, is_idle};
 
+use crate::caller::Caller;
+use crate::desk::Desk;
 use crate::portal::Portal;
 use ipcz_base::Refusal;
-use ipcz_cell::{Fabric, FabricName, NodeCell, Retry};
+use ipcz_cell::{CallerSeat, Fabric, FabricName, NodeCell, Retry};
 use ipcz_node::Happened;
 use std::alloc::{AllocError, Global};
 use std::collections::VecDeque;
@@ -25,7 +24,7 @@ use std::time::Duration;
 #[derive(Drop)]
 pub struct Hub<F: FabricName> {
     fabric: Fabric<F>,
-    cells: Vec<Mutex<NodeCell<F>>>,
+    cells: Vec<Mutex<Desk<F>>>,
     alloc: Global,
 }
 
@@ -39,11 +38,12 @@ impl<F: FabricName> Model for Hub<F> {
     ghost invariant = { λ h. vec_len h.cells ≡ F.table.count };
 }
 
-// Puts a lock round each of these cells.
+// Puts each of these cells on a desk, and a lock round it.
 fn lock_all<F: FabricName>(
+    fabric: &Fabric<F>,
     cells: Vec<NodeCell<F>>,
-    mut locked: Vec<Mutex<NodeCell<F>>>,
-) -> Vec<Mutex<NodeCell<F>>>
+    mut locked: Vec<Mutex<Desk<F>>>,
+) -> Vec<Mutex<Desk<F>>>
     requires room { vec_len cells ≤ vec_capacity locked }
     requires empty { vec_len locked ≡ 0 }
     ensures { vec_len result ≡ vec_len cells }
@@ -54,14 +54,14 @@ fn lock_all<F: FabricName>(
         let Some(cell) = cells.pop_front() else {
             unreachable!()
         };
-        locked.push_reserved(Mutex::new(cell));
+        locked.push_reserved(Mutex::new(Desk::new(fabric, cell)));
     }
     locked
 }
 
 // Takes each cell out of its lock.
 fn unlock_all<F: FabricName>(
-    locked: Vec<Mutex<NodeCell<F>>>,
+    locked: Vec<Mutex<Desk<F>>>,
     mut cells: Vec<NodeCell<F>>,
 ) -> Vec<NodeCell<F>>
     requires room { vec_len locked ≤ vec_capacity cells }
@@ -74,7 +74,7 @@ fn unlock_all<F: FabricName>(
         let Some(lock) = locked.pop_front() else {
             unreachable!()
         };
-        cells.push_reserved(lock.into_inner());
+        cells.push_reserved(lock.into_inner().into_cell());
     }
     cells
 }
@@ -84,7 +84,7 @@ fn unlock_all<F: FabricName>(
 fn give_cells<F: FabricName>(
     fabric: Fabric<F>,
     cells: Vec<NodeCell<F>>,
-    locks: Vec<Mutex<NodeCell<F>>>,
+    locks: Vec<Mutex<Desk<F>>>,
     alloc: Global,
 ) -> Result<(Fabric<F>, Vec<NodeCell<F>>), (Refusal, Hub<F>)>
     requires many { vec_len cells ≡ F.table.count }
@@ -97,9 +97,10 @@ fn give_cells<F: FabricName>(
     if fabric.are_all(cells.as_slice()) {
         return Ok((fabric, cells));
     }
+    let cells = lock_all(&fabric, cells, locks);
     let hub = Hub {
         fabric,
-        cells: lock_all(cells, locks),
+        cells,
         alloc,
     };
     Err((Refusal::Stranger, hub))
@@ -142,13 +143,6 @@ fn add_first<F: FabricName>(
     }
 }
 
-// Takes one turn of a cell's node.
-fn turn_here<F: FabricName>(cell: &mut NodeCell<F>, fabric: &Fabric<F>) -> Result<Happened, Refusal>
-    ensures { Turns F.table cell.old result cell.new }
-{
-    cell.turn(fabric)
-}
-
 // Whether a turn found nothing to do.
 fn is_idle(answer: &Result<Happened, Refusal>) -> bool
     ensures { result ≡ is_idle answer.now }
@@ -163,52 +157,22 @@ fn is_again(found: Retry) -> bool
     matches!(found, Retry::Again(_))
 }
 
-// Takes one turn of a cell's node. Behind an idle one it lets a proxy that waits for a slot ask again, and tells whether one does.
+// Takes one turn of a desk's node. Behind an idle one it lets a proxy that waits for a slot ask again, and tells whether one does.
 fn turn_asking_here<F: FabricName>(
-    cell: &mut NodeCell<F>,
+    desk: &mut Desk<F>,
     fabric: &Fabric<F>,
+    me: &mut CallerSeat<F>,
 ) -> (Result<Happened, Refusal>, bool)
-    ensures { TurnsAsking F.table cell.old result.0 result.1 cell.new }
+    requires { IsCellOf F.table desk.old.part.node desk.old }
+    ensures { TurnsAsking F.table desk.old result.0 result.1 }
 {
-    let answer = cell.turn(fabric);
+    let answer = desk.turn(fabric, me);
     if is_idle(&answer) {
-        let found = cell.retry(fabric);
+        let _node = desk.node();
+        let found = desk.retry(fabric, me);
         return (answer, is_again(found));
     }
     (answer, false)
-}
-
-// Takes turns of a cell's node, one after the other.
-fn acts_here<F: FabricName>(
-    cell: &mut NodeCell<F>,
-    fabric: &Fabric<F>,
-    limit: u64,
-) -> Result<u64, Refusal>
-    ensures { RunsTurns F.table limit cell.old result cell.new }
-{
-    cell.acts(fabric, limit)
-}
-
-// Lets a proxy of a cell's node ask again for its slot.
-fn retry_here<F: FabricName>(cell: &mut NodeCell<F>, fabric: &Fabric<F>) -> Retry
-    ensures { Retries F.table cell.old result cell.new }
-{
-    cell.retry(fabric)
-}
-
-// Opens a pair at a cell's node, and gives its portals, of side A and of side B.
-fn open_here<F: FabricName>(
-    cell: &mut NodeCell<F>,
-    fabric: &Fabric<F>,
-    node: u8,
-) -> Result<(Portal<F>, Portal<F>), Refusal>
-    requires { IsCellOf F.table node cell.old }
-    ensures { OpensPortals F.table node cell.old result cell.new }
-{
-    match cell.open_pair(fabric) {
-        Ok((a, b)) => Ok((Portal::new(node, a), Portal::new(node, b))),
-        Err(why) => Err(why),
-    }
 }
 
 impl<F: FabricName> Hub<F> {
@@ -239,9 +203,10 @@ impl<F: FabricName> Hub<F> {
         if add_first(cells.as_slice(), &mut portals).is_err() {
             return Err((Refusal::OutOfMemory, fabric, cells));
         }
+        let cells = lock_all(&fabric, cells, room);
         let hub = Hub {
             fabric,
-            cells: lock_all(cells, room),
+            cells,
             alloc,
         };
         Ok((hub, portals))
@@ -249,17 +214,27 @@ impl<F: FabricName> Hub<F> {
 
     // Locks a node's cell. A type doesn't say at which place a cell stands, so the cell is asked; were it another node's, the lock would be
     // taken again.
-    pub(crate) fn lock<R: Wait>(&self, rt: &R, node: u8) -> MutexGuard<'_, NodeCell<F>>
+    pub(crate) fn lock<R: Wait>(&self, rt: &R, node: u8) -> MutexGuard<'_, Desk<F>>
         requires { node < F.table.count }
         ensures { IsCellOf F.table node (mutex_guard_value result) }
     {
         for _try in rt.forever() {
-            let cell = self.cells[node as usize].lock(rt);
-            if cell.node() == node {
-                return cell;
+            let desk = self.cells[node as usize].lock(rt);
+            if desk.node() == node {
+                return desk;
             }
         }
         unreachable!()
+    }
+
+    /// A caller of the hub's nodes that has called nothing yet. What a caller calls stands in the histories of the nodes as its own
+    /// (docs/THREADS.md). It takes no memory, and is never refused.
+    ///
+    /// So `let mut me = hub.caller();` gives a thread the caller for `me.turn(rt, &hub, 0)`.
+    pub fn caller(&self) -> Caller<F>
+        ensures { (result.seen ≡ []) × (result.mine ≡ []) }
+    {
+        Caller::new(self.fabric.caller())
     }
 
     // The table.
@@ -287,10 +262,7 @@ impl<F: FabricName> Hub<F> {
         ensures why { node < F.table.count → IfErr result IsOpenRefusal }
         ensures answer { node < F.table.count → IsOpenAnswer F.table node result }
     {
-        if node >= self.fabric.nodes() {
-            return Err(Refusal::Stranger);
-        }
-        open_here(&mut self.lock(rt, node), &self.fabric, node)
+        self.caller().open_pair(rt, self, node)
     }
 
     /// Takes one turn of a node, under that node's lock, and tells what it did. What else holds of it is what `NodeCell::turn` says, of the
@@ -306,10 +278,7 @@ impl<F: FabricName> Hub<F> {
         ensures why { node < F.table.count → IfErr result IsTurnRefusal }
         ensures answer { node < F.table.count → IsTurnAnswer F.table node result }
     {
-        if node < self.fabric.nodes() {
-            return turn_here(&mut self.lock(rt, node), &self.fabric);
-        }
-        Err(Refusal::Stranger)
+        self.caller().turn(rt, self, node)
     }
 
     // Takes one turn of a node, as `turn`; behind an idle one a proxy that waits for a slot asks again, as `retry`, under the same hold of the lock.
@@ -322,7 +291,8 @@ impl<F: FabricName> Hub<F> {
         if node >= self.fabric.nodes() {
             return (Err(Refusal::Stranger), false);
         }
-        turn_asking_here(&mut self.lock(rt, node), &self.fabric)
+        let mut me = self.fabric.caller();
+        turn_asking_here(&mut self.lock(rt, node), &self.fabric, &mut me)
     }
 
     /// Takes turns of a node one after the other, under one hold of that node's lock, until one is idle, but no more than `limit`, and answers
@@ -339,10 +309,7 @@ impl<F: FabricName> Hub<F> {
         ensures why { node < F.table.count → IfErr result IsTurnRefusal }
         ensures answer { node < F.table.count → AreTurnAnswers F.table node limit result }
     {
-        if node >= self.fabric.nodes() {
-            return Err(Refusal::Stranger);
-        }
-        acts_here(&mut self.lock(rt, node), &self.fabric, limit)
+        self.caller().acts(rt, self, node, limit)
     }
 
     /// Lets a proxy of a node ask again for the slot of its bypass, if it was told that there is none and one is to be had now, under that
@@ -356,10 +323,7 @@ impl<F: FabricName> Hub<F> {
         ensures stranger { F.table.count ≤ node → result ≡ Err Refusal.Stranger }
         ensures answer { node < F.table.count → IsRetryAnswer F.table node result }
     {
-        if node >= self.fabric.nodes() {
-            return Err(Refusal::Stranger);
-        }
-        Ok(retry_here(&mut self.lock(rt, node), &self.fabric))
+        self.caller().retry(rt, self, node)
     }
 
     /// Takes one turn of a node, as `turn`, and sleeps if it was idle: until a message is posted to the node, a message of it is handled,

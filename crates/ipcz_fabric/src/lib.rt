@@ -2,6 +2,7 @@
 //! (docs/THREADS.md). What a caller needs of cells is passed on.
 #![tactic(auto)]
 
+mod caller;
 mod deadline;
 mod desk;
 mod hub;
@@ -10,6 +11,7 @@ mod portals;
 mod selecting;
 mod workers;
 
+pub use caller::Caller;
 pub use hub::Hub;
 pub use ipcz_cell::{
     Bells, Blank, Fabric, FabricName, NodeCell, Retry, Ticket, finish, start, start_lasting,

@@ -1,19 +1,20 @@
 //! Portals: ends that callers own. A portal can't be copied, and travels in parcels.
-ghost use Rattle.std.specs.Prelude.{◌≡◌, ◌≤◌, ◌<◌, ◌+◌, ◌++◌, None, All, OnOk, OnErr, IfOk, IfErr, IsOk, length, take, unwrap_or, vec_len, vec_capacity};
-ghost use Rattle.ipcz_node.specs.Calls.{put_refusal, put_number, get_refusal, close_refusal};
-ghost use Rattle.ipcz_rule.specs.Steps.{put_part, close_part};
-ghost use Rattle.ipcz_cell.specs.Parts.{got_part};
+ghost use Rattle.std.specs.Prelude.{◌≡◌, ◌≤◌, ◌<◌, ◌+◌, ◌++◌, None, Ok, Err, MatchResult, All, OnOk, OnErr, IfOk, IfErr, IsOk, length, take, unwrap_or, vec_len, vec_capacity};
+ghost use Rattle.ipcz_node.specs.Calls.{put_refusal, put_number, close_refusal};
+ghost use Rattle.ipcz_rule.specs.declared.history.Call.TheVariants as calls;
+ghost use Rattle.ipcz_rule.specs.Steps.{put_part};
 ghost use Rattle.ipcz_fabric.specs.Places.{IsRefusedInOrder};
 ghost use Rattle.ipcz_fabric.specs.Portals.{ends_of, portals_at, parcel_refusal, wants_list};
 ghost use Rattle.ipcz_fabric.specs.Portals.{IsPut, IsPutRefusal, IsRefusedPut, IsGot, IsGotHere, IsGetRefusal, IsRefusedGetHere, IsRefusedGet};
-ghost use Rattle.ipcz_fabric.specs.Portals.{IsTaken, IsTakenHere, IsTakeRefusal, IsRefusedTake};
+ghost use Rattle.ipcz_fabric.specs.Portals.{IsTaken, IsTakeRefusal, IsRefusedTake};
 ghost use Rattle.ipcz_fabric.specs.Portals.{IsClosed, IsCloseRefusal, IsRefusedClose};
+ghost use Rattle.ipcz_fabric.specs.Replays.{Extends, GetsParcel};
 
-use crate::deadline::Deadline;
+use crate::desk::Desk;
 use crate::hub::Hub;
-use crate::portals::{Arrival, arrival_of};
+use crate::portals::Arrival;
 use ipcz_base::{Bytes, End, Ends, Parcel, Profile, Refusal};
-use ipcz_cell::{FabricName, NodeCell};
+use ipcz_cell::{CallerSeat, FabricName, NodeCell};
 use std::alloc::{AllocError, Global};
 use std::marker::{Model, PhantomData};
 use std::sync::Wait;
@@ -189,47 +190,55 @@ impl<F: FabricName> Portal<F> {
         }
     }
 
-    // Takes the next parcel at the end, whose node's cell this is. Room for its portals is taken first, if it has some.
-    fn get_here(&self, cell: &mut NodeCell<F>, hub: &Hub<F>) -> Result<Got<F>, Refusal>
-        ensures got { IfOk result (λ g. IsGotHere cell.old self.now.node self.now.end g.n g.bytes.items g.portals.items) }
-        ensures ok { OnOk result (cell.new.part ≡ got_part self.now.end cell.old.part) }
-        ensures why { IfErr result (IsRefusedGetHere cell.old self.now.end) }
-        ensures err { OnErr result (cell.new.part ≡ cell.old.part) }
-        ensures seen { cell.new.seen ≡ cell.old.seen }
+    // The node, which is one of the table's.
+    pub(crate) fn place(&self) -> u8
+        ensures node { result ≡ self.now.node }
+        ensures inside { result < F.table.count }
     {
-        let count = match cell.next_sizes(self.end) {
+        self.node
+    }
+
+    // Takes the next parcel at the end, whose node's desk this is. Room for its portals is taken first, if it has some.
+    pub(crate) fn get_here(
+        &self,
+        desk: &mut Desk<F>,
+        hub: &Hub<F>,
+        me: &mut CallerSeat<F>,
+    ) -> Result<Got<F>, Refusal>
+        ensures got { IfOk result (λ g. IsGotHere desk.old self.now.node self.now.end g.n g.bytes.items g.portals.items) }
+        ensures why { IfErr result (IsRefusedGetHere desk.old self.now.end) }
+        ensures extends { MatchResult result
+            (λ g. GetsParcel F.table desk.old.part.node self.now.node self.now.end g.n g.bytes.items g.portals.items me.old me.new)
+            (λ why. Extends F.table desk.old.part.node (calls.Got self.now.end (Err why)) me.old me.new) }
+    {
+        let count = match desk.next_sizes(self.end) {
             Some(sizes) => sizes.ends,
             None => 0,
         };
         let Ok(room) = Vec::with_capacity(hub.allocator(), count) else {
+            desk.refuse_get(hub.fabric(), me, self.end);
             return Err(Refusal::OutOfMemory);
         };
-        let (n, parcel) = cell.get(hub.fabric(), self.end)?;
+        let (n, parcel) = desk.get(hub.fabric(), me, self.end)?;
         Ok(with_portals(self.node, n, parcel, room))
     }
 
-    // Takes the next parcel at the end, whose node's cell this is. It takes no memory.
-    fn take_here(&self, cell: &mut NodeCell<F>, hub: &Hub<F>) -> Result<(u64, Parcel), Refusal>
-        ensures taken { IfOk result (IsTakenHere cell.old self.now.end) }
-        ensures ok { OnOk result (cell.new.part ≡ got_part self.now.end cell.old.part) }
-        ensures why { IfErr result (λ e. get_refusal cell.old.part.state self.now.end ≡ Some e) }
-        ensures err { OnErr result (cell.new.part ≡ cell.old.part) }
-        ensures seen { cell.new.seen ≡ cell.old.seen }
-    {
-        cell.get(hub.fabric(), self.end)
-    }
-
-    // Closes the end, whose node's cell this is.
-    fn close_here(self, cell: &mut NodeCell<F>, hub: &Hub<F>) -> Result<u64, (Refusal, Portal<F>)>
-        ensures allowed { OnOk result (close_refusal cell.old.part.state self.end ≡ None) }
-        ensures number { IfOk result (λ n. n ≡ put_number cell.old.part.state self.end) }
-        ensures ok { OnOk result (cell.new.part ≡ close_part self.end cell.old.part) }
-        ensures why { IfErr result (λ e. e.0 ≡ unwrap_or (close_refusal cell.old.part.state self.end) Refusal.OutOfMemory) }
+    // Closes the end, whose node's desk this is.
+    pub(crate) fn close_here(
+        self,
+        desk: &mut Desk<F>,
+        hub: &Hub<F>,
+        me: &mut CallerSeat<F>,
+    ) -> Result<u64, (Refusal, Portal<F>)>
+        ensures allowed { OnOk result (close_refusal desk.old.part.state self.end ≡ None) }
+        ensures number { IfOk result (λ n. n ≡ put_number desk.old.part.state self.end) }
+        ensures why { IfErr result (λ e. e.0 ≡ unwrap_or (close_refusal desk.old.part.state self.end) Refusal.OutOfMemory) }
         ensures back { IfErr result (λ e. e.1 ≡ self) }
-        ensures err { OnErr result (cell.new.part ≡ cell.old.part) }
-        ensures seen { cell.new.seen ≡ cell.old.seen }
+        ensures extends { MatchResult result
+            (λ n. Extends F.table desk.old.part.node (calls.Closed self.end (Ok n)) me.old me.new)
+            (λ e. Extends F.table desk.old.part.node (calls.Closed self.end (Err e.0)) me.old me.new) }
     {
-        match cell.close(hub.fabric(), self.end) {
+        match desk.close(hub.fabric(), me, self.end) {
             Ok(number) => Ok(number),
             Err(why) => Err((why, self)),
         }
@@ -308,9 +317,7 @@ impl<F: FabricName> Portal<F> {
             (λ e. IsRefusedPut profile F.table self.now.node self.now.end bytes.items (ends_of portals.items) e.why) }
         ensures back { IfErr result (λ e. (e.bytes.items ≡ bytes.items) × (e.portals.items ≡ portals.items)) }
     {
-        let put = self.put_here(&mut hub.lock(rt, self.node), hub, profile, bytes, portals);
-        hub.fabric().bells().ring(self.node);
-        put
+        hub.caller().put_as(rt, hub, self, profile, bytes, portals)
     }
 
     /// Takes the next parcel, under the lock of the portal's node. What else holds of it is what `NodeCell::get` says, of the cell as the
@@ -328,7 +335,7 @@ impl<F: FabricName> Portal<F> {
         ensures why { IfErr result IsGetRefusal }
         ensures refused { IfErr result (IsRefusedGet F.table self.now.node self.now.end) }
     {
-        self.get_here(&mut hub.lock(rt, self.node), hub)
+        hub.caller().get(rt, hub, self)
     }
 
     // Takes the next parcel, under the lock of the portal's node. It takes no memory.
@@ -336,36 +343,7 @@ impl<F: FabricName> Portal<F> {
         ensures taken { IfOk result (IsTaken F.table self.now.node self.now.end) }
         ensures refused { IfErr result (IsRefusedTake F.table self.now.node self.now.end) }
     {
-        self.take_here(&mut hub.lock(rt, self.node), hub)
-    }
-
-    // Takes the next parcel, and sleeps while there is none. The bell is watched before each look that a sleep may follow, so that no
-    // parcel is missed between the two.
-    fn take_timeout<R: Wait + Clock>(
-        &self,
-        rt: &R,
-        hub: &Hub<F>,
-        limit: Duration,
-    ) -> Result<(u64, Parcel), Refusal>
-        ensures taken { IfOk result (IsTaken F.table self.now.node self.now.end) }
-        ensures refused { IfErr result (IsRefusedTake F.table self.now.node self.now.end) }
-    {
-        let first = self.take(rt, hub);
-        if !matches!(&first, Err(Refusal::Empty)) {
-            return first;
-        }
-        let news = hub.fabric().news();
-        let deadline = Deadline::new(rt, limit);
-        for _try in rt.forever() {
-            let left = deadline.left(rt);
-            let ticket = news.watch(self.node);
-            let taken = self.take(rt, hub);
-            if left == Duration::ZERO || !matches!(&taken, Err(Refusal::Empty)) {
-                return taken;
-            }
-            news.sleep(rt, self.node, ticket, left);
-        }
-        unreachable!()
+        hub.caller().take(rt, hub, self)
     }
 
     /// Takes the next parcel, as `get`, and sleeps while there is none, for no longer than `limit` in all; `Duration::MAX` is without end.
@@ -388,11 +366,7 @@ impl<F: FabricName> Portal<F> {
         ensures why { IfErr result IsTakeRefusal }
         ensures refused { IfErr result (IsRefusedTake F.table self.now.node self.now.end) }
     {
-        let node = self.node;
-        match self.take_timeout(rt, hub, limit) {
-            Ok((n, parcel)) => Ok(arrival_of(node, n, parcel)),
-            Err(why) => Err(why),
-        }
+        hub.caller().get_timeout(rt, hub, self, limit)
     }
 
     /// Closes the end, under the lock of the portal's node, and answers the number of the mark that its peer is to get.
@@ -407,9 +381,6 @@ impl<F: FabricName> Portal<F> {
         ensures why { IfErr result (λ e. IsCloseRefusal e.0) }
         ensures refused { IfErr result (λ e. IsRefusedClose F.table self.node self.end e.0) }
     {
-        let node = self.node;
-        let closed = self.close_here(&mut hub.lock(rt, node), hub);
-        hub.fabric().bells().ring(node);
-        closed
+        hub.caller().close(rt, hub, self)
     }
 }

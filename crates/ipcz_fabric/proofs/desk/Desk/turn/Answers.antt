@@ -1,10 +1,10 @@
-use Rattle.std.proofs.Common.{refl, ap, subst, ◌∙◌}
+use Rattle.std.proofs.Common.{subst, ◌∙◌}
 use Rattle.ipcz_rule.specs.declared.history.Call.TheVariants as calls
-use Rattle.ipcz_rule.specs.declared.view.Part.{Part}
+use Rattle.ipcz_rule.specs.Histories.{entry_of}
 use Rattle.ipcz_cell.specs.CellStates.{CellState}
 use Rattle.ipcz_cell.specs.TurnEnds.{Turns}
 use Rattle.ipcz_fabric.proofs.Books.{turned_book}
-use Rattle.ipcz_fabric.proofs.Replaying.{changes, calls_at, reached_more}
+use Rattle.ipcz_fabric.proofs.Replaying.{changes, calls_at, here_is, noted_node, reached_more}
 use Rattle.ipcz_fabric.proofs.desk.Desk.turn.Goals as goal
 
 pub invariant_of-self : goal.invariant_of-self
@@ -19,9 +19,14 @@ returns-clause-did g c =
     let t = g.F.FabricName.table in (
       c.turn-answer.new.self,
       subst (λ (old : CellState). Turns t old c.turn-answer.result c.turn-answer.new.self) c.self.view_is c.turn-answer.ensures,
-      ap (λ (p : Part). p.node) c.note_as.ensures.part
-      ∙ ((turned_book t c.self.inside.cell c.turn-answer.new.self c.turn-answer.result c.turn-answer.ensures).node ∙ ap (λ (x : CellState). x.part.node) c.self.view_is),
+      entry_of c.turn-answer.new.self.part.node c.args.me.now.id (calls.Turned c.turn-answer.result),
+      record { part = c.note_as.ensures.part; seen = c.note_as.ensures.seen },
     )
+
+pub returns-clause-here : goal.returns-clause-here
+returns-clause-here g c =
+    let same = turned_book g.F.FabricName.table c.self.inside.cell c.turn-answer.new.self c.turn-answer.result c.turn-answer.ensures in
+    noted_node _ c.turn-answer.new.self.part c.note_as.new.cell.part c.note_as.ensures.part ∙ (same.node ∙ here_is c.self.inside.cell c.args.self.now c.self.view_is)
 
 pub returns-clause-extends : goal.returns-clause-extends
 returns-clause-extends g c =

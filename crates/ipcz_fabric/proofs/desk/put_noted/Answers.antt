@@ -1,0 +1,14 @@
+use Rattle.ipcz_fabric.proofs.Replaying.{puts_by}
+use Rattle.ipcz_fabric.proofs.desk.put_noted.Goals as goal
+
+pub returns-clause-noted : goal.returns-clause-noted
+returns-clause-noted g c =
+    let put = c.put_here-put.ensures in (
+      c.told-answer.result,
+      c.told-answer.ensures,
+      c.put_here-put.new.cell,
+      puts_by (λ e. e.why) c.args.profile c.args.portal.now.end c.args.bytes.items _ c.args.cell.now.part c.put_here-put.new.cell.part c.put_here-put.result
+      c.told-answer.result c.told-answer.ensures put.allowed put.number put.ok put.why put.err,
+      record { part = c.note_as.ensures.part; seen = c.note_as.ensures.seen },
+      c.note_as.ensures.me,
+    )
