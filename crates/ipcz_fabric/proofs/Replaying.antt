@@ -1,5 +1,5 @@
 -- A call more that is written down: what was reached, and what its caller knows.
-use Rattle.std.proofs.Common.{◌≡◌, ◌<◌, ℕ, List, [], ◌∷◌, ◌++◌, refl, sym, subst, ap, ◌∙◌, append_assoc}
+use Rattle.std.proofs.Common.{◌≡◌, ◌<◌, ℕ, zero, suc, List, [], ◌∷◌, ◌++◌, refl, sym, subst, ap, ◌∙◌, append_assoc}
 use Rattle.std.proofs.lemmas.List.{append-nil}
 use Rattle.std.specs.Prelude.{Option, None, Some, Result, Ok, Err, MatchResult, OnOk, OnErr, IfOk, IfErr, unwrap_or}
 use Rattle.ipcz_base.specs.declared.end.End.{End}
@@ -9,6 +9,7 @@ use Rattle.ipcz_base.specs.declared.refusal.Refusal.{Refusal}
 use Rattle.ipcz_base.specs.declared.refusal.Refusal.TheVariants as refusals
 use Rattle.ipcz_node.specs.Calls.{put_refusal, put_number, get_refusal, got_at, close_refusal}
 use Rattle.ipcz_rule.specs.declared.history.Call.{Call}
+use Rattle.ipcz_rule.specs.declared.history.Call.TheVariants as calls
 use Rattle.ipcz_rule.specs.declared.history.CallerView.{CallerView}
 use Rattle.ipcz_rule.specs.declared.history.Entry.{Entry}
 use Rattle.ipcz_rule.specs.declared.view.Part.{Part}
@@ -21,7 +22,7 @@ use Rattle.ipcz_cell.specs.Parts.{got_part}
 use Rattle.ipcz_cell.specs.TableNames.{TableName}
 use Rattle.ipcz_fabric.specs.Places.{IsCellOf, IsRefusedInOrder}
 use Rattle.ipcz_fabric.specs.Portals.{wants_list}
-use Rattle.ipcz_fabric.specs.Replays.{Changes, PutsAt, GivesAt, ClosesAt, Does, Replays, IsReached, Extends, ExtendsInTurn, entered}
+use Rattle.ipcz_fabric.specs.Replays.{Changes, PutsAt, GivesAt, ClosesAt, Does, Replays, IsReached, Extends, ExtendsInTurn, entered, tries}
 use Rattle.ipcz_fabric.proofs.Books.{same_book}
 
 -- a call more at the end
@@ -129,3 +130,18 @@ own_cell t node c here = record { node_is = refl; inside = subst (λ (n : ℕ). 
 
 pub sound_cell : (t : TableName) (c : CellState) → IsSoundCell t c → IsCellOf t c.part.node c
 sound_cell t c sound = record { node_is = refl; inside = sound.inside; sound = sound }
+
+-- a try more behind those that found nothing
+pub tries_more : (vain : ℕ) (at : End) (answer : Result (ℕ × parcels.Parcel) Refusal) → tries vain at (Err refusals.Empty) ++ calls.Taken at answer ∷ [] ≡ tries (suc vain) at answer
+tries_more zero at answer = refl
+tries_more (suc vain) at answer = ap (λ (l : List Call). calls.Taken at (Err refusals.Empty) ∷ l) (tries_more vain at answer)
+
+pub tried_once : (t : TableName) (node : ℕ) (at : End) (answer : Result (ℕ × parcels.Parcel) Refusal) (c d : CallerView) → Extends t node (calls.Taken at answer) c d →
+    ExtendsInTurn t node (tries 0 at answer) c d
+tried_once t node at answer c d h = (d, h, refl)
+
+pub tried_more : (t : TableName) (node : ℕ) (at : End) (answer : Result (ℕ × parcels.Parcel) Refusal) (c d e : CallerView) →
+    (vain : ℕ) × ExtendsInTurn t node (tries vain at (Err refusals.Empty)) c d → Extends t node (calls.Taken at answer) d e →
+    (vain : ℕ) × ExtendsInTurn t node (tries vain at answer) c e
+tried_more t node at answer c d e so_far last = (suc so_far.0, subst (λ (l : List Call). ExtendsInTurn t node l c e) (tries_more so_far.0 at answer)
+    (in_turn_more t node (tries so_far.0 at (Err refusals.Empty)) (calls.Taken at answer) c d e so_far.1 last))

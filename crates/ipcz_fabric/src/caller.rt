@@ -343,7 +343,7 @@ impl<F: FabricName> Caller<F> {
         let node = portal.place();
         match self.take_timeout(rt, hub, portal, limit) {
             Ok((n, parcel)) => Ok(arrival_of(node, n, parcel)),
-            Err(why) => Err(why),
+            Err(refusal) => Err(refusal),
         }
     }
 

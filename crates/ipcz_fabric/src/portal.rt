@@ -195,7 +195,8 @@ impl<F: FabricName> Portal<F> {
         ensures node { result ≡ self.now.node }
         ensures inside { result < F.table.count }
     {
-        self.node
+        let place = self.node;
+        place
     }
 
     // Takes the next parcel at the end, whose node's desk this is. Room for its portals is taken first, if it has some.

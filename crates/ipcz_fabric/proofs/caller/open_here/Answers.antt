@@ -1,8 +1,25 @@
-use Rattle.std.proofs.Common.{Ok, Err, refl}
-use Rattle.ipcz_fabric.proofs.hub.open_here.Goals as goal
+use Rattle.std.proofs.Common.{Ok, Err, ℕ, refl, subst}
+use Rattle.ipcz_rule.specs.declared.history.Call.TheVariants as calls
+use Rattle.ipcz_fabric.specs.Replays.{Extends}
+use Rattle.ipcz_fabric.proofs.caller.open_here.Goals as goal
 
-pub returns-in-Ok : goal.returns-in-Ok
-returns-in-Ok g c = (Ok (c.in-Ok.a, c.in-Ok.b), c.in-Ok.ensures, (λ j. Ok (c.new.ensures j, c.new-in-Ok.ensures j)))
+pub returns-in-Ok-clause-opens : goal.returns-in-Ok-clause-opens
+returns-in-Ok-clause-opens g c =
+    (c.in-Ok.ensures.did.0, (Ok (c.in-Ok.a, c.in-Ok.b), c.in-Ok.ensures.did.1, (λ j. Ok (c.new.ensures j, c.new-in-Ok.ensures j))))
 
-pub returns-in-Err : goal.returns-in-Err
-returns-in-Err g c = (Err c.in-Err.why, c.in-Err.ensures, refl)
+pub returns-in-Ok-clause-extends : goal.returns-in-Ok-clause-extends
+returns-in-Ok-clause-extends g c = (
+  Ok (c.in-Ok.a, c.in-Ok.b),
+  (λ j. Ok (c.new.ensures j, c.new-in-Ok.ensures j)),
+  subst (λ (n : ℕ). Extends g.F.FabricName.table n (calls.Opened (Ok (c.in-Ok.a, c.in-Ok.b))) c.args.me.now c.open_pair.new.me) c.requires.node_is c.in-Ok.ensures.extends,
+)
+
+pub returns-in-Err-clause-opens : goal.returns-in-Err-clause-opens
+returns-in-Err-clause-opens g c = (c.in-Err.ensures.did.0, (Err c.in-Err.why, c.in-Err.ensures.did.1, refl))
+
+pub returns-in-Err-clause-extends : goal.returns-in-Err-clause-extends
+returns-in-Err-clause-extends g c = (
+  Err c.in-Err.why,
+  refl,
+  subst (λ (n : ℕ). Extends g.F.FabricName.table n (calls.Opened (Err c.in-Err.why)) c.args.me.now c.open_pair.new.me) c.requires.node_is c.in-Err.ensures.extends,
+)

@@ -8,7 +8,14 @@ told false X Y e x = absurd (cc)
 
 pub returns-then-is_idle : goal.returns-then-is_idle
 returns-then-is_idle g c =
-    (_, c.turn-answer.ensures, told _ _ _ (sym c.is_idle.ensures ∙ c.if-is_idle.true) (c.retry-found.result, c.retry-found.ensures, c.is_again.ensures))
+    let did = c.turn-answer.ensures.did in
+    let asked = c.retry-found.ensures.did in (
+      did.0,
+      did.1,
+      told _ _ _ (sym c.is_idle.ensures ∙ c.if-is_idle.true) (did.2, c.turn-answer.new.self, did.3, (c.retry-found.result, asked.0, asked.1, c.is_again.ensures)),
+    )
 
 pub returns : goal.returns
-returns g c = (_, c.turn-answer.ensures, shown_word _ _ _ (sym c.is_idle.ensures ∙ c.if-is_idle.false) (refl, refl))
+returns g c =
+    let did = c.turn-answer.ensures.did in
+    (did.0, did.1, shown_word _ _ _ (sym c.is_idle.ensures ∙ c.if-is_idle.false) refl)

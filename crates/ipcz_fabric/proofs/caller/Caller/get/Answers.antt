@@ -1,14 +1,12 @@
-use Rattle.std.proofs.Common.{ap}
-use Rattle.ipcz_fabric.specs.Portals.{PortalValue}
 use Rattle.ipcz_fabric.proofs.Locking.{lent, if_ok, if_err}
 use Rattle.ipcz_fabric.proofs.Portaling.{are_there, get_refused}
-use Rattle.ipcz_fabric.proofs.portal.Portal.get.Goals as goal
+use Rattle.ipcz_fabric.proofs.caller.Caller.get.Goals as goal
 
 pub returns-clause-got : goal.returns-clause-got
 returns-clause-got g c = if_ok
     (λ x h. record {
       cell = c.deref_mut.result.now;
-      here = lent g.F.FabricName.table _ _ _ _ (ap (λ (p : PortalValue). p.node) c.self.view_is) c.deref_mut.ensures.value c.lock.ensures;
+      here = lent g.F.FabricName.table _ _ _ _ c.place.ensures.node c.deref_mut.ensures.value c.lock.ensures;
       holds = h;
     })
     c.get_here.result c.get_here.ensures.got
@@ -23,7 +21,7 @@ pub returns-clause-refused : goal.returns-clause-refused
 returns-clause-refused g c = if_err
     (λ e h. record {
       cell = c.deref_mut.result.now;
-      here = lent g.F.FabricName.table _ _ _ _ (ap (λ (p : PortalValue). p.node) c.self.view_is) c.deref_mut.ensures.value c.lock.ensures;
+      here = lent g.F.FabricName.table _ _ _ _ c.place.ensures.node c.deref_mut.ensures.value c.lock.ensures;
       holds = h;
     })
     c.get_here.result c.get_here.ensures.why

@@ -1,16 +1,14 @@
-use Rattle.std.proofs.Common.{ap}
-use Rattle.ipcz_fabric.specs.Portals.{PortalValue}
 use Rattle.ipcz_fabric.proofs.Portaling.{are_there, take_refused}
 use Rattle.ipcz_fabric.proofs.Taking.{got_by}
-use Rattle.ipcz_fabric.proofs.portal.Portal.get_timeout.Goals as goal
+use Rattle.ipcz_fabric.proofs.caller.Caller.get_timeout.Goals as goal
 
 pub returns-in-Ok-clause-got : goal.returns-in-Ok-clause-got
 returns-in-Ok-clause-got g c = got_by g.F.FabricName.table _ _ _ _ _ _ _ _ c.in-Ok.ensures.taken c.arrival_of.ensures.number
-    c.arrival_of.ensures.bytes c.arrival_of.ensures.portals (ap (λ (p : PortalValue). p.node) c.self.view_is)
+    c.arrival_of.ensures.bytes c.arrival_of.ensures.portals c.place-node.ensures.node
 
 pub returns-in-Ok-clause-here : goal.returns-in-Ok-clause-here
 returns-in-Ok-clause-here g c = let got = got_by g.F.FabricName.table _ _ _ _ _ _ _ _ c.in-Ok.ensures.taken c.arrival_of.ensures.number
-    c.arrival_of.ensures.bytes c.arrival_of.ensures.portals (ap (λ (p : PortalValue). p.node) c.self.view_is) in are_there _ _ _ got.holds.portals_are
+    c.arrival_of.ensures.bytes c.arrival_of.ensures.portals c.place-node.ensures.node in are_there _ _ _ got.holds.portals_are
 
 pub returns-in-Err-clause-why : goal.returns-in-Err-clause-why
 returns-in-Err-clause-why g c = take_refused c.in-Err.ensures.refused.cell.part.state _ _ c.in-Err.ensures.refused.holds

@@ -1,10 +1,10 @@
 use Rattle.std.proofs.Common.{refl}
 use Rattle.ipcz_fabric.proofs.Locking.{lent}
-use Rattle.ipcz_fabric.proofs.hub.Hub.retry.Goals as goal
+use Rattle.ipcz_fabric.proofs.caller.Caller.retry.Goals as goal
 
 pub returns-clause-answer : goal.returns-clause-answer
 returns-clause-answer g c = λ _. record {
   cell = c.deref_mut.result.now;
   here = lent g.F.FabricName.table _ _ _ _ refl c.deref_mut.ensures.value c.lock.ensures;
-  holds = (c.retry_here.result, _, c.retry_here.ensures, refl);
+  holds = (c.retry.result, c.retry.ensures.did.0, c.retry.ensures.did.1, refl);
 }

@@ -1,22 +1,22 @@
-use Rattle.std.proofs.Common.{ap}
-use Rattle.ipcz_fabric.specs.Portals.{PortalValue}
-use Rattle.ipcz_fabric.proofs.Locking.{lent, if_ok, if_err}
-use Rattle.ipcz_fabric.proofs.portal.Portal.take.Goals as goal
+use Rattle.std.proofs.Common.{ap, sym, ◌∙◌}
+use Rattle.ipcz_node.specs.Calls.{get_refusal, got_at}
+use Rattle.ipcz_fabric.proofs.Locking.{lent, if_allowed, if_err}
+use Rattle.ipcz_fabric.proofs.caller.Caller.take.Goals as goal
 
 pub returns-clause-taken : goal.returns-clause-taken
-returns-clause-taken g c = if_ok
-    (λ x h. record {
+returns-clause-taken g c = if_allowed
+    (λ x allowed there. record {
       cell = c.deref_mut.result.now;
-      here = lent g.F.FabricName.table _ _ _ _ (ap (λ (p : PortalValue). p.node) c.self.view_is) c.deref_mut.ensures.value c.lock.ensures;
-      holds = h;
+      here = lent g.F.FabricName.table _ _ _ _ c.place-node.ensures.node c.deref_mut.ensures.value c.lock.ensures;
+      holds = record { allowed = ap (get_refusal c.deref_mut.result.now.part.state) (sym c.end.ensures) ∙ allowed; there = ap (got_at c.deref_mut.result.now.part.state) (sym c.end.ensures) ∙ there };
     })
-    c.take_here.result c.take_here.ensures.taken
+    c.take.result c.take.ensures.allowed c.take.ensures.parcel
 
 pub returns-clause-refused : goal.returns-clause-refused
 returns-clause-refused g c = if_err
     (λ e h. record {
       cell = c.deref_mut.result.now;
-      here = lent g.F.FabricName.table _ _ _ _ (ap (λ (p : PortalValue). p.node) c.self.view_is) c.deref_mut.ensures.value c.lock.ensures;
-      holds = h;
+      here = lent g.F.FabricName.table _ _ _ _ c.place-node.ensures.node c.deref_mut.ensures.value c.lock.ensures;
+      holds = ap (get_refusal c.deref_mut.result.now.part.state) (sym c.end.ensures) ∙ h;
     })
-    c.take_here.result c.take_here.ensures.why
+    c.take.result c.take.ensures.why
