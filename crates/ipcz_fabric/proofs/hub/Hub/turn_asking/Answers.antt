@@ -13,5 +13,5 @@ pub returns-clause-asking : goal.returns-clause-asking
 returns-clause-asking g c = λ _. record {
   cell = c.deref_mut.result.now;
   here = lent g.F.FabricName.table _ _ _ _ refl c.deref_mut.ensures.value c.lock.ensures;
-  holds = (_, c.turn_asking_here.ensures);
+  holds = c.turn_asking_here.ensures;
 }
