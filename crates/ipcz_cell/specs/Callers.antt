@@ -1,11 +1,11 @@
 -- Callers: what a caller's seat has, and what it knows after a call of its own was written down.
-use Rattle.std.specs.Prelude.{◌≡◌, ℕ, [], ◌∷◌, List, Option, Some, None}
+use Rattle.std.specs.Prelude.{◌≡◌, [], ◌∷◌, List, Option, Some, None}
 use Rattle.atomic_table.specs.Seated.{TableId}
 use Rattle.ipcz_slots.specs.declared.own.Own.{Own}
 use Rattle.ipcz_rule.specs.declared.history.CallerView.{CallerView}
 use Rattle.ipcz_rule.specs.declared.history.Entry.{Entry}
 use Rattle.ipcz_rule.specs.declared.view.View.{View}
-use Rattle.ipcz_rule.specs.Histories.{after_call, at_node, caller_view, calls_by, lent_caller, new_caller}
+use Rattle.ipcz_rule.specs.Histories.{after_call, at_node, caller_view, calls_by, new_caller}
 use Rattle.ipcz_rule.specs.Lasting.{own_of}
 use Rattle.ipcz_cell.specs.TableNames.{TableName}
 

@@ -33,6 +33,6 @@ pub use callers::{CallName, CallerSeat};
 pub use cell::NodeCell;
 pub use ending::finish;
 pub use fabric::{Fabric, FabricName};
-pub use making::{Blank, start, start_lasting};
 pub use ipcz_rule::Retry;
+pub use making::{Blank, start, start_lasting};
 pub use node_set::NodeSet;

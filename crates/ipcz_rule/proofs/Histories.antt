@@ -1,5 +1,5 @@
 -- The history after each step: it stays but where a call is written down, and callers come, lend their view and get it back.
-use Rattle.std.specs.Prelude.{◌≡◌, ◌≢◌, ◌⊎◌, ◌<◌, ◌+◌, ℕ, zero, suc, Bool, true, false, cond, eqb, nat_eq, List, [], ◌∷◌, ◌++◌, length, Option, Some, None, refl}
+use Rattle.std.specs.Prelude.{◌≡◌, ◌≢◌, ◌⊎◌, ◌<◌, ◌+◌, ℕ, zero, suc, Bool, true, false, cond, eqb, nat_eq, List, [], ◌∷◌, ◌++◌, length, Some, None, refl}
 use Rattle.std.proofs.Common.{arith, ap, ◌∙◌, sym, subst, inl, inr, ⊎_elim, set, length-set, length-append, append_assoc, eq-eqb, ne_eqb}
 use Rattle.std.proofs.lemmas.List.{append-nil}
 use Rattle.std.proofs.lemmas.Bool.Decides.{nat_tests}
@@ -145,12 +145,12 @@ module _ (views : List View) (id : ℕ) (v : View) (p : Part) (c : CallerView) (
         (λ (t : (j ≡ id) × (noted_view ≡ u)).
         let same : c' ≡ d = let g : Some c' ≡ Some d = ap (λ (z : View). z.caller) t.1 ∙ has_d in cc in
         subst (λ (z : CallerView). IsCaller (h.log ++ e ∷ []) (length views) (h.seat_of z.id) j z) same
-            (subst (λ (k : ℕ). IsCaller (h.log ++ e ∷ []) (length views) (h.seat_of c.id) k c') (sym t.0) (record {
-              here = own.here;
-              begun = own.begun;
-              seen = ([], append-nil ((c.seen ++ between) ++ e ∷ []) ∙ whole);
-              mine = calls_by-more c.id h.log e refl ∙ ap (λ l. l ++ e ∷ []) own.mine;
-            })))
+        (subst (λ (k : ℕ). IsCaller (h.log ++ e ∷ []) (length views) (h.seat_of c.id) k c') (sym t.0) (record {
+          here = own.here;
+          begun = own.begun;
+          seen = ([], append-nil ((c.seen ++ between) ++ e ∷ []) ∙ whole);
+          mine = calls_by-more c.id h.log e refl ∙ ap (λ l. l ++ e ∷ []) own.mine;
+        })))
         (λ (t : (j ≢ id) × (get_elem? views j ≡ some u)). other_caller j u d t.0 t.1 has_d)
         (at_set views id j noted_view u at_j));
     begun = λ k x there. subst (λ n. x.by < n) (sym (length-set views id noted_view)) (⊎_elim

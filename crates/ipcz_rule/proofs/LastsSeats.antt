@@ -43,14 +43,14 @@ seats_last = (
         ),
       ))),
   (λ count limit k slots i reuses s l deep small. let new = new_caller (length l.0.views) in (
-      own_of (caller_view (Some new)) [] [] [],
-      comes (virtual count limit) (sizes count limit k reuses) (caller_view (Some new)) s l (let done = callers_come l.0 l.1 in (
-        done.0,
-        (
-          (λ b j gone held. gone (subst (λ (u : World). IsEndHeld u j (side_of b)) done.1 held)),
-          (λ b j gone held. gone (subst (λ (u : World). IsEndHeld u j (side_of b)) (sym done.1) held)),
-        ),
-      )),
-      (length l.0.views, refl),
+    own_of (caller_view (Some new)) [] [] [],
+    comes (virtual count limit) (sizes count limit k reuses) (caller_view (Some new)) s l (let done = callers_come l.0 l.1 in (
+      done.0,
+      (
+        (λ b j gone held. gone (subst (λ (u : World). IsEndHeld u j (side_of b)) done.1 held)),
+        (λ b j gone held. gone (subst (λ (u : World). IsEndHeld u j (side_of b)) (sym done.1) held)),
+      ),
+    )),
+    (length l.0.views, refl),
   )),
 )

@@ -1,5 +1,5 @@
 -- A call is written into the history; a caller comes, and gets its view back.
-use Rattle.std.specs.Prelude.{◌≡◌, ◌≢◌, ◌<◌, ◌+◌, ℕ, Bool, true, [], ◌∷◌, ◌++◌, List, length, slice_index, Some, None, refl}
+use Rattle.std.specs.Prelude.{◌≡◌, ◌≢◌, ◌+◌, ℕ, Bool, [], ◌∷◌, ◌++◌, List, length, slice_index, Some, refl}
 use Rattle.std.proofs.Common.{arith, ap, ◌∙◌, sym, subst, inl, inr, ◌⊎◌, ⊎_elim, set, length-set, length-append}
 use Rattle.std.proofs.lemmas.List.{set-get_or}
 use mathlib.Core.Option.{some, some-ne-none}

@@ -1,13 +1,7 @@
-use Rattle.std.proofs.Common.{◌∷◌, [], ◌++◌, Some, None, arith, ap, sym, ◌∙◌, subst}
-use Rattle.std.proofs.lemmas.List.{append-nil}
+use Rattle.std.proofs.Common.{arith, ap, sym, ◌∙◌}
 use Rattle.atomic_table.specs.Seated.{TableId}
-use Rattle.ipcz_slots.specs.declared.own.Own.{Own}
-use Rattle.ipcz_rule.specs.declared.view.View.{View}
-use Rattle.ipcz_rule.specs.Kinds.{together}
-use Rattle.ipcz_rule.specs.Lasting.{own_of}
 use Rattle.ipcz_rule.proofs.LastsSeats.{seats_last}
 use Rattle.ipcz_cell.specs.Callers.{caller_own}
-use Rattle.ipcz_cell.proofs.Noting.{lent_view, same_one}
 use Rattle.ipcz_cell.proofs.callers.lend.Goals as goal
 
 pub into_seat-requires : goal.into_seat-requires
