@@ -31,4 +31,5 @@ pub mod Slotting
 pub mod GivenUps
 pub mod Lettings
 pub mod Unfolding
+pub mod Noting
 pub mod NumberClaims

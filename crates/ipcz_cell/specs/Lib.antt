@@ -19,3 +19,4 @@ pub mod TurnEnds
 pub mod TurnChains
 pub mod Opens
 pub mod Retries
+pub mod Callers

@@ -11,12 +11,15 @@ use Rattle.ipcz_word.specs.Layout.{word_of_bits}
 use Rattle.ipcz_word.specs.Word.{plan_of}
 use Rattle.ipcz_world.specs.Coding.{IsLinkNumber}
 use Rattle.ipcz_world.specs.WordAnswers.{word_answer}
+use Rattle.ipcz_rule.specs.declared.history.Call.{Call}
+use Rattle.ipcz_rule.specs.declared.history.CallerView.{CallerView}
 use Rattle.ipcz_rule.specs.declared.view.View.{View}
 use Rattle.ipcz_rule.specs.declared.view.Part.{Part}
 use Rattle.ipcz_rule.specs.Rule.{Slot, Mine, saw, announcing, forgetting}
 use Rattle.ipcz_rule.specs.Kinds.{is_refusal}
+use Rattle.ipcz_rule.specs.Histories.{IsNoted}
 use Rattle.ipcz_rule.specs.Steps.{act_part, probe_part, post_part, look_part}
-use Rattle.ipcz_cell.specs.CellStates.{change_part}
+use Rattle.ipcz_cell.specs.CellStates.{change_part, part_in}
 use Rattle.ipcz_cell.specs.Parts.{handed_part}
 
 -- what a step tells
@@ -50,6 +53,10 @@ peeked node to m n m' = m' ≡ (if eqb (bit_at n node) 1 then announcing to m.0 
 -- the sender's bit is set in a node's inbox
 abbrev pub announced : ℕ → Tells
 announced to m n m' = m' ≡ (announcing to m.0, m.1)
+
+-- a call is written into the history, of the caller that has lent its view
+abbrev pub noting : Call → Tells
+noting call m n m' = (c : CallerView) × (m.0.caller ≡ Some c) × IsNoted m.0 (part_in m.0) c call m'.0 × (m'.1 ≡ m.1)
 
 -- a sender's bit is cleared in the own inbox
 abbrev pub cleared : Tells

@@ -4,6 +4,7 @@
 
 mod acts;
 mod bells;
+mod callers;
 mod cell;
 mod claims;
 mod ending;
@@ -28,9 +29,10 @@ mod waits;
 mod words;
 
 pub use bells::{Bells, Ticket};
+pub use callers::{CallName, CallerSeat};
 pub use cell::NodeCell;
 pub use ending::finish;
 pub use fabric::{Fabric, FabricName};
-pub use making::{Blank, start, start_lasting};
 pub use ipcz_rule::Retry;
+pub use making::{Blank, start, start_lasting};
 pub use node_set::NodeSet;

@@ -326,3 +326,27 @@ impl Join<Own<View>> for Together {
 
     ghost spent = { own_of spent [] [] [] };
 }
+
+/// A new seat has the view of a caller that has called nothing yet.
+pub(crate) struct Comes;
+
+impl Play<Option<Message>, Own<View>> for Comes {
+    ghost use Rattle.std.specs.Prelude.{◌≡◌, ℕ};
+    ghost use Rattle.ipcz_rule.specs.Histories.{new_caller};
+    ghost use Rattle.ipcz_cell.specs.Callers.{caller_own};
+
+    ghost then = { λ st m n m'. (id : ℕ) × (m'.0 ≡ caller_own (new_caller id)) };
+}
+
+/// A new seat gets the view of the caller that a seat has.
+pub(crate) struct Returns;
+
+impl Split<Own<View>> for Returns {
+    ghost use Rattle.std.specs.Prelude.{[]};
+    ghost use Rattle.ipcz_rule.specs.Histories.{caller_view, without_caller};
+    ghost use Rattle.ipcz_rule.specs.Lasting.{own_of};
+
+    ghost left = { λ o. own_of (without_caller o.view) o.dirty o.free o.looked };
+
+    ghost right = { λ o. own_of (caller_view o.view.caller) [] [] [] };
+}

@@ -64,7 +64,7 @@ module _ (count size : ℕ) (s : St) (r : Rules count size s) (id : ℕ) (v v' :
   inbox_rules inboxes =
       let sp = spelled s r id v p at is in
       let moves = same_moves w p.node p.state sp.state in
-      ruled_with s r w r.books r.routes (set s.words i n') s.homes id v v' p p at is is' (inl seen) caller (record {
+      ruled_with s r w r.books r.routes (set s.words i n') s.homes id v v' p p at is is' (inl seen) (refl, caller) (record {
         count = refl;
         size = refl;
         wide = length-set s.words i n';
@@ -75,7 +75,6 @@ module _ (count size : ℕ) (s : St) (r : Rules count size s) (id : ℕ) (v v' :
         grows = omega arith;
         mail = λ k l. subst (λ (z : ℕ). MailAt z (get_elem? s.homes k) (mail_at w k)) (sym (boxes k)) (r.shows.mail k l);
         node = refl;
-        history = refl;
         own = own_spells s w w (set s.words i n') p.node p.state moves boxes p p refl refl refl refl refl refl sp;
         others = others_spell s w w (set s.words i n') p.node p.state moves boxes;
       }) inboxes (joined_same s.views id v v' p p r.books at is is' refl refl refl r.joined) r.lawful (AreTurns w r.books r.routes []) (refl, refl, refl)
@@ -88,7 +87,7 @@ module _ (count size : ℕ) (s : St) (r : Rules count size s) (id : ℕ) (v : Vi
   words' = set s.words i n'
 
   bit : (a b : ℕ) → bit_at (slice_index s.words (inbox r.world b)) a ≡ 1 → bit_at (slice_index words' (inbox r.world b)) a ≡ 1
-  bit a b was = bit_by count size s r id v (announcing to v) p i to n' at is is refl index inside a b
+  bit a b was = bit_by count size s r id v (announcing to v) p i to n' at is is refl refl index inside a b
       (λ e. all a (ap (λ k. bit_at (slice_index s.words k) a) (index ∙ ap (inbox r.world) (sym e)) ∙ was)) (λ ne. was)
 
   pub announced_rules : Follows count size s r [] record { words = words'; homes = s.homes; views = set s.views id (announcing to v) }
@@ -99,7 +98,7 @@ module _ (count size : ℕ) (s : St) (r : Rules count size s) (id : ℕ) (v : Vi
         let same : p ≡ q = only u.parts p q k (sym (ap (λ (z : View). z.parts) t.1) ∙ is) there in
         let goal : to ≡ b = some_is to b (ap (λ (z : View). z.announced) t.1 ∙ says) in
         subst (λ (z : Part). bit_at (slice_index words' (inbox r.world b)) z.node ≡ 1) same
-        (bit_by count size s r id v (announcing to v) p i to n' at is is refl index inside p.node b (λ e. own) (λ ne. absurd (ne (sym goal)))))
+        (bit_by count size s r id v (announcing to v) p i to n' at is is refl refl index inside p.node b (λ e. own) (λ ne. absurd (ne (sym goal)))))
         (λ (t : (j ≢ id) × (get_elem? s.views j ≡ some u)). bit q.node b (r.inboxes.announced j u k q b t.1 there says lb has))
         (at_set s.views id j (announcing to v) u seat);
   })

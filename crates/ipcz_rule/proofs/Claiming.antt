@@ -57,7 +57,7 @@ module _ (count size : ℕ) (s : St) (r : Rules count size s) (id : ℕ) (v v' :
   boxes j = get_or-set_other s.words size (mailbox w j) n' 0 (λ e. let z = r.words in omega arith)
 
   pub claim_rules : (r' : Rules count size record { words = set s.words size n'; homes = s.homes; views = set s.views id v' }) × G r'.world r'.books r'.routes
-  claim_rules = ruled_with s r w' r.books g' (set s.words size n') s.homes id v v' p p' at is is' sight.1 sight.2 (record {
+  claim_rules = ruled_with s r w' r.books g' (set s.words size n') s.homes id v v' p p' at is is' sight.1 (k.history, sight.2) (record {
     count = moves.count;
     size = moves.size;
     wide = length-set s.words size n';
@@ -68,7 +68,6 @@ module _ (count size : ℕ) (s : St) (r : Rules count size s) (id : ℕ) (v v' :
     grows = omega (arith, up, claimed);
     mail = mails_show s w w' (set s.words size n') p.node p'.state moves boxes r.owner r.shows;
     node = k.node;
-    history = k.history;
     own = own_spells s w w' (set s.words size n') p.node p'.state moves boxes p p' refl k.node refl k.hand k.message k.probed (spelled s r id v p at is);
     others = others_spell s w w' (set s.words size n') p.node p'.state moves boxes;
   }) (inboxes_stay s r w' (set s.words size n') id v' moves.count moves.size sight.0 (λ to l. get_or-set_other s.words size (inbox w to) n' 0 (λ e. let z = r.words in omega arith)) (λ from to lf lt e. inl (sym (boxes (way w from to)) ∙ e))) (joined_same s.views id v v' p p' r.books at is is' put got gone r.joined) lawful G known

@@ -1,8 +1,8 @@
 -- Deal: a new seat gets the first part of a seat's view, the seat keeps the others, and the shown world and books stay.
 use Rattle.std.specs.Prelude.{◌≡◌, ◌≢◌, ◌⊎◌, ◌<◌, ◌+◌, ◌-◌, ℕ, zero, suc, Bool, List, [], ◌∷◌, ◌++◌, length, refl}
-use Rattle.std.proofs.Common.{arith, ap, ◌∙◌, sym, subst, inl, inr, ⊎_elim, set, length-set, eq-eqb, ne_eqb, eqb}
+use Rattle.std.proofs.Common.{arith, ap, ◌∙◌, sym, subst, inl, inr, ⊎_elim, set, length-set, length-append, eq-eqb, ne_eqb, eqb}
 use prog.Atomic.{either}
-use mathlib.Core.Option.{some, some-injective, some-ne-none}
+use mathlib.Core.Option.{some, some-injective}
 use mathlib.Core.Logic.{dite}
 use native.Mathlib.Decide.{ℕ_discrete}
 use lib.ListN.{get_elem?}
@@ -14,15 +14,8 @@ use Rattle.ipcz_rule.specs.Rule.{St, Spells, InParts, Rules, puts_of, gets_of, d
 use Rattle.ipcz_rule.specs.Start.{head_parts, tail_parts, dealt, after_deal, opening_part, opening_parts}
 use Rattle.ipcz_rule.proofs.Inboxes.{has_not}
 use Rattle.ipcz_rule.proofs.Moved.{at_inside}
-use Rattle.ipcz_rule.proofs.Histories.{only}
+use Rattle.ipcz_rule.proofs.Histories.{only, at_end, histories_move, no_caller}
 use Rattle.ipcz_rule.proofs.Starting.{parts_are}
-
--- an element of a list with one more, and where it stands
-at_end : {A : Type 0} (l : List A) (a b : A) (j : ℕ) {n : ℕ} → length l ≡ n → get_elem? (l ++ a ∷ []) j ≡ some b → (get_elem? l j ≡ some b) ⊎ ((j ≡ n) × (a ≡ b))
-at_end [] a b zero e at = inr (e, some-injective a b at)
-at_end [] a b (suc j) e at = absurd (some-ne-none b (sym at))
-at_end (x ∷ xs) a b zero e at = inl at
-at_end (x ∷ xs) a b (suc j) e at = ⊎_elim (λ (h : get_elem? xs j ≡ some b). inl h) (λ (h : (j ≡ length xs) × (a ≡ b)). inr (ap suc h.0 ∙ e, h.1)) (at_end xs a b j refl at)
 
 module _ (views : List View) (id : ℕ) (v : View) (p : Part) (ps : List Part) (at : get_elem? views id ≡ some v) (is : v.parts ≡ p ∷ ps) where
   abbrev kept : List View
@@ -176,6 +169,22 @@ deals count size id v p ps is others s r at =
       parts = λ node below. let h = r.parts node below in
           let t = part_goes s.views id v p ps at is h.id h.place h.view h.part h.seat h.there in
           record { id = t.0; view = t.1; place = t.2; part = h.part; seat = t.3; there = t.4; node_is = h.node_is };
+      histories = histories_move s.views (set s.views id (after_deal v) ++ dealt v ∷ []) r.histories.seat_of r.histories
+          (inr (ap (λ n. n + 1) (sym (length-set s.views id (after_deal v))) ∙ sym (length-append (set s.views id (after_deal v)) (dealt v ∷ []))))
+          (λ a b x q seat there. ⊎_elim
+          (λ (t : (a ≡ last) × (p ≡ q)). (id, v, 0, at, ap (λ (l : List Part). get_elem? l 0) is ∙ ap some t.1))
+          (λ (t : ((a ≡ id) × (get_elem? ps b ≡ some q)) ⊎ ((a ≢ id) × (get_elem? s.views a ≡ some x))). ⊎_elim
+          (λ (y : (a ≡ id) × (get_elem? ps b ≡ some q)). (id, v, suc b, at, ap (λ (l : List Part). get_elem? l (suc b)) is ∙ y.1))
+          (λ (y : (a ≢ id) × (get_elem? s.views a ≡ some x)). (a, x, b, y.1, there))
+          t)
+          (part_came s.views id v p ps at is a b x q seat there))
+          (λ a x c seat has. ⊎_elim
+          (λ (before : get_elem? (set s.views id (after_deal v)) a ≡ some x). ⊎_elim
+          (λ (t : (a ≡ id) × (after_deal v ≡ x)). (id, v, at, ap (λ (z : View). z.caller) t.1 ∙ has, λ e. e ∙ sym t.0))
+          (λ (t : (a ≢ id) × (get_elem? s.views a ≡ some x)). (a, x, t.1, has, λ e. e))
+          (at_set s.views id a (after_deal v) x before))
+          (λ (new : dealt v ≡ x). absurd (no_caller (dealt v) x c refl new has))
+          (at_snoc (set s.views id (after_deal v)) (dealt v) x a seat));
     }
 
 -- the parts of the nodes from one on

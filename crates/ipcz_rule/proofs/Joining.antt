@@ -1,6 +1,6 @@
 -- Join: a seat takes in the parts of another, and the shown world and books stay.
-use Rattle.std.specs.Prelude.{◌≡◌, ◌≢◌, ◌⊎◌, ℕ, zero, suc, Bool, List, [], ◌∷◌, ◌++◌, refl}
-use Rattle.std.proofs.Common.{ap, ◌∙◌, sym, subst, inl, inr, ⊎_elim, set, eq-eqb, ne_eqb, eqb}
+use Rattle.std.specs.Prelude.{◌≡◌, ◌≢◌, ◌⊎◌, ℕ, zero, suc, Bool, Option, Some, None, List, [], ◌∷◌, ◌++◌, refl}
+use Rattle.std.proofs.Common.{ap, ◌∙◌, sym, subst, inl, inr, ⊎_elim, set, length-set, eq-eqb, ne_eqb, eqb}
 use prog.Atomic.{either}
 use mathlib.Core.Option.{some, some-injective, some-ne-none}
 use mathlib.Core.Logic.{dite}
@@ -9,10 +9,13 @@ use lib.ListN.{get_elem?}
 use Rattle.atomic_table.proofs.Lists.{at_set, set_here, set_else, at_longer}
 use Rattle.ipcz_rule.specs.declared.view.View.{View}
 use Rattle.ipcz_rule.specs.declared.view.Part.{Part}
+use Rattle.ipcz_rule.specs.declared.history.CallerView.{CallerView}
+use Rattle.ipcz_rule.specs.Histories.{lent_caller}
 use Rattle.ipcz_rule.specs.Rule.{St, InParts, Rules, puts_of, gets_of, drops_of}
 use Rattle.ipcz_rule.specs.Kinds.{together, spent, JoinsParts}
 use Rattle.ipcz_rule.proofs.Inboxes.{has_not}
 use Rattle.ipcz_rule.proofs.Moved.{at_inside}
+use Rattle.ipcz_rule.proofs.Histories.{StoodCaller, histories_move, went, went_there, went_not, no_caller}
 
 -- if two lists of parts are read together, one of the two was read
 in_both : (xs ys : List Part) (k : ℕ) (p : Part) → get_elem? (xs ++ ys) k ≡ some p → ((j : ℕ) × (get_elem? xs j ≡ some p)) ⊎ ((j : ℕ) × (get_elem? ys j ≡ some p))
@@ -58,6 +61,20 @@ module _ (views : List View) (id : ℕ) (v : View) (other : ℕ) (w : View) (at 
       (λ (z : (i : ℕ) × (get_elem? w.parts i ≡ some q)). (other, w, z.0, was, z.1))
       (in_both v.parts w.parts b q (subst (λ (z : View). get_elem? z.parts b ≡ some q) (sym y.1) there)))
       (λ (y : (a ≢ id) × (get_elem? views a ≡ some x)). (a, x, b, y.1, there))
+      (at_set views id a (together v w) x t.1))
+      (at_set first other a spent x seat)
+
+  -- each caller of a view was a caller of one: of the two that are joined it is the second's, if that has one
+  lent : (seat_of : ℕ → ℕ) (c : CallerView) (o : Option CallerView) → w.caller ≡ o → lent_caller v.caller o ≡ Some c → StoodCaller views c (λ b. seat_of c.id ≡ b → went other id seat_of c.id ≡ id)
+  lent seat_of c None none has = (id, v, at, has, λ e. went_not other id seat_of c.id id (λ same. apart (sym same)) e)
+  lent seat_of c (Some d) some_d has = (other, w, was, some_d ∙ has, λ e. went_there other id seat_of c.id e)
+
+  pub caller_came : (seat_of : ℕ → ℕ) (a : ℕ) (x : View) (c : CallerView) → get_elem? both a ≡ some x → x.caller ≡ Some c → StoodCaller views c (λ b. seat_of c.id ≡ b → went other id seat_of c.id ≡ a)
+  caller_came seat_of a x c seat has = ⊎_elim
+      (λ (t : (a ≡ other) × (spent ≡ x)). absurd (no_caller spent x c refl t.1 has))
+      (λ (t : (a ≢ other) × (get_elem? first a ≡ some x)). ⊎_elim
+      (λ (y : (a ≡ id) × (together v w ≡ x)). subst (λ (k : ℕ). StoodCaller views c (λ b. seat_of c.id ≡ b → went other id seat_of c.id ≡ k)) (sym y.0) (lent seat_of c w.caller refl (ap (λ (z : View). z.caller) y.1 ∙ has)))
+      (λ (y : (a ≢ id) × (get_elem? views a ≡ some x)). (a, x, y.1, has, λ e. went_not other id seat_of c.id a t.0 e))
       (at_set views id a (together v w) x t.1))
       (at_set first other a spent x seat)
 
@@ -131,6 +148,10 @@ joins count size id v other w s r at apart at_other =
       parts = λ node below. let h = r.parts node below in
           let t = part_goes s.views id v other w at apart at_other h.id h.place h.view h.part h.seat h.there in
           record { id = t.0; view = t.1; place = t.2; part = h.part; seat = t.3; there = t.4; node_is = h.node_is };
+      histories = histories_move s.views (set vs1 other spent) (went other id r.histories.seat_of) r.histories
+          (inl (sym (length-set vs1 other spent ∙ length-set s.views id (together v w))))
+          (part_came s.views id v other w at apart at_other)
+          (caller_came s.views id v other w at apart at_other r.histories.seat_of);
     }
 
 -- it shows the same world

@@ -158,6 +158,7 @@ module _ (ends : EndLaws) (passing : PassingKeepsLawful) (strays : LawfulStraysN
     sources = λ i. subst (λ (x : Word). HasNode x.source) (sym (word_same r.world n1 i)) (r.sources i);
     counted = λ id v j n at there. let low = r.counted id v j n at (subst (λ (q : ℕ). get_elem? v.seen j ≡ some (q, n)) (size_same r.world n1) there) in let e = claimed_same r.world n1 in omega (arith, low, e);
     parts = r.parts;
+    histories = r.histories;
   }
 
   pub passed_world : passed_rules.world ≡ w1

@@ -1,15 +1,18 @@
--- Seats of a table whose link words come back are dealt and joined.
+-- Seats of a table whose link words come back are dealt and joined, and callers come with seats of their own.
+use Rattle.std.specs.Prelude.{[], length, Some, refl}
 use Rattle.std.proofs.Common.{sym, subst}
 use Rattle.ipcz_world.specs.World.{World}
 use Rattle.ipcz_world.specs.HeldEnds.{IsEndHeld}
 use Rattle.ipcz_rule.specs.Start.{after_deal, dealt}
+use Rattle.ipcz_rule.specs.Histories.{caller_view, new_caller, without_caller}
 use Rattle.ipcz_rule.specs.Kinds.{together, spent}
-use Rattle.ipcz_rule.specs.Lasting.{virtual, sizes, side_of}
+use Rattle.ipcz_rule.specs.Lasting.{virtual, sizes, side_of, own_of}
 use Rattle.ipcz_rule.specs.LastingSeats.{SeatsLast}
-use Rattle.ipcz_slots.proofs.Beginning.{deals as dealing}
+use Rattle.ipcz_slots.proofs.Beginning.{deals as dealing, comes}
 use Rattle.ipcz_slots.proofs.Uniting.{joins_seats}
 use Rattle.ipcz_rule.proofs.Dealing.{deals_opening, deals_opening_world}
 use Rattle.ipcz_rule.proofs.Joining.{joins, joins_world}
+use Rattle.ipcz_rule.proofs.Writing.{returns, callers_come}
 use Rattle.ipcz_rule.proofs.Lasts.{laws_of}
 use Rattle.ipcz_rule.proofs.LastsAll.{ends}
 
@@ -31,4 +34,23 @@ seats_last = (
           (λ b i gone held. gone (subst (λ (u : World). IsEndHeld u i (side_of b)) (sym (joins_world count limit id o.view other p.view t r at apart there)) held)),
         ),
       ))),
+  (λ count limit k id reuses o p is. dealing (virtual count limit) (sizes count limit k reuses) (laws_of ends count limit k reuses) id o (without_caller o.view) (caller_view o.view.caller)
+      (λ t r at. let done = returns t r id o.view p at is in (
+        done.0,
+        (
+          (λ b i gone held. gone (subst (λ (u : World). IsEndHeld u i (side_of b)) done.1 held)),
+          (λ b i gone held. gone (subst (λ (u : World). IsEndHeld u i (side_of b)) (sym done.1) held)),
+        ),
+      ))),
+  (λ count limit k slots i reuses s l deep small. let new = new_caller (length l.0.views) in (
+    own_of (caller_view (Some new)) [] [] [],
+    comes (virtual count limit) (sizes count limit k reuses) (caller_view (Some new)) s l (let done = callers_come l.0 l.1 in (
+      done.0,
+      (
+        (λ b j gone held. gone (subst (λ (u : World). IsEndHeld u j (side_of b)) done.1 held)),
+        (λ b j gone held. gone (subst (λ (u : World). IsEndHeld u j (side_of b)) (sym done.1) held)),
+      ),
+    )),
+    (length l.0.views, refl),
+  )),
 )

@@ -10,6 +10,7 @@ pub mod Dropping
 pub mod Ending
 pub mod FromLaws
 pub mod Handling
+pub mod Histories
 pub mod Inboxes
 pub mod Joining
 pub mod Joins
@@ -35,6 +36,7 @@ pub mod Touches
 pub mod Touching
 pub mod WordKinds
 pub mod Wording
+pub mod Writing
 pub mod Lasts
 pub mod LastsClaims
 pub mod LastsAll

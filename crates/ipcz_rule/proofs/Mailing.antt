@@ -121,7 +121,7 @@ module _ (count size : ℕ) (s : St) (r : Rules count size s) (id : ℕ) (v v' :
       (λ apart. inl (sym (box_else (way w from to) apart) ∙ is))
 
   pub mail_rules : Follows count size s r turns record { words = set s.words i n'; homes = homes; views = set s.views id v' }
-  mail_rules = ruled_with s r w' books' g' (set s.words i n') homes id v v' p p' at is is' sight.1 sight.2 (record {
+  mail_rules = ruled_with s r w' books' g' (set s.words i n') homes id v v' p p' at is is' sight.1 (history, sight.2) (record {
     count = moves.count;
     size = moves.size;
     wide = length-set s.words i n';
@@ -132,7 +132,6 @@ module _ (count size : ℕ) (s : St) (r : Rules count size s) (id : ℕ) (v v' :
     grows = let same = moves.claimed in omega (arith, same);
     mail = mails_shown;
     node = node;
-    history = history;
     own = own;
     others = others;
   }) (inboxes_stay s r w' (set s.words i n') id v' moves.count moves.size sight.0 (λ to l. else (inbox w to) (λ e. let x = index in omega (arith, x, l, e))) posted) joined lawful (AreTurns r.world r.books r.routes turns) how

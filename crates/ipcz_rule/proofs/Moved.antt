@@ -16,6 +16,7 @@ use Rattle.ipcz_world.specs.Lawful.{Lawful}
 use Rattle.ipcz_world.proofs.Whole.{lawful_worlds_stray_nothing}
 use Rattle.ipcz_rule.specs.declared.view.View.{View}
 use Rattle.ipcz_rule.specs.declared.view.Part.{Part}
+use Rattle.ipcz_rule.specs.Histories.{Histories}
 use Rattle.ipcz_rule.specs.Rule.{Homes, St, mailbox, MailAt, Spells, Shows, Inboxes, Joined, HaveParts, Rules}
 use Rattle.ipcz_rule.proofs.Counts.{Sees, keeps_counts}
 use Rattle.ipcz_rule.proofs.Histories.{only, histories_stay}
@@ -37,7 +38,6 @@ pub record Moves (s : St) (w w' : World) (words : List ℕ) (homes : Homes) (p p
   pub grows : w.claimed ≤ w'.claimed
   pub mail : (k : ℕ) → k < w'.count * w'.count → MailAt (slice_index words (mailbox w' k)) (get_elem? homes k) (mail_at w' k)
   pub node : p'.node ≡ p.node
-  pub history : p'.history ≡ p.history
   pub own : Spells words w' p'
   pub others : (q : Part) → q.node ≢ p.node → Spells s.words w q → Spells words w' q
 
@@ -86,12 +86,12 @@ parts_stay views count id v v' p p' at is is' same all node below = let h = all 
       node_is = h.node_is;
     })
 
--- the rule after such a step, if the new world is lawful with the new books
-pub ruled : {count size : ℕ} (s : St) (r : Rules count size s) (w' : World) (b' : Books) (g' : Routes) (words : List ℕ) (homes : Homes) (id : ℕ) (v v' : View) (p p' : Part) →
-    get_elem? s.views id ≡ some v → v.parts ≡ p ∷ [] → v'.parts ≡ p' ∷ [] → Sees s.words v v' → v'.caller ≡ v.caller → Moves s r.world w' words homes p p' →
+-- the rule after such a step, if the new world is lawful with the new books, and with this history
+ruled : {count size : ℕ} (s : St) (r : Rules count size s) (w' : World) (b' : Books) (g' : Routes) (words : List ℕ) (homes : Homes) (id : ℕ) (v v' : View) (p p' : Part) →
+    get_elem? s.views id ≡ some v → v.parts ≡ p ∷ [] → v'.parts ≡ p' ∷ [] → Sees s.words v v' → Histories (set s.views id v') → Moves s r.world w' words homes p p' →
     Inboxes words (set s.views id v') w' → Joined (set s.views id v') b' → Lawful w' b' g' →
     Rules count size record { words = words; homes = homes; views = set s.views id v' }
-ruled {count} s r w' b' g' words homes id v v' p p' at is is' sight caller m inboxes joined lawful = record {
+ruled {count} s r w' b' g' words homes id v v' p p' at is is' sight histories m inboxes joined lawful = record {
   world = w';
   books = b';
   routes = g';
@@ -107,16 +107,25 @@ ruled {count} s r w' b' g' words homes id v v' p p' at is is' sight caller m inb
   sources = m.sources;
   counted = keeps_counts s.views s.words r.world w' id v v' at sight m.size m.grows r.shows.claims r.counted;
   parts = parts_stay s.views count id v v' p p' at is is' m.node r.parts;
-  histories = histories_stay s.views id v v' p p' at is is' m.node m.history caller r.histories;
+  histories = histories;
 }
 
 -- the rule after it, with what is known of the world that is shown then
-pub ruled_with : {count size : ℕ} (s : St) (r : Rules count size s) (w' : World) (b' : Books) (g' : Routes) (words : List ℕ) (homes : Homes) (id : ℕ) (v v' : View) (p p' : Part) →
-    get_elem? s.views id ≡ some v → v.parts ≡ p ∷ [] → v'.parts ≡ p' ∷ [] → Sees s.words v v' → v'.caller ≡ v.caller → Moves s r.world w' words homes p p' →
+pub ruled_by : {count size : ℕ} (s : St) (r : Rules count size s) (w' : World) (b' : Books) (g' : Routes) (words : List ℕ) (homes : Homes) (id : ℕ) (v v' : View) (p p' : Part) →
+    get_elem? s.views id ≡ some v → v.parts ≡ p ∷ [] → v'.parts ≡ p' ∷ [] → Sees s.words v v' → Histories (set s.views id v') → Moves s r.world w' words homes p p' →
     Inboxes words (set s.views id v') w' → Joined (set s.views id v') b' → Lawful w' b' g' → (G : World → Books → Routes → Type 0) → G w' b' g' →
     (r' : Rules count size record { words = words; homes = homes; views = set s.views id v' }) × G r'.world r'.books r'.routes
 unfolding ruled
-ruled_with s r w' b' g' words homes id v v' p p' at is is' sight caller m inboxes joined lawful G known = (ruled s r w' b' g' words homes id v v' p p' at is is' sight caller m inboxes joined lawful, known)
+ruled_by s r w' b' g' words homes id v v' p p' at is is' sight histories m inboxes joined lawful G known =
+    (ruled s r w' b' g' words homes id v v' p p' at is is' sight histories m inboxes joined lawful, known)
+
+-- the same if nothing is written into the history
+pub ruled_with : {count size : ℕ} (s : St) (r : Rules count size s) (w' : World) (b' : Books) (g' : Routes) (words : List ℕ) (homes : Homes) (id : ℕ) (v v' : View) (p p' : Part) →
+    get_elem? s.views id ≡ some v → v.parts ≡ p ∷ [] → v'.parts ≡ p' ∷ [] → Sees s.words v v' → (p'.history ≡ p.history) × (v'.caller ≡ v.caller) → Moves s r.world w' words homes p p' →
+    Inboxes words (set s.views id v') w' → Joined (set s.views id v') b' → Lawful w' b' g' → (G : World → Books → Routes → Type 0) → G w' b' g' →
+    (r' : Rules count size record { words = words; homes = homes; views = set s.views id v' }) × G r'.world r'.books r'.routes
+ruled_with s r w' b' g' words homes id v v' p p' at is is' sight same m =
+    ruled_by s r w' b' g' words homes id v v' p p' at is is' sight (histories_stay s.views id v v' p p' at is is' m.node same.0 same.1 r.histories) m
 
 -- if the words stay, so do their sources
 pub keeps_sources : (w w' : World) → ((i : ℕ) → word_at w' i ≡ word_at w i) → ((i : ℕ) → HasNode (word_at w i).source) → (i : ℕ) → HasNode (word_at w' i).source

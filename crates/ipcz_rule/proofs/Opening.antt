@@ -132,7 +132,7 @@ module _ (count size : ℕ) (s : St) (r : Rules count size s) (id : ℕ) (v v' :
   open_rules =
       let sp = spelled s r id v p at is in
       let moves = open_moves w i open_word p.node p'.state in
-      ruled_with s r w' r.books g' (set s.words i n') s.homes id v v' p p' at is is' sight.1 sight.2 (record {
+      ruled_with s r w' r.books g' (set s.words i n') s.homes id v v' p p' at is is' sight.1 (refl, sight.2) (record {
         count = moves.count;
         size = moves.size;
         wide = length-set s.words i n';
@@ -143,7 +143,6 @@ module _ (count size : ℕ) (s : St) (r : Rules count size s) (id : ℕ) (v v' :
         grows = let same = claimed-set_word (set_node w p.node p'.state) i open_word ∙ claimed-set_node w p.node p'.state in omega (arith, same);
         mail = mails_show s w w' (set s.words i n') p.node p'.state moves boxes r.owner r.shows;
         node = refl;
-        history = refl;
         own = own_spells s w w' (set s.words i n') p.node p'.state moves boxes p p' refl refl refl refl refl refl sp;
         others = others_spell s w w' (set s.words i n') p.node p'.state moves boxes;
       }) (inboxes_stay s r w' (set s.words i n') id v' moves.count moves.size sight.0 (λ to l. get_or-set_other s.words i (inbox w to) n' 0 (λ e. let q = below in omega arith)) (λ from to lf lt e. inl (sym (boxes (way w from to)) ∙ e)))

@@ -22,7 +22,9 @@ use Rattle.ipcz_world.specs.Soundness.{IsSound}
 use Rattle.ipcz_world.proofs.Whole.{world_starts_lawful, lawful_worlds_stray_nothing, nodes_are_sound}
 use Rattle.ipcz_rule.specs.declared.view.View.{View}
 use Rattle.ipcz_rule.specs.declared.view.Part.{Part}
+use Rattle.ipcz_rule.specs.declared.history.CallerView.{CallerView}
 use Rattle.ipcz_rule.proofs.Inboxes.{has_not}
+use Rattle.ipcz_rule.proofs.Histories.{no_caller}
 use Rattle.ipcz_rule.specs.Rule.{Slot, MailAt, Spells, InParts, Joined, Rules, puts_of, gets_of, drops_of}
 use Rattle.ipcz_rule.specs.Start.{opening_words, opening_part, opening_parts, opening_view, no_messages}
 
@@ -250,11 +252,28 @@ module _ (count size : ℕ) (limits : IsWithinLimits count size) where
       there = part_there count 0 count node below;
       node_is = omega arith;
     };
+    histories = record {
+      log = [];
+      seat_of = λ n. 0;
+      parts = λ id v j p at there. nothing_called id v j p at there;
+      callers = λ id v c at has. absurd (nobody_calls id v c at has);
+      begun = λ k e there. absurd (some-ne-none e (sym there));
+    };
   }
     where
       nothing_seen : (id : ℕ) (v : View) (k n : ℕ) → get_elem? (opening_view count ∷ []) id ≡ some v → get_elem? v.seen k ≡ some (size, n) → ⊥
       nothing_seen (suc id) v k n at there = some-ne-none v (sym at)
       nothing_seen zero v k n at there = some-ne-none (size, n) (sym (ap (λ (z : View). get_elem? z.seen k) (some-injective (opening_view count) v at) ∙ there))
+
+      nothing_called : (id : ℕ) (v : View) (j : ℕ) (p : Part) → get_elem? (opening_view count ∷ []) id ≡ some v → get_elem? v.parts j ≡ some p → p.history ≡ []
+      nothing_called (suc id) v j p at there = absurd (some-ne-none v (sym at))
+      nothing_called zero v j p at there =
+          let t = parts_are count 0 count j p (ap (λ (z : View). get_elem? z.parts j) (some-injective (opening_view count) v at) ∙ there) in
+          sym (ap (λ (z : Part). z.history) t.1)
+
+      nobody_calls : (id : ℕ) (v : View) (c : CallerView) → get_elem? (opening_view count ∷ []) id ≡ some v → v.caller ≡ Some c → ⊥
+      nobody_calls (suc id) v c at has = some-ne-none v (sym at)
+      nobody_calls zero v c at has = no_caller (opening_view count) v c refl (some-injective (opening_view count) v at) has
 
       law : Lawful (new_world count size) no_books (first_routes count)
       law = world_starts_lawful count size limits

@@ -69,7 +69,7 @@ touched count size id i m p p' v' is is' same_seen k s r at G t =
     let sp = spelled s r id m.0 p at is in
     let same : (j : ℕ) → slice_index s.words (mailbox r.world j) ≡ slice_index s.words (mailbox r.world j) = λ j. refl in
     let After : List ℕ → Type 0 = λ ws. (r' : Rules count size record { words = ws; homes = s.homes; views = set s.views id v' }) × G r'.world r'.books r'.routes in
-    let rules : After s.words = ruled_with s r t.world t.books t.routes s.words s.homes id m.0 v' p p' at is is' (inl same_seen.1) same_seen.2 (record {
+    let rules : After s.words = ruled_with s r t.world t.books t.routes s.words s.homes id m.0 v' p p' at is is' (inl same_seen.1) (k.history, same_seen.2) (record {
       count = t.moves.count;
       size = t.moves.size;
       wide = refl;
@@ -80,7 +80,6 @@ touched count size id i m p p' v' is is' same_seen k s r at G t =
       grows = let kept = t.claimed in omega (arith, kept);
       mail = mails_show s r.world t.world s.words p.node p'.state t.moves same r.owner r.shows;
       node = k.node;
-      history = k.history;
       own = own_spells s r.world t.world s.words p.node p'.state t.moves same p p' refl k.node refl k.hand k.message k.probed sp;
       others = others_spell s r.world t.world s.words p.node p'.state t.moves same;
     }) (inboxes_stay s r t.world s.words id v' t.moves.count t.moves.size same_seen.0 (λ to l. refl) (λ from to lf lt e. inl e)) t.joined t.lawful G t.known in

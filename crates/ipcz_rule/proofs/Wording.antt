@@ -110,7 +110,7 @@ module _ (count size : ℕ) (s : St) (r : Rules count size s) (id : ℕ) (v v' :
   word_rules =
       let sp = spelled s r id v p at is in
       let moves = word_moves w i y p.node p'.state in
-      ruled_with s r w' r.books (act_routes w r.routes p.node serial act) (set s.words i n') s.homes id v v' p p' at is is' sight.1 sight.2 (record {
+      ruled_with s r w' r.books (act_routes w r.routes p.node serial act) (set s.words i n') s.homes id v v' p p' at is is' sight.1 (refl, sight.2) (record {
         count = moves.count;
         size = moves.size;
         wide = length-set s.words i n';
@@ -121,7 +121,6 @@ module _ (count size : ℕ) (s : St) (r : Rules count size s) (id : ℕ) (v v' :
         grows = let same = claimed-set_node (set_word w i y) p.node p'.state ∙ claimed-set_word w i y in omega (arith, same);
         mail = mails_show s w w' (set s.words i n') p.node p'.state moves boxes r.owner r.shows;
         node = refl;
-        history = refl;
         own = own_spells s w w' (set s.words i n') p.node p'.state moves boxes p p' refl refl refl (act_hand p.state serial act (word_answer (word_at r.world i) rt.end.side (source_of rt) act)) refl refl sp;
         others = others_spell s w w' (set s.words i n') p.node p'.state moves boxes;
       }) (inboxes_stay s r w' (set s.words i n') id v' moves.count moves.size sight.0 (λ to l. get_or-set_other s.words i (inbox w to) n' 0 (λ e. let q = below in omega arith)) (λ from to lf lt e. inl (sym (boxes (way w from to)) ∙ e)))
@@ -138,7 +137,7 @@ sees {count} {size} s r i id v v' p at is is' sight =
     let w = r.world in
     let moves = same_moves w p.node p.state sp.state in
     let same : (j : ℕ) → slice_index s.words (mailbox w j) ≡ slice_index s.words (mailbox w j) = λ j. refl in
-    let rules : Follows count size s r [] record { words = s.words; homes = s.homes; views = set s.views id v' } = ruled_with s r w r.books r.routes s.words s.homes id v v' p p at is is' sight.1 sight.2 (record {
+    let rules : Follows count size s r [] record { words = s.words; homes = s.homes; views = set s.views id v' } = ruled_with s r w r.books r.routes s.words s.homes id v v' p p at is is' sight.1 (refl, sight.2) (record {
       count = refl;
       size = refl;
       wide = refl;
@@ -149,7 +148,6 @@ sees {count} {size} s r i id v v' p at is is' sight =
       grows = omega arith;
       mail = r.shows.mail;
       node = refl;
-      history = refl;
       own = sp;
       others = λ q ne h. h;
     }) (inboxes_stay s r w s.words id v' refl refl sight.0 (λ to l. refl) (λ from to lf lt e. inl e)) (joined_same s.views id v v' p p r.books at is is' refl refl refl r.joined) r.lawful (AreTurns r.world r.books r.routes []) (refl, refl, refl) in

@@ -9,7 +9,7 @@ use Rattle.std.specs.Int.{bit_at}
 use prog.Atomic.{either}
 use mathlib.Core.Option.{some}
 use lib.ListN.{get_elem?}
-use Rattle.atomic_table.specs.Table.{Act as TableAct, Enters, Joins, Splits, Valid, stepped, carried_after}
+use Rattle.atomic_table.specs.Table.{Act as TableAct, Joins, Valid, stepped, carried_after}
 use Rattle.ipcz_base.specs.declared.profile.Profile.{Profile}
 use Rattle.ipcz_base.specs.declared.end.End.{End}
 use Rattle.ipcz_base.specs.declared.message.Message.{Message}
@@ -34,7 +34,7 @@ use Rattle.ipcz_rule.specs.declared.view.View.{View}
 use Rattle.ipcz_rule.specs.declared.view.Part.{Part}
 use Rattle.ipcz_rule.specs.declared.history.Call.{Call}
 use Rattle.ipcz_rule.specs.declared.history.CallerView.{CallerView}
-use Rattle.ipcz_rule.specs.Histories.{IsNoted, lent_caller, new_caller, caller_view, without_caller}
+use Rattle.ipcz_rule.specs.Histories.{IsNoted, lent_caller}
 use Rattle.ipcz_world.specs.HeldEnds.{IsEndHeld}
 use Rattle.ipcz_world.specs.Ranks.{AreTurns}
 use Rattle.ipcz_world.specs.World.{World}
@@ -304,11 +304,3 @@ JoinsParts = (count size id : ℕ) (v : View) (other : ℕ) (w : View) → Joins
 abbrev pub Notes : Form → Type 0
 Notes F = (count size slots id i : ℕ) (m : Mine) (p : Part) (c : CallerView) (call : Call) → m.0.parts ≡ p ∷ [] → m.0.caller ≡ Some c →
     F count size slots id m i (λ n. n) (λ n. []) (λ n m'. IsNoted m.0 p c call m'.0 × (m'.1 ≡ m.1))
-
--- split: a seat's caller goes on with a seat of its own
-abbrev pub ReturnsCaller : Type 0
-ReturnsCaller = (count size id : ℕ) (v : View) → Splits (Rules count size) id v (without_caller v) (caller_view v.caller)
-
--- a new seat: a caller that has called nothing yet
-abbrev pub CallersCome : Type 0
-CallersCome = (count size slots i : ℕ) → Enters (Rules count size) slots i (λ n w. (id : ℕ) × (w ≡ caller_view (Some (new_caller id))))

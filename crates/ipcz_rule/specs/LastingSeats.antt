@@ -1,7 +1,9 @@
--- Seats of a table whose link words come back are dealt and joined.
-use Rattle.std.specs.Prelude.{◌≡◌, ◌<◌, ◌-◌, ◌++◌, ℕ, Bool, []}
-use Rattle.atomic_table.specs.Table.{Splits, Joins}
+-- Seats of a table whose link words come back are dealt and joined, and callers come with seats of their own.
+use Rattle.std.specs.Prelude.{◌≡◌, ◌<◌, ◌-◌, ◌++◌, ℕ, Bool, [], ◌∷◌, Some}
+use Rattle.atomic_table.specs.Table.{Splits, Joins, Enters}
 use Rattle.ipcz_rule.specs.declared.view.View.{View}
+use Rattle.ipcz_rule.specs.declared.view.Part.{Part}
+use Rattle.ipcz_rule.specs.Histories.{caller_view, new_caller, without_caller}
 use Rattle.ipcz_rule.specs.Start.{opening_parts, after_deal, dealt}
 use Rattle.ipcz_rule.specs.Kinds.{together, spent}
 use Rattle.ipcz_slots.specs.declared.own.Own.{Own}
@@ -17,5 +19,15 @@ abbrev pub JoinsLast : Type 0
 JoinsLast = (count limit k id other : ℕ) (reuses : Bool) (o p : Own View) →
     Joins (LastingRules count limit k reuses) id o other p (own_of (together o.view p.view) (o.dirty ++ p.dirty) (o.free ++ p.free) o.looked) (own_of spent [] [] [])
 
+-- split: the caller that a seat has goes on with a seat of its own
+abbrev pub ReturnsLast : Type 0
+ReturnsLast = (count limit k id : ℕ) (reuses : Bool) (o : Own View) (p : Part) → o.view.parts ≡ p ∷ [] →
+    Splits (LastingRules count limit k reuses) id o (own_of (without_caller o.view) o.dirty o.free o.looked) (own_of (caller_view o.view.caller) [] [] [])
+
+-- a seat comes: a caller that has called nothing yet
+abbrev pub CallersCome : Type 0
+CallersCome = (count limit k slots i : ℕ) (reuses : Bool) →
+    Enters (LastingRules count limit k reuses) slots i (λ n w. (id : ℕ) × (w ≡ own_of (caller_view (Some (new_caller id))) [] [] []))
+
 abbrev pub SeatsLast : Type 0
-SeatsLast = DealsLast × JoinsLast
+SeatsLast = DealsLast × JoinsLast × ReturnsLast × CallersCome

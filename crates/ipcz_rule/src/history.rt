@@ -17,13 +17,7 @@ pub enum Call {
     /// A proxy was let ask again for its slot.
     Retried(Retry),
     /// A parcel of a profile was put at an end.
-    Put(
-        Profile,
-        End,
-        LinkedList<u8>,
-        LinkedList<End>,
-        Result<u64, Refusal>,
-    ),
+    Put(Profile, End, LinkedList<u8>, LinkedList<End>, Result<u64, Refusal>),
     /// A parcel was got at an end, with room for its portals.
     Got(End, Result<(u64, Parcel), Refusal>),
     /// A parcel was taken at an end, without room for its portals.

@@ -6,7 +6,7 @@ ghost use Rattle.std.specs.Prelude.{true};
 ghost use Rattle.ipcz_rule.specs.Kinds.{Loads, Puts, Gets, Closes, PendingCloses, Touches, TouchActs, Marks, Wakes, Unlocks, TriesLock};
 ghost use Rattle.ipcz_rule.specs.Kinds.{LoadsForLock};
 ghost use Rattle.ipcz_rule.specs.Kinds.{IsKept, IsTurns, LoadsForClaim, Dries, Wets, Claims, ClaimsForOpen, Opens, Probes, Unprobes, Announces, LoadsForPost, Posts, Looks, LoadsForHand};
-ghost use Rattle.ipcz_rule.specs.Kinds.{Clears, Hands, GivesBack, JoinsParts};
+ghost use Rattle.ipcz_rule.specs.Kinds.{Clears, Hands, GivesBack, JoinsParts, Notes};
 
 /// A load of any word changes nothing but what was seen.
 pub fn a_load_keeps_the_rule()
@@ -151,4 +151,9 @@ pub fn giving_a_slot_back_keeps_the_rule()
 /// A seat takes in the parts of another.
 pub fn a_join_keeps_the_rule()
     ensures { JoinsParts }
+{}
+
+/// A call is written into the history of its node, for a caller that has lent its view.
+pub fn a_note_keeps_the_rule()
+    ensures { Notes (IsKept true) }
 {}

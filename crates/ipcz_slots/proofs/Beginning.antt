@@ -9,7 +9,7 @@ use Rattle.atomic_table.specs.Table.{State}
 use Rattle.atomic_table.proofs.Lists.{at_snoc, at_longer}
 use Rattle.ipcz_slots.specs.declared.own.Own.{Own}
 use Rattle.ipcz_slots.specs.Slots.{Virtual, Sizes, Laws, Owns, HasOwner, LetGo, NotLetGo, Status, Shows, Dirty, Free, Spare, of_none, let_go_word, has_number}
-use Rattle.ipcz_slots.specs.SlotKinds.{Starts, Deals}
+use Rattle.ipcz_slots.specs.SlotKinds.{Starts, Deals, Comes}
 use Rattle.ipcz_slots.proofs.Folding.{says_still, view_at, own_after, owned_after}
 
 pub no_slots : (z : Sizes) (status : ℕ → Status) (id : ℕ) (dirty free : List ℕ) → dirty ≡ [] → free ≡ [] → Owns z status id dirty free
@@ -89,6 +89,33 @@ deals {S} {V} x z laws id o left right deal s l at =
             (λ e. own_after z s.views fold.status fold.status id mine fold.own (λ j1 p ne. ((λ e. e), (λ e. e))) (let w = fold.own id o at in record { dirty_is = w.dirty_is; free_is = w.free_is }) j q e)
             (λ e. no_slots z fold.status j q.dirty q.free (ap (λ y. y.dirty) (sym e)) (ap (λ y. y.free) (sym e)))
             (at_snoc (set s.views id mine) new q j there);
+        whole = fold.whole;
+      },
+    )
+
+pub comes : {S V : Type 0} (x : Virtual S V) (z : Sizes) → Comes x z
+comes {S} {V} x z right s l d =
+    let t = l.0 in
+    let r = l.1 in
+    let fold = l.2 in
+    let t' : State S V = record { words = t.words; homes = t.homes; views = t.views ++ right ∷ [] } in
+    let new : Own V = record { view = right; dirty = []; free = []; looked = [] } in (
+      t',
+      d.0,
+      record {
+        wide = fold.wide;
+        tall = fold.tall;
+        homes = fold.homes;
+        views = map_snoc (λ q. q.view) s.views new ∙ ap (λ vs. vs ++ right ∷ []) fold.views;
+        rest = fold.rest;
+        status = fold.status;
+        slots = λ p k. says_still x z of_none t t' r d.0 p (slice_index s.words p) (slice_index s.words (let_go_word z p)) (fold.status p) (λ i e b. refl) (λ b i e. d.1.0 b i)
+            (λ again b i e other. d.1.1 b i) (fold.slots p k);
+        others = λ i k. ⊎_elim (λ e. inl e) (λ h. inr (d.1.0 false i h.0, d.1.0 true i h.1)) (fold.others i k);
+        owned = λ p k. owner_longer s.views new p (fold.status p) (fold.owned p k);
+        own = λ j q there. ⊎_elim (λ e. fold.own j q e)
+            (λ e. no_slots z fold.status j q.dirty q.free (ap (λ y. y.dirty) (sym e)) (ap (λ y. y.free) (sym e)))
+            (at_snoc s.views new q j there);
         whole = fold.whole;
       },
     )

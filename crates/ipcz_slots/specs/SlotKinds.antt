@@ -196,6 +196,14 @@ Deals {S} {V} x z =
     SameEnds x t r (record { words = t.words; homes = t.homes; views = slice_set t.views id left ++ right ∷ [] }) r') →
     Splits (Lasting x z) id o (record { view = left; dirty = o.dirty; free = o.free; looked = o.looked }) (record { view = right; dirty = []; free = []; looked = [] })
 
+-- a seat comes, and has no slot
+abbrev pub Comes : {S V : Type 0} → Virtual S V → Sizes → Type 0
+Comes {S} {V} x z =
+    (new : V) (s : State S (Own V)) (l : Lasting x z s) →
+    ((r' : x.holds (record { words = l.0.words; homes = l.0.homes; views = l.0.views ++ new ∷ [] })) ×
+    SameEnds x l.0 l.1 (record { words = l.0.words; homes = l.0.homes; views = l.0.views ++ new ∷ [] }) r') →
+    Lasting x z (record { words = s.words; homes = s.homes; views = s.views ++ (record { view = new; dirty = []; free = []; looked = [] }) ∷ [] })
+
 -- a seat takes in the view of another, and its slots
 abbrev pub JoinsSeats : {S V : Type 0} → Virtual S V → Sizes → Type 0
 JoinsSeats {S} {V} x z =
