@@ -3,8 +3,6 @@
 #![tactic(auto)]
 
 #[cfg(test)]
-mod callers;
-#[cfg(test)]
 mod cell_tables;
 #[cfg(test)]
 mod cell_waits;
@@ -38,5 +36,7 @@ mod race;
 mod retries;
 #[cfg(test)]
 mod selecting;
+#[cfg(test)]
+mod talking;
 #[cfg(test)]
 mod wide_cells;

@@ -29,24 +29,24 @@ enum Case {
 
 // Whether puts at a portal of a new pair are numbered from 0 on, whichever they are.
 fn puts_in_order<F: FabricName, R: Wait>(rt: &R, hub: &Hub<F>, alloc: Global) -> Option<bool> {
-    let mut me = hub.caller();
-    let (a, _b) = me.open_pair(rt, hub, 0).ok()?;
-    let wide = me.put_wide(rt, hub, &a, Vec::new(alloc), Vec::new(alloc));
-    let printed = me.put(rt, hub, &a, Vec::new(alloc), Vec::new(alloc));
-    let of_profile = me.put_as(rt, hub, &a, Profile::Wide, Vec::new(alloc), Vec::new(alloc));
+    let mut caller = hub.caller();
+    let (a, _b) = caller.open_pair(rt, hub, 0).ok()?;
+    let wide = caller.put_wide(rt, hub, &a, Vec::new(alloc), Vec::new(alloc));
+    let printed = caller.put(rt, hub, &a, Vec::new(alloc), Vec::new(alloc));
+    let of_profile = caller.put_as(rt, hub, &a, Profile::Wide, Vec::new(alloc), Vec::new(alloc));
     Some(matches!(wide, Ok(0)) && matches!(printed, Ok(1)) && matches!(of_profile, Ok(2)))
 }
 
 // Whether a parcel that was put comes to the peer with its number, and nothing behind it.
 fn gets_what_was_put<F: FabricName, R: Wait>(rt: &R, hub: &Hub<F>, alloc: Global) -> Option<bool> {
-    let mut me = hub.caller();
-    let (a, b) = me.open_pair(rt, hub, 0).ok()?;
-    let early = matches!(me.get(rt, hub, &b), Err(Refusal::Empty));
-    me.put(rt, hub, &a, Vec::new(alloc), Vec::new(alloc)).ok()?;
-    let taken = me.acts(rt, hub, 0, 100).ok()?;
-    let idle = matches!(me.turn(rt, hub, 0), Ok(Happened::Idle));
-    let got = me.get(rt, hub, &b).ok()?;
-    let late = matches!(me.get(rt, hub, &b), Err(Refusal::Empty));
+    let mut caller = hub.caller();
+    let (a, b) = caller.open_pair(rt, hub, 0).ok()?;
+    let early = matches!(caller.get(rt, hub, &b), Err(Refusal::Empty));
+    caller.put(rt, hub, &a, Vec::new(alloc), Vec::new(alloc)).ok()?;
+    let taken = caller.acts(rt, hub, 0, 100).ok()?;
+    let idle = matches!(caller.turn(rt, hub, 0), Ok(Happened::Idle));
+    let got = caller.get(rt, hub, &b).ok()?;
+    let late = matches!(caller.get(rt, hub, &b), Err(Refusal::Empty));
     Some(early && taken > 0 && idle && got.n == 0 && got.portals.is_empty() && late)
 }
 
@@ -56,51 +56,51 @@ fn waits_for_it<F: FabricName, R: Wait + Clock>(
     hub: &Hub<F>,
     alloc: Global,
 ) -> Option<bool> {
-    let mut me = hub.caller();
-    let (a, b) = me.open_pair(rt, hub, 0).ok()?;
+    let mut caller = hub.caller();
+    let (a, b) = caller.open_pair(rt, hub, 0).ok()?;
     let early = matches!(
-        me.get_timeout(rt, hub, &b, Duration::ZERO),
+        caller.get_timeout(rt, hub, &b, Duration::ZERO),
         Err(Refusal::Empty)
     );
-    me.put(rt, hub, &a, Vec::new(alloc), Vec::new(alloc)).ok()?;
-    me.acts(rt, hub, 0, 100).ok()?;
-    let got = me.get_timeout(rt, hub, &b, Duration::ZERO).ok()?;
+    caller.put(rt, hub, &a, Vec::new(alloc), Vec::new(alloc)).ok()?;
+    caller.acts(rt, hub, 0, 100).ok()?;
+    let got = caller.get_timeout(rt, hub, &b, Duration::ZERO).ok()?;
     Some(early && got.n == 0 && got.portals.is_empty())
 }
 
 // Whether a close behind one parcel answers 1, and the peer gets the parcel and then that it is closed.
 fn closes_behind_one<F: FabricName, R: Wait>(rt: &R, hub: &Hub<F>, alloc: Global) -> Option<bool> {
-    let mut me = hub.caller();
-    let (a, b) = me.open_pair(rt, hub, 0).ok()?;
-    me.put(rt, hub, &a, Vec::new(alloc), Vec::new(alloc)).ok()?;
-    let closed = me.close(rt, hub, a);
-    me.acts(rt, hub, 0, 100).ok()?;
-    let got = me.get(rt, hub, &b).is_ok();
-    let end = matches!(me.get(rt, hub, &b), Err(Refusal::PeerClosed));
+    let mut caller = hub.caller();
+    let (a, b) = caller.open_pair(rt, hub, 0).ok()?;
+    caller.put(rt, hub, &a, Vec::new(alloc), Vec::new(alloc)).ok()?;
+    let closed = caller.close(rt, hub, a);
+    caller.acts(rt, hub, 0, 100).ok()?;
+    let got = caller.get(rt, hub, &b).is_ok();
+    let end = matches!(caller.get(rt, hub, &b), Err(Refusal::PeerClosed));
     Some(matches!(closed, Ok(1)) && got && end)
 }
 
 // Whether a node that isn't there is a stranger, and no proxy waits at one that is.
 fn are_strangers<F: FabricName, R: Wait>(rt: &R, hub: &Hub<F>) -> bool {
-    let mut me = hub.caller();
-    matches!(me.turn(rt, hub, 2), Err(Refusal::Stranger))
-        && matches!(me.acts(rt, hub, 2, 1), Err(Refusal::Stranger))
-        && matches!(me.retry(rt, hub, 2), Err(Refusal::Stranger))
-        && matches!(me.open_pair(rt, hub, 2), Err(Refusal::Stranger))
-        && matches!(me.retry(rt, hub, 0), Ok(Retry::NoneWaits))
+    let mut caller = hub.caller();
+    matches!(caller.turn(rt, hub, 2), Err(Refusal::Stranger))
+        && matches!(caller.acts(rt, hub, 2, 1), Err(Refusal::Stranger))
+        && matches!(caller.retry(rt, hub, 2), Err(Refusal::Stranger))
+        && matches!(caller.open_pair(rt, hub, 2), Err(Refusal::Stranger))
+        && matches!(caller.retry(rt, hub, 0), Ok(Retry::NoneWaits))
 }
 
 // Gets the parcel of a number, and takes turns of the portal's node until it is there.
 fn gets_next<F: FabricName, R: Wait>(
     rt: &R,
     hub: &Hub<F>,
-    me: &mut Caller<F>,
+    caller: &mut Caller<F>,
     at: &Portal<F>,
     number: u64,
 ) -> bool {
     for _try in 0..TRIES {
-        let _ = me.acts(rt, hub, at.node(), 100);
-        match me.get(rt, hub, at) {
+        let _ = caller.acts(rt, hub, at.node(), 100);
+        match caller.get(rt, hub, at) {
             Ok(got) => return got.n == number,
             Err(Refusal::Empty) => yield_now(),
             Err(_) => return false,
@@ -117,14 +117,14 @@ fn talks<F: FabricName, R: Wait>(
     at: &Portal<F>,
     done: &AtomicU64,
 ) -> bool {
-    let mut me = hub.caller();
+    let mut caller = hub.caller();
     let mut good = true;
     for number in 0..PARCELS {
-        let put = me.put(rt, hub, at, Vec::new(alloc), Vec::new(alloc));
-        good = good && matches!(put, Ok(n) if n == number) && gets_next(rt, hub, &mut me, at, number);
+        let put = caller.put(rt, hub, at, Vec::new(alloc), Vec::new(alloc));
+        good = good && matches!(put, Ok(n) if n == number) && gets_next(rt, hub, &mut caller, at, number);
     }
     done.fetch_add(1, Ordering::SeqCst);
-    serves(rt, hub, &mut me, at.node(), done);
+    serves(rt, hub, &mut caller, at.node(), done);
     good
 }
 
@@ -132,7 +132,7 @@ fn talks<F: FabricName, R: Wait>(
 fn serves<F: FabricName, R: Wait>(
     rt: &R,
     hub: &Hub<F>,
-    me: &mut Caller<F>,
+    caller: &mut Caller<F>,
     node: u8,
     done: &AtomicU64,
 ) {
@@ -140,7 +140,7 @@ fn serves<F: FabricName, R: Wait>(
         if done.load(Ordering::SeqCst) == 2 {
             return;
         }
-        let _ = me.acts(rt, hub, node, 100);
+        let _ = caller.acts(rt, hub, node, 100);
         yield_now();
     }
 }
