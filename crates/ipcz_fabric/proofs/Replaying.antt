@@ -143,5 +143,8 @@ tried_once t node at answer c d h = (d, h, refl)
 pub tried_more : (t : TableName) (node : ℕ) (at : End) (answer : Result (ℕ × parcels.Parcel) Refusal) (c d e : CallerView) →
     (vain : ℕ) × ExtendsInTurn t node (tries vain at (Err refusals.Empty)) c d → Extends t node (calls.Taken at answer) d e →
     (vain : ℕ) × ExtendsInTurn t node (tries vain at answer) c e
-tried_more t node at answer c d e so_far last = (suc so_far.0, subst (λ (l : List Call). ExtendsInTurn t node l c e) (tries_more so_far.0 at answer)
-    (in_turn_more t node (tries so_far.0 at (Err refusals.Empty)) (calls.Taken at answer) c d e so_far.1 last))
+tried_more t node at answer c d e so_far last = (
+  suc so_far.0,
+  subst (λ (l : List Call). ExtendsInTurn t node l c e) (tries_more so_far.0 at answer)
+      (in_turn_more t node (tries so_far.0 at (Err refusals.Empty)) (calls.Taken at answer) c d e so_far.1 last),
+)

@@ -192,7 +192,9 @@ impl<F: FabricName> Caller<F> {
             (λ e. Extends F.table portal.now.node (calls.Put profile portal.now.end bytes.items (ends_of portals.items) (Err e.why)) self.old self.new) }
     {
         let node = portal.place();
-        let put = hub.lock(rt, node).put_as(hub, &mut self.seat, portal, profile, bytes, portals);
+        let put = hub
+            .lock(rt, node)
+            .put_as(hub, &mut self.seat, portal, profile, bytes, portals);
         hub.fabric().bells().ring(node);
         put
     }
@@ -284,7 +286,8 @@ impl<F: FabricName> Caller<F> {
         ensures extends { Extends F.table portal.now.node (calls.Taken portal.now.end result) self.old self.new }
     {
         let node = portal.place();
-        hub.lock(rt, node).take(hub.fabric(), &mut self.seat, portal.end())
+        hub.lock(rt, node)
+            .take(hub.fabric(), &mut self.seat, portal.end())
     }
 
     // Takes the next parcel, and sleeps while there is none. The bell is watched before each look that a sleep may follow, so that no

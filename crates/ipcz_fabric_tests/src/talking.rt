@@ -14,6 +14,7 @@ use std::time::{Clock, Duration};
 
 // So many parcels are put by each, and so many tries are made at most.
 const PARCELS: u64 = 100;
+
 const TRIES: u64 = 10_000_000;
 
 // What is looked at.
@@ -42,7 +43,9 @@ fn gets_what_was_put<F: FabricName, R: Wait>(rt: &R, hub: &Hub<F>, alloc: Global
     let mut caller = hub.caller();
     let (a, b) = caller.open_pair(rt, hub, 0).ok()?;
     let early = matches!(caller.get(rt, hub, &b), Err(Refusal::Empty));
-    caller.put(rt, hub, &a, Vec::new(alloc), Vec::new(alloc)).ok()?;
+    caller
+        .put(rt, hub, &a, Vec::new(alloc), Vec::new(alloc))
+        .ok()?;
     let taken = caller.acts(rt, hub, 0, 100).ok()?;
     let idle = matches!(caller.turn(rt, hub, 0), Ok(Happened::Idle));
     let got = caller.get(rt, hub, &b).ok()?;
@@ -62,7 +65,9 @@ fn waits_for_it<F: FabricName, R: Wait + Clock>(
         caller.get_timeout(rt, hub, &b, Duration::ZERO),
         Err(Refusal::Empty)
     );
-    caller.put(rt, hub, &a, Vec::new(alloc), Vec::new(alloc)).ok()?;
+    caller
+        .put(rt, hub, &a, Vec::new(alloc), Vec::new(alloc))
+        .ok()?;
     caller.acts(rt, hub, 0, 100).ok()?;
     let got = caller.get_timeout(rt, hub, &b, Duration::ZERO).ok()?;
     Some(early && got.n == 0 && got.portals.is_empty())
@@ -72,7 +77,9 @@ fn waits_for_it<F: FabricName, R: Wait + Clock>(
 fn closes_behind_one<F: FabricName, R: Wait>(rt: &R, hub: &Hub<F>, alloc: Global) -> Option<bool> {
     let mut caller = hub.caller();
     let (a, b) = caller.open_pair(rt, hub, 0).ok()?;
-    caller.put(rt, hub, &a, Vec::new(alloc), Vec::new(alloc)).ok()?;
+    caller
+        .put(rt, hub, &a, Vec::new(alloc), Vec::new(alloc))
+        .ok()?;
     let closed = caller.close(rt, hub, a);
     caller.acts(rt, hub, 0, 100).ok()?;
     let got = caller.get(rt, hub, &b).is_ok();
@@ -121,7 +128,9 @@ fn talks<F: FabricName, R: Wait>(
     let mut good = true;
     for number in 0..PARCELS {
         let put = caller.put(rt, hub, at, Vec::new(alloc), Vec::new(alloc));
-        good = good && matches!(put, Ok(n) if n == number) && gets_next(rt, hub, &mut caller, at, number);
+        good = good
+            && matches!(put, Ok(n) if n == number)
+            && gets_next(rt, hub, &mut caller, at, number);
     }
     done.fetch_add(1, Ordering::SeqCst);
     serves(rt, hub, &mut caller, at.node(), done);

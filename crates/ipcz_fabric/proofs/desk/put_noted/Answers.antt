@@ -8,7 +8,7 @@ returns-clause-noted g c =
       c.told-answer.ensures,
       c.put_here-put.new.cell,
       puts_by (λ e. e.why) c.args.profile c.args.portal.now.end c.args.bytes.items _ c.args.cell.now.part c.put_here-put.new.cell.part c.put_here-put.result
-      c.told-answer.result c.told-answer.ensures put.allowed put.number put.ok put.why put.err,
+          c.told-answer.result c.told-answer.ensures put.allowed put.number put.ok put.why put.err,
       record { part = c.note_as.ensures.part; seen = c.note_as.ensures.seen },
       c.note_as.ensures.me,
     )

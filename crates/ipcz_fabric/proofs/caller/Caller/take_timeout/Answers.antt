@@ -18,7 +18,7 @@ loop-try-init g c = (
 pub loop-try-preserved : goal.loop-try-preserved
 loop-try-preserved g c =
     let more = tried_more g.F.FabricName.table c.args.portal.now.node c.args.portal.now.end c.take-taken.result c.args.self.now c.loop-try.self c.take-taken.new.self
-        c.loop-try.invariant.2 c.take-taken.ensures.extends in (
+    c.loop-try.invariant.2 c.take-taken.ensures.extends in (
       tt,
       tt,
       (
