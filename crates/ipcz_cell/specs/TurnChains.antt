@@ -1,5 +1,6 @@
 -- Turns of a cell one after the other, whose events aren't told.
 use Rattle.std.specs.Prelude.{◌≡◌, ◌≢◌, ◌<◌, ◌⊎◌, ◌||◌, ℕ, nat_eq, Bool, false, List, [], ◌∷◌, length, Result, Ok, Err, MatchResult}
+use Rattle.std.specs.List.{list_any}
 use Rattle.ipcz_base.specs.declared.refusal.Refusal.{Refusal}
 use Rattle.ipcz_node.specs.declared.act.Act.{Act}
 use Rattle.ipcz_node.specs.declared.act.Act.TheVariants.{Hand, Idle, Post}
@@ -70,8 +71,7 @@ touches other n = false
 
 -- whether one of these turns touches a node
 abbrev pub some_touches : List Did → ℕ → Bool
-some_touches [] n = false
-some_touches (did ∷ more) n = touches did.act n || some_touches more n
+some_touches dids n = list_any (λ did. touches did.act n) dids
 
 -- turns were taken, and the nodes that they touch were added to a set, and no others
 pub record RunsTouching (t : TableName) (limit : ℕ) (old : CellState) (answer : Result ℕ Refusal) (before after : NodeSet) (new : CellState) : Type 0 where

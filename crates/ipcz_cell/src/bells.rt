@@ -21,6 +21,7 @@ pub struct Ticket {
 /// The bells of a table's nodes, and one that is rung with each of them.
 #[derive(Drop)]
 pub struct Bells {
+    // One bell, in a list, so that it lies on the heap as those of the nodes do.
     any: Vec<Bell>,
     bells: Vec<Bell>,
 }

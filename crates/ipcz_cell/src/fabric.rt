@@ -58,7 +58,7 @@ impl<F: FabricName> Fabric<F> {
         self.nodes
     }
 
-    /// Wakes all that sleep for a node, as `NodeCell::wait`. If none sleeps, it costs two loads. For a node that isn't the table's
+    /// Wakes all that sleep for a node, as `NodeCell::wait`. If none sleeps, it costs four loads. For a node that isn't the table's
     /// nothing is done.
     pub fn notify_all(&self, node: u8) {
         self.bells.ring(node);

@@ -121,6 +121,7 @@ fn clear_here<F: FabricName, X: Outcome>(
     ensures table { seat.new.table_id ≡ seat.old.table_id }
     ensures part { seat.new.me.0.view.parts ≡ seat.old.me.0.view.parts }
     ensures seen { seat.new.me.0.view.seen ≡ seat.old.me.0.view.seen }
+    ensures caller { seat.new.me.0.view.caller ≡ seat.old.me.0.view.caller }
     ensures held { seat.new.me.1 ≡ seat.old.me.1 }
     ensures slots { SlotsStay seat.old.me seat.new.me }
 {
@@ -153,6 +154,7 @@ pub(crate) fn clear<F: FabricName>(node: u8, seat: &mut TableSeat, fabric: &Fabr
     ensures table { seat.new.table_id ≡ seat.old.table_id }
     ensures part { seat.new.me.0.view.parts ≡ seat.old.me.0.view.parts }
     ensures seen { seat.new.me.0.view.seen ≡ seat.old.me.0.view.seen }
+    ensures caller { seat.new.me.0.view.caller ≡ seat.old.me.0.view.caller }
     ensures held { seat.new.me.1 ≡ seat.old.me.1 }
     ensures slots { SlotsStay seat.old.me seat.new.me }
 {
