@@ -2,6 +2,7 @@ pub mod ActNames
 pub mod Deciding
 pub mod EventNames
 pub mod FirstWords
+pub mod Hearing
 pub mod Logs
 pub mod Names
 pub mod Runs

@@ -1,3 +1,6 @@
+pub mod Hearing
 pub mod Naming
+pub mod Outputs
 pub mod Reading
 pub mod Rules
+pub mod Verdicts

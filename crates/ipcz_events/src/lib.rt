@@ -6,10 +6,15 @@ mod entry;
 mod header;
 mod judging;
 pub mod laws;
+mod log_text;
 mod naming;
+pub mod program;
 mod reading;
+mod verdict;
 
 pub use entry::Entry;
 pub use header::{Header, header_in};
 pub use judging::{first_refused, judge};
+pub use log_text::judge_log;
 pub use reading::entry_in;
+pub use verdict::Verdict;

@@ -1,6 +1,6 @@
 -- Which nodes have a band in a picture.
 use Rattle.std.specs.Prelude.{ℕ, ◌≡◌, Bool, true, false, not, ◌&&◌, ◌||◌, ◌==◌, nat_lt, List, Option, Some, is_some, slice_get}
-use Rattle.std.specs.List.{count_by}
+use Rattle.std.specs.List.{list_any}
 use Rattle.ipcz_lines.specs.declared.line.Event.{Event}
 use Rattle.ipcz_lines.specs.declared.line.Event.TheVariants as events
 use Rattle.ipcz_lines.specs.declared.line.Line.{Line}
@@ -24,13 +24,13 @@ abbrev pub is_of : ℕ → Line → Bool
 is_of node (lines.Turn own event) = (own == node && not (is_idle_turn event)) || meets node event
 is_of node other = false
 
--- how many lines tell it
-abbrev pub line_count : ℕ → List ReadLine → ℕ
-line_count node read = count_by (λ x. is_of node x.line) read
+-- whether some line tells it
+abbrev pub is_told : ℕ → List ReadLine → Bool
+is_told node read = list_any (λ x. is_of node x.line) read
 
 -- whether a node takes part: a line tells it, or a portal of it is named
 abbrev pub takes_part : List ReadLine → List NamedPortal → ℕ → Bool
-takes_part read named node = nat_lt 0 (line_count node read) || nat_lt 0 (portals_at (Some node) named)
+takes_part read named node = is_told node read || nat_lt 0 (portals_at (Some node) named)
 
 -- whether a node is to have a band
 abbrev pub is_shown : Bands → List ReadLine → List NamedPortal → ℕ → Bool

@@ -1,7 +1,7 @@
 //! Which nodes have a band in a picture.
 
 ghost use Rattle.std.specs.Prelude.{◌≡◌};
-ghost use Rattle.ipcz_picture.specs.Bands.{is_of, is_shown, line_count, meets, takes_part};
+ghost use Rattle.ipcz_picture.specs.Bands.{is_of, is_shown, is_told, meets, takes_part};
 ghost use Rattle.ipcz_picture.specs.Rows.{is_idle_turn};
 
 use ipcz_lines::{Event, Line, ReadLine};
@@ -44,18 +44,18 @@ fn is_of(line: &Line, node: u8) -> bool
     }
 }
 
-// How many lines tell that a node takes part.
-fn line_count(lines: &[ReadLine], node: u8) -> usize
-    ensures { result ≡ line_count node lines.now }
+// Whether some line tells that a node takes part.
+fn is_told(lines: &[ReadLine], node: u8) -> bool
+    ensures { result ≡ is_told node lines.now }
 {
-    lines.iter().filter(|read| is_of(&read.line, node)).count()
+    lines.iter().any(|read| is_of(&read.line, node))
 }
 
 // Whether a node takes part.
 fn takes_part(lines: &[ReadLine], named: &[NamedPortal], node: u8) -> bool
     ensures { result ≡ takes_part lines.now named.now node }
 {
-    line_count(lines, node) > 0 || count_of(named, Some(node)) > 0
+    is_told(lines, node) || count_of(named, Some(node)) > 0
 }
 
 /// Whether a node has a band.

@@ -268,6 +268,7 @@ impl<'a> Scene<'a> {
         ensures bounds { IfOk result (λ scene. scene.bounds ≡ bounds) }
         ensures routers { IfOk result (λ scene. scene.routers.now ≡ routers.now) }
         ensures named { IfOk result (λ scene. scene.named.now ≡ named.now) }
+        ensures bands { IfOk result (λ scene. HaveBands (is_shown bands lines.now named.now) scene.nodes.items) }
         ensures nodes { IfOk result (λ scene. length scene.nodes.items ≤ 8) }
     {
         let nodes = node_walls(alloc, bands, lines, routers, lanes, named)?;
