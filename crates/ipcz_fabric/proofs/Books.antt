@@ -1,5 +1,4 @@
 -- What no call changes of a part: its node, and what its history has. Only what is written down behind a call stands there.
-use Rattle.std.specs.Prelude.{MatchResult}
 use Rattle.std.proofs.Common.{◌≡◌, ◌⊎◌, ◌<◌, ℕ, List, [], ◌∷◌, Option, Some, None, Result, Ok, Err, inl, inr, refl, sym, ap, ◌∙◌}
 use Rattle.ipcz_base.specs.declared.end.End.{End}
 use Rattle.ipcz_base.specs.declared.parcel.Parcel as parcels
@@ -22,12 +21,11 @@ use Rattle.ipcz_rule.specs.Rule.{with_state}
 use Rattle.ipcz_rule.specs.Steps.{act_part, written_part, dropped_part, retired_part}
 use Rattle.ipcz_cell.specs.CellStates.{CellState}
 use Rattle.ipcz_cell.specs.Opens.{OpensPair, OpensWord, UnderWay, Fresh, NoneLeft, NoSlot, Unready, Lost, claimed_for_open}
-use Rattle.ipcz_cell.specs.Mails.{source_found}
-use Rattle.ipcz_cell.specs.Parts.{got_part, part_got}
+use Rattle.ipcz_cell.specs.Parts.{part_got}
 use Rattle.ipcz_cell.specs.Retries.{Retries, NobodyWaits, InVain, Anew}
 use Rattle.ipcz_cell.specs.TableNames.{TableName}
 use Rattle.ipcz_cell.specs.TurnChains.{AreTurns, Did, RunsTurns, IsIdleTurn}
-use Rattle.ipcz_cell.specs.TurnEnds.{IsAfter, IsTaken, Turns}
+use Rattle.ipcz_cell.specs.TurnEnds.{IsAfter, Turns}
 use Rattle.ipcz_fabric.specs.Replays.{Changes, ClosesAt, Does, GivesAt, PutsAt}
 
 pub record SameBook (p q : Part) : Type 0 where

@@ -1,7 +1,7 @@
 -- A call more that is written down: what was reached, and what its caller knows.
 use Rattle.std.proofs.Common.{◌≡◌, ◌<◌, ℕ, zero, suc, List, [], ◌∷◌, ◌++◌, refl, sym, subst, ap, ◌∙◌, append_assoc}
 use Rattle.std.proofs.lemmas.List.{append-nil}
-use Rattle.std.specs.Prelude.{Option, None, Some, Result, Ok, Err, MatchResult, OnOk, OnErr, IfOk, IfErr, unwrap_or}
+use Rattle.std.specs.Prelude.{None, Some, Result, Ok, Err, MatchResult, OnOk, OnErr, IfOk, IfErr, unwrap_or}
 use Rattle.ipcz_base.specs.declared.end.End.{End}
 use Rattle.ipcz_base.specs.declared.parcel.Parcel as parcels
 use Rattle.ipcz_base.specs.declared.profile.Profile.{Profile}

@@ -1,5 +1,5 @@
 //! Desks: what lies behind a node's lock. It is the node's cell, whose history tells how its state was reached.
-ghost use Rattle.std.specs.Prelude.{◌≡◌, ◌<◌, ℕ, Result, Ok, Err, true, MatchResult, None, Some, unwrap_or, OnOk, OnErr, IfOk, IfErr};
+ghost use Rattle.std.specs.Prelude.{◌≡◌, ◌<◌, ℕ, Result, Ok, Err, true, MatchResult, None, Some, unwrap_or, OnOk, IfOk, IfErr};
 ghost use Rattle.ipcz_node.specs.Calls.{put_refusal, put_number, get_refusal, got_at, close_refusal, next_sizes};
 ghost use Rattle.ipcz_rule.specs.declared.history.Call.TheVariants as calls;
 ghost use Rattle.ipcz_rule.specs.declared.history.Entry.{Entry};

@@ -1,4 +1,4 @@
-use Rattle.std.proofs.Common.{ap, inl, refl, subst, sym, ◌∙◌}
+use Rattle.std.proofs.Common.{ap, inl, refl, ◌∙◌}
 use Rattle.std.specs.Prelude.{Err}
 use Rattle.ipcz_base.specs.declared.refusal.Refusal.TheVariants.{OutOfMemory}
 use Rattle.ipcz_node.specs.Calls.{next_sizes}
