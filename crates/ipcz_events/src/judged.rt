@@ -5,7 +5,7 @@ use ipcz_base::Bytes;
 pub enum Judged {
     /// The rules allow it.
     Allowed,
-    /// They don't. If there is a text, the line would be allowed with it in place of its own: what the call is answered there, or what the act that
-    /// the event begins with is seen to do.
+    /// They don't. If there is a text, the line is allowed with it in place of its own; if there is none, it is no call, or no act that the event
+    /// begins with can be taken.
     Refused(Option<Bytes>),
 }

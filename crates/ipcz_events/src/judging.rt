@@ -156,8 +156,9 @@ fn judge_act(
 }
 
 /// Judges the next line of a log, in the session that the lines before it led to: whether the rules allow it there, in which case the session is
-/// the one behind it. Else no act that is possible there is seen to do what the line says, or the call isn't answered so; and it is told what would
-/// be allowed there, if the act that the event begins with is possible, or it is a call. Then, as after an `Err`, the session is of no more use.
+/// the one behind it. Else no act that is possible there is seen to do what the line says, or the call isn't answered so. Then a text is told that
+/// is allowed in place of the line's own, of a call and of an event that begins with an act that the node can take; and the session is of no more
+/// use, as after an `Err`.
 ///
 /// So where a router locks its word, an event `r2 wait C1 547` is refused, and `r2 lock C1 547` is told.
 pub fn judge(alloc: Global, session: &mut Session, entry: &Entry) -> Result<Judged, AllocError>
