@@ -1,7 +1,8 @@
 -- There is one session behind a line, since its text names one act.
-use Rattle.std.specs.Prelude.{◌≡◌, ◌≢◌, ◌<◌, ℕ, Bool, true, false, nat_lt, List, MatchBool, IfOk, Result, Ok, Err, Option, Some, None, is_some, option_map, if◌then◌else◌}
+use Rattle.std.specs.Prelude.{◌≡◌, ◌<◌, ◌-◌, ◌++◌, ◌∷◌, [], ℕ, true, false, nat_lt, List, length, take, Option, Some, None, is_some, option_map, if◌then◌else◌}
 use Rattle.std.proofs.Common.{ap, ◌∙◌, sym, subst, refl, arith, inl, inr}
 use Rattle.std.proofs.lemmas.Bool.{and_parts}
+use Rattle.std.proofs.lemmas.List.{append_cancel_right, length-append, take_at}
 use Rattle.std.proofs.lemmas.Bool.Decides.{nat_tests}
 use Rattle.ipcz_node.specs.declared.act.Act.{Act}
 use Rattle.ipcz_node.specs.declared.act.Act.TheVariants as acts
@@ -16,14 +17,19 @@ use Rattle.ipcz_world.proofs.runs.NodeSteps.{hand-is}
 use Rattle.ipcz_script.specs.declared.command.Command.{Command}
 use Rattle.ipcz_script.specs.declared.command.Command.TheVariants as commands
 use Rattle.ipcz_script.specs.declared.said.Said.{Said}
+use Rattle.ipcz_script.specs.Bindings.{Titles}
 use Rattle.ipcz_script.specs.EventTexts.{event_text}
+use Rattle.ipcz_script.specs.Lines.{head_of, lines_of, tail_of}
 use Rattle.ipcz_script.specs.Sessions.{Runs, Session, with_world}
 use Rattle.ipcz_events.specs.declared.entry.Entry.{Entry}
 use Rattle.ipcz_events.specs.declared.entry.Entry.TheVariants as entries
 use Rattle.ipcz_events.specs.declared.naming.Named.{Named}
 use Rattle.ipcz_events.specs.declared.naming.Named.TheVariants as named
 use Rattle.ipcz_events.specs.Naming.{IsNamedBy, NameHasBits, behind_word, first_word, name_of}
-use Rattle.ipcz_events.specs.Rules.{ActHasBits, Decides, EventsTellActs, MayEntry, is_call}
+use Rattle.ipcz_events.specs.declared.judged.Judged.{Judged}
+use Rattle.ipcz_events.specs.declared.judged.Judged.TheVariants as judged
+use Rattle.ipcz_events.specs.Judging.{BeginsWith, HasNone, IsCompared, Judges}
+use Rattle.ipcz_events.specs.Rules.{ActHasBits, EventsTellActs, MayEntry, is_call}
 use Rattle.ipcz_events.proofs.ActNames.{acted_name}
 use Rattle.ipcz_events.proofs.EventNames.{begins}
 use Rattle.ipcz_events.proofs.Names.{letter, name_bits, names_one}
@@ -96,30 +102,30 @@ act_one w n a b name one two = absurd (omega (arith, ap letter name))
 
 -- ---- the act that is found
 
+-- what could be taken is possible
+can_be : (w : World) (n : ℕ) (act : Act) (event : Happened) (v : World) → IsActed w n act event v → can_act w n act ≡ true
+can_be w n act event v is = possible is.node is.possible
+  where
+    possible : n < w.count → can_take w n act ≡ true → can_act w n act ≡ true
+    possible l t = let here : nat_lt n w.count ≡ true = grind (arith, l, nat_tests) in rw (here, t) refl
+
 module _ (w : World) (n : ℕ) (text : List ℕ) (o : Option Named)
     (only : (name : Named) → IsNamedBy (first_word text) (behind_word text) name → NameHasBits name → o ≡ Some name) where
-  name_found : (act : Act) → ActHasBits act → (event : Happened) → (v : World) → IsActed w n act event v → event_text event ≡ text →
-      o ≡ Some (name_of act)
-  name_found act bits event v is same = only (name_of act) (names_it w n act event v text is same) (name_bits act bits)
+  begun : (act : Act) → ActHasBits act → BeginsWith text act → o ≡ Some (name_of act)
+  begun act bits begins = only (name_of act) begins (name_bits act bits)
 
-  -- a text that names nothing is none of an act
-  pub none_found : o ≡ None → (act : Act) → ActHasBits act → (event : Happened) → (v : World) → IsActed w n act event v →
-      event_text event ≡ text → None ≡ Some act
-  none_found none act bits event v is same =
-      absurd (let e : None ≡ Some (name_of act) = sym none ∙ name_found act bits event v is same in cc)
+  -- a text that names nothing begins with no act
+  pub none_begun : o ≡ None → (act : Act) → ActHasBits act → BeginsWith text act → can_act w n act ≡ true → None ≡ Some act
+  none_begun none act bits begins can = absurd (let e : None ≡ Some (name_of act) = sym none ∙ begun act bits begins in cc)
 
-  -- and another is of the act that is found by its name
-  pub some_found : (name : Named) (found : Option Act) → o ≡ Some name →
+  -- and another with the act that is found by its name
+  pub some_begun : (name : Named) (found : Option Act) → o ≡ Some name →
       ((act : Act) → name_of act ≡ name → can_act w n act ≡ true → found ≡ Some act) →
-      (act : Act) → ActHasBits act → (event : Happened) → (v : World) → IsActed w n act event v → event_text event ≡ text → found ≡ Some act
-  some_found name found some rest act bits event v is same =
-      rest act (same_name (sym (name_found act bits event v is same) ∙ some)) (possible is.node is.possible)
+      (act : Act) → ActHasBits act → BeginsWith text act → can_act w n act ≡ true → found ≡ Some act
+  some_begun name found some rest act bits begins can = rest act (same_name (sym (begun act bits begins) ∙ some)) can
     where
       same_name : Some (name_of act) ≡ Some name → name_of act ≡ name
       same_name e = cc
-
-      possible : n < w.count → can_take w n act ≡ true → can_act w n act ≡ true
-      possible l t = let here : nat_lt n w.count ≡ true = grind (arith, l, nat_tests) in rw (here, t) refl
 
 -- ---- one act that prints so, and one session behind it
 
@@ -139,39 +145,81 @@ one_way s t u (entries.Acted node text) one two =
     events_tell_acts s.world t.world u.world node one.0 two.0 one.1 two.1 one.2 two.2 one.3 two.3 (one.4 ∙ sym two.4) in
     one.5 ∙ ap (with_world s) (one.3.after ∙ ap (after_act s.world node) same ∙ sym two.3.after) ∙ sym two.5
 
--- ---- a line of an act is decided by the act that was found
+-- ---- a line of a call is judged by its answer
 
-module _ (s : Session) (n : ℕ) (text : List ℕ) (o : Option Act)
-    (only : (act : Act) → ActHasBits act → (event : Happened) → (w : World) → IsActed s.world n act event w → event_text event ≡ text →
-    o ≡ Some act) (act : Act) (is : o ≡ Some act) where
-  same_act : (a : Act) → o ≡ Some a → a ≡ act
-  same_act a e = let both : Some a ≡ Some act = sym e ∙ is in cc
+-- a call's answer is one line
+one_line : (titles : Titles) (c : Command) (said : Said) → is_call c ≡ true → lines_of titles c said ≡ (head_of c ++ tail_of titles said) ++ 10 ∷ []
+one_line titles (commands.Turn node count) said call = absurd (let e : false ≡ true = call in cc)
+one_line titles (commands.Settle limit) said call = absurd (let e : false ≡ true = call in cc)
+one_line titles c said call = refl
 
-  -- whichever act may have been seen is the one that was found
-  found_acted : (u : Session) → (may : MayEntry s (entries.Acted n text) u) → IsActed s.world n act may.1 u.world
-  found_acted u may =
-      subst (λ a. IsActed s.world n a may.1 u.world) (same_act may.0 (only may.0 may.2 may.1 u.world may.3 may.4)) may.3
+but_last : (xs : List ℕ) (b : ℕ) → take (length (xs ++ b ∷ []) - 1) (xs ++ b ∷ []) ≡ xs
+but_last xs b = take_at xs (b ∷ []) (length (xs ++ b ∷ []) - 1) (omega (arith, length-append xs (b ∷ [])))
 
-  pub never_possible : can_act s.world n act ≡ false → (u : Session) → MayEntry s (entries.Acted n text) u → ⊥
-  never_possible cannot u may =
-      let acted = found_acted u may in
-      let here : nat_lt n s.world.count ≡ true = grind (arith, acted.node, nat_tests) in
-      let yes : can_act s.world n act ≡ true = rw (here, acted.possible) refl in
-      let both : true ≡ false = sym yes ∙ cannot in cc
+-- without its last byte, and with a line feed behind, it is the same
+pub but_feed : (titles : Titles) (c : Command) (said : Said) (text front : List ℕ) → is_call c ≡ true → text ≡ lines_of titles c said →
+    front ≡ take (length text - 1) text → lines_of titles c said ≡ front ++ 10 ∷ []
+but_feed titles c said text front call is cut =
+    let whole : List ℕ = head_of c ++ tail_of titles said in
+    let line : lines_of titles c said ≡ whole ++ 10 ∷ [] = one_line titles c said call in
+    line ∙ ap (λ x. x ++ 10 ∷ []) (sym (cut ∙ ap (λ x. take (length x - 1) x) (is ∙ line) ∙ but_last whole 10))
 
-  pub never_wanting : WhyNotTaken s.world n act (why.Refused NumbersEnd) → (u : Session) → MayEntry s (entries.Acted n text) u → ⊥
-  never_wanting wants u may = elim wants.1 [
-    | inl lacks ↦ let both : true ≡ false = sym lacks.1 ∙ (found_acted u may).serials in cc
-    | inr other ↦ let both : NumbersEnd ≡ OutOfMemory = other.0 in cc
-  ]
+pub no_call : (s t : Session) (c : Command) (line : List ℕ) → is_call c ≡ false → Judges s (entries.Call c line) (judged.Refused None) t
+no_call s t c line other = ((λ u may. let both : true ≡ false = sym may.1 ∙ other in cc), other)
 
-  module _ (bits : ActHasBits act) (event : Happened) (t : Session) (acted : IsActed s.world n act event t.world)
-      (kept : t ≡ with_world s t.world) where
-    by_text : (b : Bool) → MatchBool b (event_text event ≡ text) (event_text event ≢ text) → Decides s (entries.Acted n text) b t
-    by_text true same = (act, event, bits, acted, same, kept)
-    by_text false other = λ u may. other (ap event_text (acted.seen ∙ sym (found_acted u may).seen) ∙ may.4)
+pub call_judged : (s t : Session) (c : Command) (line : List ℕ) (said : Said) (text : List ℕ) (j : Judged) → is_call c ≡ true → Runs s c said t →
+    lines_of t.titles c said ≡ text ++ 10 ∷ [] → IsCompared text line j → Judges s (entries.Call c line) j t
+call_judged s t c line said text judged.Allowed call runs is same = (said, call, runs, is ∙ ap (λ x. x ++ 10 ∷ []) same)
+call_judged s t c line said text (judged.Refused None) call runs is same = absurd same
+call_judged s t c line said text (judged.Refused (Some told)) call runs is same = (
+  (λ u may.
+      let one = runs_one s t u c said may.0 call runs may.2 in
+      same.0 (append_cancel_right text line (10 ∷ [])
+      (sym is ∙ ap (λ x. lines_of t.titles c x) one.0 ∙ ap (λ x. lines_of x.titles c may.0) one.1 ∙ may.3))),
+  (t, (said, call, runs, is ∙ ap (λ x. x ++ 10 ∷ []) (sym same.1))),
+)
 
-    pub decides_printed : {E : Type 0} (r : Result Bool E) → IfOk r (λ same. MatchBool same (event_text event ≡ text) (event_text event ≢ text)) →
-        IfOk r (λ allowed. Decides s (entries.Acted n text) allowed t)
-    decides_printed (Ok b) printed = by_text b printed
-    decides_printed (Err e) printed = tt
+-- ---- a line of an act is judged by the act that was found
+
+same_act : (o : Option Act) (a b : Act) → o ≡ Some a → o ≡ Some b → a ≡ b
+same_act o a b one two = let both : Some a ≡ Some b = sym one ∙ two in cc
+
+-- no act that the text begins with can be taken, so none is seen
+none_acted : (s t : Session) (n : ℕ) (text : List ℕ) → HasNone s (entries.Acted n text) → Judges s (entries.Acted n text) (judged.Refused None) t
+none_acted s t n text none =
+    ((λ u may. none may.0 may.1 u.world may.2 (names_it s.world n may.0 may.1 u.world text may.3 may.4) may.3), none)
+
+module _ (s t : Session) (n : ℕ) (text : List ℕ) (o : Option Act)
+    (only : (act : Act) → ActHasBits act → BeginsWith text act → can_act s.world n act ≡ true → o ≡ Some act) where
+  -- whichever act can be taken that the text begins with is the one that was found
+  found_one : (act : Act) (event : Happened) (w : World) → ActHasBits act → BeginsWith text act → IsActed s.world n act event w → o ≡ Some act
+  found_one act event w bits begins is = only act bits begins (can_be s.world n act event w is)
+
+  pub not_found : o ≡ None → Judges s (entries.Acted n text) (judged.Refused None) t
+  not_found none = none_acted s t n text (λ act event w bits begins is.
+      let both : None ≡ Some act = sym none ∙ found_one act event w bits begins is in cc)
+
+  module _ (act : Act) (here : o ≡ Some act) where
+    same_acted : (a : Act) (event : Happened) (w : World) → ActHasBits a → BeginsWith text a → IsActed s.world n a event w → IsActed s.world n act event w
+    same_acted a event w bits begins is = subst (λ x. IsActed s.world n x event w) (same_act o a act (found_one a event w bits begins is) here) is
+
+    pub not_possible : can_act s.world n act ≡ false → Judges s (entries.Acted n text) (judged.Refused None) t
+    not_possible cannot = none_acted s t n text (λ a event w bits begins is.
+        let both : true ≡ false = sym (can_be s.world n act event w (same_acted a event w bits begins is)) ∙ cannot in cc)
+
+    pub not_wanted : WhyNotTaken s.world n act (why.Refused NumbersEnd) → Judges s (entries.Acted n text) (judged.Refused None) t
+    not_wanted wants = none_acted s t n text (λ a event w bits begins is. elim wants.1 [
+      | inl lacks ↦ let both : true ≡ false = sym lacks.1 ∙ (same_acted a event w bits begins is).serials in cc
+      | inr other ↦ let both : NumbersEnd ≡ OutOfMemory = other.0 in cc
+    ])
+
+    pub act_judged : (event : Happened) (seen : List ℕ) (j : Judged) → ActHasBits act → IsActed s.world n act event t.world → t ≡ with_world s t.world →
+        seen ≡ event_text event → IsCompared seen text j → Judges s (entries.Acted n text) j t
+    act_judged event seen judged.Allowed bits is kept printed same = (act, event, bits, is, sym printed ∙ same, kept)
+    act_judged event seen (judged.Refused None) bits is kept printed same = absurd same
+    act_judged event seen (judged.Refused (Some told)) bits is kept printed same = (
+      (λ u may.
+          let other = same_acted may.0 may.1 u.world may.2 (names_it s.world n may.0 may.1 u.world text may.3 may.4) may.3 in
+          same.0 (printed ∙ ap event_text (is.seen ∙ sym other.seen) ∙ may.4)),
+      (t, (act, event, bits, is, sym printed ∙ sym same.1, kept)),
+    )

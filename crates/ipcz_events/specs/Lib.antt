@@ -1,4 +1,5 @@
 pub mod Hearing
+pub mod Judging
 pub mod Naming
 pub mod Outputs
 pub mod Reading

@@ -2,7 +2,7 @@
 --
 -- A line is a call of a caller with the line that its answer prints, or a node with the text that some act of it prints. Nodes take their possible
 -- acts in any order, where a run of a script takes the first one; nothing else happens between two lines.
-use Rattle.std.specs.Prelude.{◌≡◌, ◌<◌, ◌^◌, ℕ, suc, Bool, true, false, List, [], ◌∷◌, ◌++◌, length, take, MatchBool, Option, Some, None}
+use Rattle.std.specs.Prelude.{◌≡◌, ◌<◌, ◌^◌, ℕ, suc, Bool, true, false, List, [], ◌∷◌, ◌++◌, length, take, Option, Some, None}
 use Rattle.ipcz_node.specs.declared.act.Act.{Act}
 use Rattle.ipcz_node.specs.declared.act.Act.TheVariants as acts
 use Rattle.ipcz_node.specs.declared.happened.Happened.{Happened}
@@ -59,10 +59,6 @@ MayLog s (entry ∷ log) t = (u : Session) × MayEntry s entry u × MayLog u log
 -- a log of an implementation with so many nodes and link words is allowed
 abbrev pub IsAllowed : ℕ → ℕ → List Entry → Type 0
 IsAllowed nodes words log = (t : Session) × MayLog (new_session nodes words) log t
-
--- a line was judged: it is allowed, and leads there; or there is no way that it is
-abbrev pub Decides : Session → Entry → Bool → Session → Type 0
-Decides s entry allowed t = MatchBool allowed (MayEntry s entry t) ((u : Session) → MayEntry s entry u → ⊥)
 
 -- what is said of a log: it is allowed; or this is the first line of it, counted from 0, that isn't: the lines before it are allowed, and there is no
 -- way that they are with it

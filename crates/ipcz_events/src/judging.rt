@@ -1,20 +1,21 @@
 //! Judging a log with events: the session takes each call and each act that the text of an event begins with, and what these print is compared.
 
-ghost use Rattle.std.specs.Prelude.{◌≡◌, ◌≢◌, ◌++◌, ◌∷◌, [], true, Some, MatchBool, IfOk, IfSome};
+ghost use Rattle.std.specs.Prelude.{◌≡◌, ◌≢◌, ◌-◌, ◌++◌, ◌∷◌, [], true, length, take, Some, MatchBool, IfOk, IfSome};
 ghost use Rattle.ipcz_node.specs.declared.act.Act.{Act};
-ghost use Rattle.ipcz_node.specs.declared.happened.Happened.{Happened};
-ghost use Rattle.ipcz_world.specs.Asking.{IsActed, can_act};
-ghost use Rattle.ipcz_world.specs.World.{World};
+ghost use Rattle.ipcz_world.specs.Asking.{can_act};
 ghost use Rattle.ipcz_script.specs.EventTexts.{event_text};
+ghost use Rattle.ipcz_script.specs.Lines.{lines_of};
 ghost use Rattle.ipcz_script.specs.ScriptLimits.{HasScriptLimits};
+ghost use Rattle.ipcz_events.specs.Judging.{BeginsWith, IsCompared, Judges};
 ghost use Rattle.ipcz_events.specs.Naming.{NameHasBits, name_of};
-ghost use Rattle.ipcz_events.specs.Rules.{ActHasBits, Decides, IsVerdictOf, is_call};
+ghost use Rattle.ipcz_events.specs.Rules.{ActHasBits, IsVerdictOf, is_call};
 
 use crate::entry::Entry;
+use crate::judged::Judged;
 use crate::naming::{Named, named_in};
-use ipcz_base::Refusal;
+use ipcz_base::{Bytes, Refusal};
 use ipcz_node::{Act, Happened};
-use ipcz_script::{Command, Session, push_answer, push_event};
+use ipcz_script::{Command, Said, Session, Titles, push_answer, push_event};
 use ipcz_world::NotTaken;
 use std::alloc::{AllocError, Global};
 
@@ -32,15 +33,6 @@ fn is_call(command: &Command) -> bool
     }
 }
 
-// A text with a line feed behind it.
-fn with_line_feed(alloc: Global, text: &str) -> Result<Vec<u8>, AllocError>
-    ensures { IfOk result (λ line. line.items ≡ text.now ++ 10 ∷ []) }
-{
-    let mut line = Vec::from_slice(alloc, text.as_bytes())?;
-    line.push(b'\n')?;
-    Ok(line)
-}
-
 // Whether two texts are the same.
 #[tactic(auto, using(crate::proofs::Texts::decided))]
 fn is_same(text: &[u8], other: &[u8]) -> bool
@@ -49,15 +41,48 @@ fn is_same(text: &[u8], other: &[u8]) -> bool
     text == other
 }
 
-// Whether an event prints so.
-fn prints(alloc: Global, event: &Happened, text: &str) -> Result<bool, AllocError>
-    ensures { IfOk result (λ same. MatchBool same (event_text event.now ≡ text.now) (event_text event.now ≢ text.now)) }
+// What is said of a line with this text where that one is allowed.
+fn compared(printed: Vec<u8>, text: &str) -> Judged
+    ensures { IsCompared printed.items text.now result }
 {
-    let mut printed = Vec::new(alloc);
-    let Ok(()) = push_event(&mut printed, event) else {
+    if is_same(&printed, text.as_bytes()) {
+        Judged::Allowed
+    } else {
+        Judged::Refused(Some(Bytes::from_vec(printed)))
+    }
+}
+
+// The text of an event.
+fn printed(alloc: Global, event: &Happened) -> Result<Vec<u8>, AllocError>
+    ensures { IfOk result (λ text. text.items ≡ event_text event.now) }
+{
+    let mut text = Vec::new(alloc);
+    let Ok(()) = push_event(&mut text, event) else {
         return Err(AllocError);
     };
-    Ok(is_same(&printed, text.as_bytes()))
+    Ok(text)
+}
+
+// A text without its last byte.
+fn without_last(text: &[u8]) -> &[u8]
+    ensures { result.now ≡ take (length text.now - 1) text.now }
+{
+    &text[..text.len().saturating_sub(1)]
+}
+
+// The line that a call's answer prints, without its line feed.
+fn answered(
+    alloc: Global,
+    titles: &Titles,
+    command: &Command,
+    said: &Said,
+) -> Result<Vec<u8>, AllocError>
+    requires { is_call command.now ≡ true }
+    ensures { IfOk result (λ line. lines_of titles.now command.now said.now ≡ line.items ++ 10 ∷ []) }
+{
+    let mut text = Vec::new(alloc);
+    push_answer(&mut text, titles, command, said)?;
+    Vec::from_slice(alloc, without_last(text.as_slice()))
 }
 
 // The only act of a node that can be the one that is named, if some can.
@@ -85,24 +110,21 @@ fn judge_call(
     session: &mut Session,
     command: &Command,
     line: &str,
-) -> Result<bool, AllocError>
-    ensures { IfOk result (λ allowed. Decides session.old (Entry.Call command.now line.now) allowed session.new) }
+) -> Result<Judged, AllocError>
+    ensures { IfOk result (λ judged. Judges session.old (Entry.Call command.now line.now) judged session.new) }
 {
     if !is_call(command) {
-        return Ok(false);
+        return Ok(Judged::Refused(None));
     }
     let said = session.run(command)?;
-    let mut text = Vec::new(alloc);
-    push_answer(&mut text, session.titles(), command, &said)?;
-    let line = with_line_feed(alloc, line)?;
-    Ok(is_same(&text, &line))
+    let text = answered(alloc, session.titles(), command, &said)?;
+    Ok(compared(text, line))
 }
 
-// The only act of a node whose event can print so, if some can.
-fn act_printed(session: &Session, node: u8, text: &str) -> Option<Act>
+// The only act of a node that the text of an event can begin with, if some can.
+fn act_begun(session: &Session, node: u8, text: &str) -> Option<Act>
     ensures some { IfSome result (λ act. ActHasBits act) }
-    ensures only { (act : Act) → ActHasBits act → (event : Happened) → (w : World) → IsActed session.now.world node act event w →
-        event_text event ≡ text.now → result ≡ Some act }
+    ensures only { (act : Act) → ActHasBits act → BeginsWith text.now act → can_act session.now.world node act ≡ true → result ≡ Some act }
 {
     match named_in(text.as_bytes()) {
         Some(name) => act_of(session, node, name),
@@ -111,25 +133,36 @@ fn act_printed(session: &Session, node: u8, text: &str) -> Option<Act>
 }
 
 // Judges what a node was seen to do.
-fn judge_act(alloc: Global, session: &mut Session, node: u8, text: &str) -> Result<bool, AllocError>
-    ensures { IfOk result (λ allowed. Decides session.old (Entry.Acted node text.now) allowed session.new) }
+fn judge_act(
+    alloc: Global,
+    session: &mut Session,
+    node: u8,
+    text: &str,
+) -> Result<Judged, AllocError>
+    ensures { IfOk result (λ judged. Judges session.old (Entry.Acted node text.now) judged session.new) }
 {
-    let Some(act) = act_printed(session, node, text) else {
-        return Ok(false);
+    let Some(act) = act_begun(session, node, text) else {
+        return Ok(Judged::Refused(None));
     };
     match session.act(node, act) {
-        Ok(happened) => prints(alloc, &happened, text),
-        Err(NotTaken::NotPossible) => Ok(false),
-        Err(NotTaken::Refused(Refusal::NumbersEnd)) => Ok(false),
+        Ok(happened) => {
+            let seen = printed(alloc, &happened)?;
+            Ok(compared(seen, text))
+        }
+        Err(NotTaken::NotPossible) => Ok(Judged::Refused(None)),
+        Err(NotTaken::Refused(Refusal::NumbersEnd)) => Ok(Judged::Refused(None)),
         Err(NotTaken::Refused(_)) => Err(AllocError),
     }
 }
 
 /// Judges the next line of a log, in the session that the lines before it led to: whether the rules allow it there, in which case the session is
-/// the one behind it. Else no act that is possible there is seen to do what the line says, or the call isn't answered so; then, as after an `Err`,
-/// the session is of no more use.
-pub fn judge(alloc: Global, session: &mut Session, entry: &Entry) -> Result<bool, AllocError>
-    ensures { IfOk result (λ allowed. Decides session.old entry.now allowed session.new) }
+/// the one behind it. Else no act that is possible there is seen to do what the line says, or the call isn't answered so. Then a text is told that
+/// is allowed in place of the line's own, of a call and of an event that begins with an act that the node can take; and the session is of no more
+/// use, as after an `Err`.
+///
+/// So where a router locks its word, an event `r2 wait C1 547` is refused, and `r2 lock C1 547` is told.
+pub fn judge(alloc: Global, session: &mut Session, entry: &Entry) -> Result<Judged, AllocError>
+    ensures { IfOk result (λ judged. Judges session.old entry.now judged session.new) }
 {
     match entry {
         Entry::Call { command, line } => judge_call(alloc, session, command, line.as_str()),
@@ -153,8 +186,9 @@ pub fn first_refused(
     let mut session = Session::new(alloc, nodes, words)?;
     let mut number = 0usize;
     for entry in log {
-        if !judge(alloc, &mut session, entry)? {
-            return Ok(Some(number));
+        match judge(alloc, &mut session, entry)? {
+            Judged::Allowed => {}
+            Judged::Refused(_) => return Ok(Some(number)),
         }
         number = number.checked_add(1).ok_or(AllocError)?;
     }

@@ -4,6 +4,7 @@
 
 mod entry;
 mod header;
+mod judged;
 mod judging;
 pub mod laws;
 mod log_text;
@@ -14,6 +15,7 @@ mod verdict;
 
 pub use entry::Entry;
 pub use header::{Header, header_in};
+pub use judged::Judged;
 pub use judging::{first_refused, judge};
 pub use log_text::judge_log;
 pub use reading::entry_in;

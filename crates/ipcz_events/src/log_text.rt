@@ -9,6 +9,7 @@ ghost use Rattle.ipcz_events.specs.Verdicts.{IsHeader, IsLine, IsSaidOf, IsVerdi
 
 use crate::entry::Entry;
 use crate::header::{Header, header_in};
+use crate::judged::Judged;
 use crate::judging::judge;
 use crate::reading::entry_in;
 use crate::verdict::Verdict;
@@ -78,10 +79,9 @@ fn hear(alloc: Global, session: &mut Session, nodes: u8, bytes: &[u8]) -> Result
     let Some(entry) = read_line(alloc, nodes, bytes)? else {
         return Ok(Heard::NoLine);
     };
-    if judge(alloc, session, &entry)? {
-        Ok(Heard::Allowed)
-    } else {
-        Ok(Heard::Refused)
+    match judge(alloc, session, &entry)? {
+        Judged::Allowed => Ok(Heard::Allowed),
+        Judged::Refused(_) => Ok(Heard::Refused),
     }
 }
 
