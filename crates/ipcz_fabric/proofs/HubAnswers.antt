@@ -11,7 +11,7 @@ use Rattle.ipcz_node.specs.declared.act.Act.{Act}
 use Rattle.ipcz_rule.specs.declared.view.Part.{Part}
 use Rattle.ipcz_cell.specs.TurnEnds.{IsRefused, NoSerials, NoMemory, LostIt}
 use Rattle.ipcz_cell.specs.TurnChains.{IsIdleTurn, RunsTurns}
-use Rattle.ipcz_fabric.specs.Hubs.{ArePair, IsOpenRefusal, IsTurnRefusal, OpensPortals, opened_portals}
+use Rattle.ipcz_fabric.specs.Hubs.{ArePair, IsOpenRefusal, IsTurnRefusal, LeavesOpened, OpensPortals, opened_portals}
 use Rattle.ipcz_cell.specs.Opens.{OpensPair, OpensWord, UnderWay, Fresh, NoneLeft, NoSlot, Unready, Lost}
 use Rattle.ipcz_fabric.specs.Portals.{PortalValue, portal_at}
 
@@ -73,6 +73,11 @@ refused_by : (t : TableName) (node : ℕ) (old new : CellState) (why : Refusal) 
 unfolding portals_why
 refused_by t node old new why (Ok ends) opens is = cc
 refused_by t node old new why (Err other) opens is = subst IsOpenRefusal (sym (ap (portals_why why) is)) (open_why t old new other opens)
+
+-- the open of portals that was written down
+pub portals_opened : (t : TableName) (node by : ℕ) (old : CellState) (answer : Result (PortalValue × PortalValue) Refusal) (new : CellState) →
+    LeavesOpened t node by old answer new → (done : CellState) × OpensPortals t node old answer done
+portals_opened t node by old answer new h = (h.2.0, (h.0, h.2.1, h.1))
 
 -- an open of portals is refused for one of these
 pub portals_refused : (t : TableName) (node : ℕ) (old new : CellState) (answer : Result (PortalValue × PortalValue) Refusal) →

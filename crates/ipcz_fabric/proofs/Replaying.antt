@@ -22,7 +22,7 @@ use Rattle.ipcz_cell.specs.Parts.{got_part}
 use Rattle.ipcz_cell.specs.TableNames.{TableName}
 use Rattle.ipcz_fabric.specs.Places.{IsCellOf, IsRefusedInOrder}
 use Rattle.ipcz_fabric.specs.Portals.{wants_list}
-use Rattle.ipcz_fabric.specs.Replays.{Changes, PutsAt, GivesAt, ClosesAt, Does, Replays, IsReached, Extends, ExtendsInTurn, entered, tries}
+use Rattle.ipcz_fabric.specs.Replays.{Changes, PutsAt, GivesAt, ClosesAt, Does, Replays, IsReached, Extends, ExtendsInTurn, LeavesPart, entered, tries}
 use Rattle.ipcz_fabric.proofs.Books.{same_book}
 
 -- a call more at the end
@@ -110,6 +110,41 @@ pub closes_by : (at : End) (p q : Part) (r : Result ℕ Refusal) → OnOk r (clo
     OnOk r (q ≡ close_part at p) → IfErr r (λ e. e ≡ unwrap_or (close_refusal p.state at) refusals.OutOfMemory) → OnErr r (q ≡ p) → ClosesAt at r p q
 closes_by at p q (Ok n) allowed number ok why err = (allowed, number, ok)
 closes_by at p q (Err e) allowed number ok why err = (why, err)
+
+-- what was left by a call that was then written down
+pub left_part : (by : ℕ) (call : Call) (Then : Part → Part) (o old done new : CellState) → o ≡ old → done.part ≡ Then o.part → done.seen ≡ o.seen →
+    new.part ≡ noted (entry_of done.part.node by call) done.part → new.seen ≡ done.seen → LeavesPart by call (Then old.part) old new
+left_part by call Then o old done new is did seen told again = subst (λ (x : CellState). LeavesPart by call (Then x.part) x new) is
+    (told ∙ ap (λ (p : Part). noted (entry_of p.node by call) p) did, again ∙ seen)
+
+-- by one that changes nothing if it is refused
+pub left_by : {A E : Type 0} (by : ℕ) (call : Call) (Then : Part → Part) (r : Result A E) (o old done new : CellState) → o ≡ old →
+    OnOk r (done.part ≡ Then o.part) → OnErr r (done.part ≡ o.part) → done.seen ≡ o.seen →
+    new.part ≡ noted (entry_of done.part.node by call) done.part → new.seen ≡ done.seen →
+    MatchResult r (λ a. LeavesPart by call (Then old.part) old new) (λ e. LeavesPart by call old.part old new)
+left_by by call Then (Ok a) o old done new is ok err seen told again = left_part by call Then o old done new is ok seen told again
+left_by by call Then (Err e) o old done new is ok err seen told again = left_part by call (λ p. p) o old done new is err seen told again
+
+-- and by one whose answer was told
+pub left_told : {E : Type 0} (why : E → Refusal) (by : ℕ) (puts : Result ℕ Refusal → Call) (Then : Part → Part) (r : Result ℕ E) (answer : Result ℕ Refusal)
+    (old done new : CellState) → MatchResult r (λ n. answer ≡ Ok n) (λ e. answer ≡ Err (why e)) → OnOk r (done.part ≡ Then old.part) → OnErr r (done.part ≡ old.part) →
+    done.seen ≡ old.seen → new.part ≡ noted (entry_of done.part.node by (puts answer)) done.part → new.seen ≡ done.seen →
+    MatchResult r (λ n. LeavesPart by (puts (Ok n)) (Then old.part) old new) (λ e. LeavesPart by (puts (Err (why e))) old.part old new)
+left_told why by puts Then (Ok n) answer old done new is ok err seen told again =
+    subst (λ (a : Result ℕ Refusal). LeavesPart by (puts a) (Then old.part) old new) is (left_part by (puts answer) Then old old done new refl ok seen told again)
+left_told why by puts Then (Err e) answer old done new is ok err seen told again =
+    subst (λ (a : Result ℕ Refusal). LeavesPart by (puts a) old.part old new) is (left_part by (puts answer) (λ p. p) old old done new refl err seen told again)
+
+-- and of a cell as it was seen
+pub left_seen : {E : Type 0} (why : E → Refusal) (by : ℕ) (puts : Result ℕ Refusal → Call) (Then : Part → Part) (r : Result ℕ E) (o old new : CellState) → o ≡ old →
+    MatchResult r (λ n. LeavesPart by (puts (Ok n)) (Then o.part) o new) (λ e. LeavesPart by (puts (Err (why e))) o.part o new) →
+    MatchResult r (λ n. LeavesPart by (puts (Ok n)) (Then old.part) old new) (λ e. LeavesPart by (puts (Err (why e))) old.part old new)
+left_seen why by puts Then r o old new is left = subst
+    (λ (x : CellState). MatchResult r (λ n. LeavesPart by (puts (Ok n)) (Then x.part) x new) (λ e. LeavesPart by (puts (Err (why e))) x.part x new)) is left
+
+-- a caller stays who it is
+pub same_id : (t : TableName) (node : ℕ) (call : Call) (c c' : CallerView) → Extends t node call c c' → c'.id ≡ c.id
+same_id t node call c c' h = ap (λ (x : CallerView). x.id) h.after
 
 -- what holds of the answer that was told
 pub by_told : {E : Type 0} (why : E → Refusal) (Holds : Result ℕ Refusal → Type 0) (r : Result ℕ E) (told : Result ℕ Refusal) →

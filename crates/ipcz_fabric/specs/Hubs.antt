@@ -15,13 +15,12 @@ use Rattle.ipcz_cell.specs.CellStates.{CellState}
 use Rattle.ipcz_cell.specs.Opens.{OpensPair}
 use Rattle.ipcz_fabric.specs.Places.{CellWhere}
 use Rattle.ipcz_fabric.specs.Portals.{PortalValue, portal_at, portals_at}
-use Rattle.ipcz_fabric.specs.Replays.{Extends, IsNotedCell}
+use Rattle.ipcz_fabric.specs.Replays.{Extends, Leaves}
 use Rattle.ipcz_cell.specs.TurnChains.{RunsTurns}
 use Rattle.ipcz_cell.specs.TurnEnds.{Turns}
 use Rattle.ipcz_cell.specs.Retries.{Retries}
 use Rattle.ipcz_rule.specs.declared.history.Call.TheVariants as calls
 use Rattle.ipcz_rule.specs.declared.history.CallerView.{CallerView}
-use Rattle.ipcz_rule.specs.declared.history.Entry.{Entry}
 use Rattle.ipcz_rule.specs.declared.retry.Retry.{Retry}
 use Rattle.ipcz_rule.specs.declared.retry.Retry.TheVariants as retries
 
@@ -72,15 +71,17 @@ abbrev pub is_idle : Result Happened Refusal → Bool
 is_idle (Ok Idle) = true
 is_idle other = false
 
--- a turn of a cell answers this, and is written down; behind an idle one a proxy was let ask again, and it is told whether one does
-abbrev pub TurnsAsking : TableName → CellState → Result Happened Refusal → Bool → Type 0
-TurnsAsking t old answer asks = (turned : CellState) × Turns t old answer turned ×
-    MatchBool (is_idle answer) ((e : Entry) × (noted : CellState) × IsNotedCell e turned noted ×
-    ((found : Retry) × (new : CellState) × Retries t noted found new × (asks ≡ is_again found))) (asks ≡ false)
+-- a turn of a cell answers this, and is written down as of this caller; behind an idle one a proxy was let ask again, which is written down, too, and it
+-- is told whether one does. So the cell is left
+abbrev pub TurnsAsking : TableName → ℕ → CellState → Result Happened Refusal → Bool → CellState → Type 0
+TurnsAsking t by old answer asks new = (turned : CellState) × Leaves by (calls.Turned answer) (λ done. Turns t old answer done) turned ×
+    MatchBool (is_idle answer)
+    ((found : Retry) × Leaves by (calls.Retried found) (λ done. Retries t turned found done) new × (asks ≡ is_again found))
+    ((new ≡ turned) × (asks ≡ false))
 
 -- a turn of a node, and a proxy of it that may have been let ask again, are told so
 abbrev pub IsAskingAnswer : TableName → ℕ → Result Happened Refusal → Bool → Type 0
-IsAskingAnswer t node answer asks = CellWhere t node (λ old. TurnsAsking t old answer asks)
+IsAskingAnswer t node answer asks = CellWhere t node (λ old. (by : ℕ) × (new : CellState) × TurnsAsking t by old answer asks new)
 
 -- a proxy of a node that asks again is answered this
 abbrev pub IsRetryAnswer : TableName → ℕ → Result Retry Refusal → Type 0
@@ -101,6 +102,11 @@ opened_portals node (Err why) = Err why
 abbrev pub OpensPortals : TableName → ℕ → CellState → Result (PortalValue × PortalValue) Refusal → CellState → Type 0
 OpensPortals t node old answer new = (ends : Result (End × End) Refusal) × OpensPair t old new ends ×
     (answer ≡ opened_portals node ends)
+
+-- the open of a pair of a caller, at a cell, answers these portals, and is written down: so it left the cell
+abbrev pub LeavesOpened : TableName → ℕ → ℕ → CellState → Result (PortalValue × PortalValue) Refusal → CellState → Type 0
+LeavesOpened t node by old answer new = (ends : Result (End × End) Refusal) × (answer ≡ opened_portals node ends) ×
+    Leaves by (calls.Opened ends) (λ done. OpensPair t old done ends) new
 
 -- the open of a pair at a node answers these portals
 abbrev pub IsOpenAnswer : TableName → ℕ → Result (PortalValue × PortalValue) Refusal → Type 0

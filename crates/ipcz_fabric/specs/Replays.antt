@@ -124,3 +124,16 @@ WaitsForParcel t node at number bytes portals c c' = (parcel : parcels.Parcel) �
 pub record IsNotedCell (e : Entry) (c c' : CellState) : Type 0 where
   pub part : c'.part ≡ noted e c.part
   pub seen : c'.seen ≡ c.seen
+
+-- a call of a caller did this to a cell, and then it was written down there: so it left the cell
+abbrev pub Leaves : ℕ → Call → (CellState → Type 0) → CellState → Type 0
+Leaves by call Did new = (done : CellState) × Did done × IsNotedCell (entry_of done.part.node by call) done new
+
+-- a call of a caller made this of a cell's part, and then it was written down there, and nothing else has changed
+abbrev pub LeavesPart : ℕ → Call → Part → CellState → CellState → Type 0
+LeavesPart by call p old new = (new.part ≡ noted (entry_of p.node by call) p) × (new.seen ≡ old.seen)
+
+-- a get of a caller, at an end of a cell's node, took out the parcel of this number, with these bytes and these portals of a node, and left the cell so
+abbrev pub LeavesParcel : ℕ → End → ℕ → List ℕ → List PortalValue → ℕ → CellState → CellState → Type 0
+LeavesParcel node at number bytes portals by old new = (parcel : parcels.Parcel) × IsParcelOf node bytes portals parcel ×
+    LeavesPart by (calls.Got at (Ok (number, parcel))) (got_part at old.part) old new

@@ -1,10 +1,9 @@
 //! Callers: each knows what its calls were answered, and the beginnings of the nodes' histories in which they stand.
 ghost use Rattle.std.specs.Prelude.{◌≡◌, ◌<◌, ◌≤◌, ℕ, None, Ok, Err, MatchResult, All, IfOk, IfErr, OnOk, length, true, vec_len};
 ghost use Rattle.ipcz_rule.specs.declared.history.Call.TheVariants as calls;
-ghost use Rattle.ipcz_cell.specs.CellStates.{CellState};
 ghost use Rattle.ipcz_fabric.specs.Places.{IsCellOf};
 ghost use Rattle.ipcz_fabric.specs.Hubs.{AreTurnAnswers, ArePair, ExtendsByOpen, ExtendsByRetry, IsOpenAnswer, IsOpenRefusal, IsRetryAnswer};
-ghost use Rattle.ipcz_fabric.specs.Hubs.{IsTurnAnswer, IsTurnRefusal, OpensPortals};
+ghost use Rattle.ipcz_fabric.specs.Hubs.{IsTurnAnswer, IsTurnRefusal, LeavesOpened};
 ghost use Rattle.ipcz_fabric.specs.Portals.{ends_of, parcel_refusal};
 ghost use Rattle.ipcz_fabric.specs.Portals.{IsPut, IsPutRefusal, IsRefusedPut, IsGot, IsGetRefusal, IsRefusedGet};
 ghost use Rattle.ipcz_fabric.specs.Portals.{IsTaken, IsTakeRefusal, IsRefusedTake, IsClosed, IsCloseRefusal, IsRefusedClose};
@@ -55,7 +54,7 @@ fn open_here<F: FabricName>(
     node: u8,
 ) -> Result<(Portal<F>, Portal<F>), Refusal>
     requires { IsCellOf F.table node desk.old }
-    ensures opens { (opened : CellState) × OpensPortals F.table node desk.old result opened }
+    ensures opens { LeavesOpened F.table node me.old.id desk.old result desk.new }
     ensures extends { ExtendsByOpen F.table node result me.old me.new }
 {
     match desk.open_pair(fabric, me) {

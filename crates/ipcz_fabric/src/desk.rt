@@ -2,18 +2,19 @@
 ghost use Rattle.std.specs.Prelude.{◌≡◌, ◌<◌, ℕ, Result, Ok, Err, true, MatchResult, None, Some, unwrap_or, OnOk, IfOk, IfErr};
 ghost use Rattle.ipcz_node.specs.Calls.{put_refusal, put_number, get_refusal, got_at, close_refusal, next_sizes};
 ghost use Rattle.ipcz_rule.specs.declared.history.Call.TheVariants as calls;
-ghost use Rattle.ipcz_rule.specs.declared.history.Entry.{Entry};
 ghost use Rattle.ipcz_rule.specs.Histories.{entry_of, noted};
+ghost use Rattle.ipcz_rule.specs.Steps.{put_part, close_part};
 ghost use Rattle.ipcz_cell.specs.Callers.{IsWritten};
 ghost use Rattle.ipcz_cell.specs.CellStates.{CellState};
 ghost use Rattle.ipcz_cell.specs.Cells.{IsSoundCell};
 ghost use Rattle.ipcz_cell.specs.Opens.{OpensPair};
+ghost use Rattle.ipcz_cell.specs.Parts.{got_part};
 ghost use Rattle.ipcz_cell.specs.Retries.{Retries};
 ghost use Rattle.ipcz_cell.specs.TurnChains.{RunsTurns};
 ghost use Rattle.ipcz_cell.specs.TurnEnds.{Turns};
 ghost use Rattle.ipcz_fabric.specs.Places.{IsCellOf, IsRefusedInOrder};
 ghost use Rattle.ipcz_fabric.specs.Portals.{ends_of, has_ends, wants_list};
-ghost use Rattle.ipcz_fabric.specs.Replays.{Extends, IsNotedCell, PutsAt, entered};
+ghost use Rattle.ipcz_fabric.specs.Replays.{Extends, IsNotedCell, Leaves, LeavesPart, PutsAt, entered};
 
 use crate::hub::Hub;
 use crate::portal::{Portal, PortalPutRefused};
@@ -103,6 +104,9 @@ fn put_noted<F: FabricName, P: PutName>(
         (λ e. IsRefusedInOrder (wants_list (ends_of portals.items))
         (put_refusal profile cell.old.part.state portal.now.end bytes.items (ends_of portals.items)) e.why) }
     ensures back { IfErr result (λ e. (e.bytes.items ≡ bytes.items) × (e.portals.items ≡ portals.items)) }
+    ensures left { MatchResult result
+        (λ n. LeavesPart me.old.id (P.puts (Ok n)) (put_part portal.now.end bytes.items (ends_of portals.items) cell.old.part) cell.old cell.new)
+        (λ e. LeavesPart me.old.id (P.puts (Err e.why)) cell.old.part cell.old cell.new) }
     ensures noted { (told : Result ℕ Refusal) × MatchResult result (λ n. told ≡ Ok n) (λ e. told ≡ Err e.why) × (done : CellState) ×
         PutsAt profile portal.now.end bytes.items (ends_of portals.items) told cell.old.part done.part ×
         IsNotedCell (entry_of done.part.node me.old.id (P.puts told)) done cell.new ×
@@ -155,7 +159,7 @@ impl<F: FabricName> Desk<F> {
         me: &mut CallerSeat<F>,
     ) -> Result<Happened, Refusal>
         requires { IsCellOf F.table self.old.part.node self.old }
-        ensures did { (turned : CellState) × Turns F.table self.old result turned × (e : Entry) × IsNotedCell e turned self.new }
+        ensures did { Leaves me.old.id (calls.Turned result) (λ done. Turns F.table self.old result done) self.new }
         ensures here { self.new.part.node ≡ self.old.part.node }
         ensures extends { Extends F.table self.old.part.node (calls.Turned result) me.old me.new }
     {
@@ -172,7 +176,7 @@ impl<F: FabricName> Desk<F> {
         limit: u64,
     ) -> Result<u64, Refusal>
         requires { IsCellOf F.table self.old.part.node self.old }
-        ensures did { (acted : CellState) × RunsTurns F.table limit self.old result acted }
+        ensures did { Leaves me.old.id (calls.Acted limit result) (λ done. RunsTurns F.table limit self.old result done) self.new }
         ensures extends { Extends F.table self.old.part.node (calls.Acted limit result) me.old me.new }
     {
         let answer = self.cell.acts(fabric, limit);
@@ -183,7 +187,7 @@ impl<F: FabricName> Desk<F> {
     // Lets a proxy of the node ask again for its slot.
     pub(crate) fn retry(&mut self, fabric: &Fabric<F>, me: &mut CallerSeat<F>) -> Retry
         requires { IsCellOf F.table self.old.part.node self.old }
-        ensures did { (asked : CellState) × Retries F.table self.old result asked }
+        ensures did { Leaves me.old.id (calls.Retried result) (λ done. Retries F.table self.old result done) self.new }
         ensures extends { Extends F.table self.old.part.node (calls.Retried result) me.old me.new }
     {
         let answer = self.cell.retry(fabric);
@@ -198,7 +202,7 @@ impl<F: FabricName> Desk<F> {
         me: &mut CallerSeat<F>,
     ) -> Result<(End, End), Refusal>
         requires { IsCellOf F.table self.old.part.node self.old }
-        ensures did { (opened : CellState) × OpensPair F.table self.old opened result }
+        ensures did { Leaves me.old.id (calls.Opened result) (λ done. OpensPair F.table self.old done result) self.new }
         ensures extends { Extends F.table self.old.part.node (calls.Opened result) me.old me.new }
     {
         let answer = self.cell.open_pair(fabric);
@@ -222,6 +226,10 @@ impl<F: FabricName> Desk<F> {
             (λ e. IsRefusedInOrder (wants_list (ends_of portals.items))
             (put_refusal profile self.old.part.state portal.now.end bytes.items (ends_of portals.items)) e.why) }
         ensures back { IfErr result (λ e. (e.bytes.items ≡ bytes.items) × (e.portals.items ≡ portals.items)) }
+        ensures left { MatchResult result
+            (λ n. LeavesPart me.old.id (calls.Put profile portal.now.end bytes.items (ends_of portals.items) (Ok n))
+            (put_part portal.now.end bytes.items (ends_of portals.items) self.old.part) self.old self.new)
+            (λ e. LeavesPart me.old.id (calls.Put profile portal.now.end bytes.items (ends_of portals.items) (Err e.why)) self.old.part self.old self.new) }
         ensures extends { MatchResult result
             (λ n. Extends F.table self.old.part.node (calls.Put profile portal.now.end bytes.items (ends_of portals.items) (Ok n)) me.old me.new)
             (λ e. Extends F.table self.old.part.node (calls.Put profile portal.now.end bytes.items (ends_of portals.items) (Err e.why)) me.old me.new) }
@@ -239,6 +247,9 @@ impl<F: FabricName> Desk<F> {
         ensures allowed { OnOk result (get_refusal self.old.part.state at ≡ None) }
         ensures parcel { IfOk result (λ g. got_at self.old.part.state at ≡ Some g) }
         ensures why { IfErr result (λ e. get_refusal self.old.part.state at ≡ Some e) }
+        ensures left { MatchResult result
+            (λ _. LeavesPart me.old.id (calls.Got at result) (got_part at self.old.part) self.old self.new)
+            (λ _. LeavesPart me.old.id (calls.Got at result) self.old.part self.old self.new) }
         ensures extends { Extends F.table self.old.part.node (calls.Got at result) me.old me.new }
     {
         let got = self.cell.get(fabric, at);
@@ -249,7 +260,8 @@ impl<F: FabricName> Desk<F> {
     // Refuses a get at an end, where there is no room for its portals.
     pub(crate) fn refuse_get(&mut self, fabric: &Fabric<F>, me: &mut CallerSeat<F>, at: End)
         requires { has_ends (next_sizes self.old.part.state at) ≡ true }
-        ensures { Extends F.table self.old.part.node (calls.Got at (Err Refusal.OutOfMemory)) me.old me.new }
+        ensures left { LeavesPart me.old.id (calls.Got at (Err Refusal.OutOfMemory)) self.old.part self.old self.new }
+        ensures extends { Extends F.table self.old.part.node (calls.Got at (Err Refusal.OutOfMemory)) me.old me.new }
     {
         note_as::<F, Brand, _, _>(&mut self.cell, fabric, me, &at, &());
     }
@@ -264,6 +276,9 @@ impl<F: FabricName> Desk<F> {
         ensures allowed { OnOk result (get_refusal self.old.part.state at ≡ None) }
         ensures parcel { IfOk result (λ g. got_at self.old.part.state at ≡ Some g) }
         ensures why { IfErr result (λ e. get_refusal self.old.part.state at ≡ Some e) }
+        ensures left { MatchResult result
+            (λ _. LeavesPart me.old.id (calls.Taken at result) (got_part at self.old.part) self.old self.new)
+            (λ _. LeavesPart me.old.id (calls.Taken at result) self.old.part self.old self.new) }
         ensures extends { Extends F.table self.old.part.node (calls.Taken at result) me.old me.new }
     {
         let answer = self.cell.get(fabric, at);
@@ -281,6 +296,9 @@ impl<F: FabricName> Desk<F> {
         ensures allowed { OnOk result (close_refusal self.old.part.state at ≡ None) }
         ensures number { IfOk result (λ n. n ≡ put_number self.old.part.state at) }
         ensures why { IfErr result (λ e. e ≡ unwrap_or (close_refusal self.old.part.state at) Refusal.OutOfMemory) }
+        ensures left { MatchResult result
+            (λ _. LeavesPart me.old.id (calls.Closed at result) (close_part at self.old.part) self.old self.new)
+            (λ _. LeavesPart me.old.id (calls.Closed at result) self.old.part self.old self.new) }
         ensures extends { Extends F.table self.old.part.node (calls.Closed at result) me.old me.new }
     {
         let answer = self.cell.close(fabric, at);

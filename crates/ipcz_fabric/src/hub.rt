@@ -164,7 +164,7 @@ fn turn_asking_here<F: FabricName>(
     me: &mut CallerSeat<F>,
 ) -> (Result<Happened, Refusal>, bool)
     requires { IsCellOf F.table desk.old.part.node desk.old }
-    ensures { TurnsAsking F.table desk.old result.0 result.1 }
+    ensures { TurnsAsking F.table me.old.id desk.old result.0 result.1 desk.new }
 {
     let answer = desk.turn(fabric, me);
     if is_idle(&answer) {
@@ -358,7 +358,7 @@ impl<F: FabricName> Hub<F> {
     }
 
     /// Wakes all that sleep for a node: `turn_or_wait` and `work_waiting`, which then asks its gate again, and `Portal::get_timeout`, which
-    /// looks again. Where none sleeps it costs two loads. It is never refused, and does nothing for a node that isn't there.
+    /// looks again. Where none sleeps it costs four loads. It is never refused, and does nothing for a node that isn't there.
     ///
     /// So a thread that sets a flag calls `hub.notify_all(0)` behind it, for the workers of node 0 to look at it.
     pub fn notify_all(&self, node: u8) {

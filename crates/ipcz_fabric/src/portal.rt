@@ -2,13 +2,13 @@
 ghost use Rattle.std.specs.Prelude.{◌≡◌, ◌≤◌, ◌<◌, ◌+◌, ◌++◌, None, Ok, Err, MatchResult, All, OnOk, OnErr, IfOk, IfErr, IsOk, length, take, unwrap_or, vec_len, vec_capacity};
 ghost use Rattle.ipcz_node.specs.Calls.{put_refusal, put_number, close_refusal};
 ghost use Rattle.ipcz_rule.specs.declared.history.Call.TheVariants as calls;
-ghost use Rattle.ipcz_rule.specs.Steps.{put_part};
+ghost use Rattle.ipcz_rule.specs.Steps.{put_part, close_part};
 ghost use Rattle.ipcz_fabric.specs.Places.{IsRefusedInOrder};
 ghost use Rattle.ipcz_fabric.specs.Portals.{ends_of, portals_at, parcel_refusal, wants_list};
 ghost use Rattle.ipcz_fabric.specs.Portals.{IsPut, IsPutRefusal, IsRefusedPut, IsGot, IsGotHere, IsGetRefusal, IsRefusedGetHere, IsRefusedGet};
 ghost use Rattle.ipcz_fabric.specs.Portals.{IsTaken, IsTakeRefusal, IsRefusedTake};
 ghost use Rattle.ipcz_fabric.specs.Portals.{IsClosed, IsCloseRefusal, IsRefusedClose};
-ghost use Rattle.ipcz_fabric.specs.Replays.{Extends, GetsParcel};
+ghost use Rattle.ipcz_fabric.specs.Replays.{Extends, GetsParcel, LeavesParcel, LeavesPart};
 
 use crate::desk::Desk;
 use crate::hub::Hub;
@@ -208,6 +208,9 @@ impl<F: FabricName> Portal<F> {
     ) -> Result<Got<F>, Refusal>
         ensures got { IfOk result (λ g. IsGotHere desk.old self.now.node self.now.end g.n g.bytes.items g.portals.items) }
         ensures why { IfErr result (IsRefusedGetHere desk.old self.now.end) }
+        ensures left { MatchResult result
+            (λ g. LeavesParcel self.now.node self.now.end g.n g.bytes.items g.portals.items me.old.id desk.old desk.new)
+            (λ why. LeavesPart me.old.id (calls.Got self.now.end (Err why)) desk.old.part desk.old desk.new) }
         ensures extends { MatchResult result
             (λ g. GetsParcel F.table desk.old.part.node self.now.node self.now.end g.n g.bytes.items g.portals.items me.old me.new)
             (λ why. Extends F.table desk.old.part.node (calls.Got self.now.end (Err why)) me.old me.new) }
@@ -235,6 +238,9 @@ impl<F: FabricName> Portal<F> {
         ensures number { IfOk result (λ n. n ≡ put_number desk.old.part.state self.end) }
         ensures why { IfErr result (λ e. e.0 ≡ unwrap_or (close_refusal desk.old.part.state self.end) Refusal.OutOfMemory) }
         ensures back { IfErr result (λ e. e.1 ≡ self) }
+        ensures left { MatchResult result
+            (λ n. LeavesPart me.old.id (calls.Closed self.end (Ok n)) (close_part self.end desk.old.part) desk.old desk.new)
+            (λ e. LeavesPart me.old.id (calls.Closed self.end (Err e.0)) desk.old.part desk.old desk.new) }
         ensures extends { MatchResult result
             (λ n. Extends F.table desk.old.part.node (calls.Closed self.end (Ok n)) me.old me.new)
             (λ e. Extends F.table desk.old.part.node (calls.Closed self.end (Err e.0)) me.old me.new) }

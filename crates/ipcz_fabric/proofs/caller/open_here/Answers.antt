@@ -5,7 +5,7 @@ use Rattle.ipcz_fabric.proofs.caller.open_here.Goals as goal
 
 pub returns-in-Ok-clause-opens : goal.returns-in-Ok-clause-opens
 returns-in-Ok-clause-opens g c =
-    (c.in-Ok.ensures.did.0, (Ok (c.in-Ok.a, c.in-Ok.b), c.in-Ok.ensures.did.1, (λ j. Ok (c.new.ensures j, c.new-in-Ok.ensures j))))
+    (Ok (c.in-Ok.a, c.in-Ok.b), (λ j. Ok (c.new.ensures j, c.new-in-Ok.ensures j)), c.in-Ok.ensures.did)
 
 pub returns-in-Ok-clause-extends : goal.returns-in-Ok-clause-extends
 returns-in-Ok-clause-extends g c = (
@@ -15,7 +15,7 @@ returns-in-Ok-clause-extends g c = (
 )
 
 pub returns-in-Err-clause-opens : goal.returns-in-Err-clause-opens
-returns-in-Err-clause-opens g c = (c.in-Err.ensures.did.0, (Err c.in-Err.why, c.in-Err.ensures.did.1, refl))
+returns-in-Err-clause-opens g c = (Err c.in-Err.why, refl, c.in-Err.ensures.did)
 
 pub returns-in-Err-clause-extends : goal.returns-in-Err-clause-extends
 returns-in-Err-clause-extends g c = (

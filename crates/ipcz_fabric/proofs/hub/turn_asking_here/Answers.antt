@@ -1,5 +1,9 @@
-use Rattle.std.proofs.Common.{Bool, true, false, MatchBool, refl, sym, ◌∙◌, ◌≡◌}
+use Rattle.std.proofs.Common.{ℕ, Bool, true, false, MatchBool, refl, subst, sym, ◌∙◌, ◌≡◌}
+use Rattle.ipcz_rule.specs.declared.history.Call.TheVariants as calls
 use Rattle.ipcz_cell.proofs.Unfolding.{shown_word}
+use Rattle.ipcz_cell.specs.Retries.{Retries}
+use Rattle.ipcz_fabric.specs.Replays.{Leaves}
+use Rattle.ipcz_fabric.proofs.Replaying.{same_id}
 use Rattle.ipcz_fabric.proofs.hub.turn_asking_here.Goals as goal
 
 told : (b : Bool) (X Y : Type 0) → b ≡ true → X → MatchBool b X Y
@@ -8,14 +12,14 @@ told false X Y e x = absurd (cc)
 
 pub returns-then-is_idle : goal.returns-then-is_idle
 returns-then-is_idle g c =
-    let did = c.turn-answer.ensures.did in
-    let asked = c.retry-found.ensures.did in (
-      did.0,
-      did.1,
-      told _ _ _ (sym c.is_idle.ensures ∙ c.if-is_idle.true) (did.2, c.turn-answer.new.self, did.3, (c.retry-found.result, asked.0, asked.1, c.is_again.ensures)),
+    let t = g.F.FabricName.table in
+    let found = c.retry-found.result in
+    let same = same_id t _ _ c.args.me.now c.turn-answer.new.me c.turn-answer.ensures.extends in
+    let asked = subst (λ (by : ℕ). Leaves by (calls.Retried found) (λ done. Retries t c.turn-answer.new.self found done) c.retry-found.new.self) same c.retry-found.ensures.did in (
+      c.turn-answer.new.self,
+      c.turn-answer.ensures.did,
+      told _ _ _ (sym c.is_idle.ensures ∙ c.if-is_idle.true) (found, asked, c.is_again.ensures),
     )
 
 pub returns : goal.returns
-returns g c =
-    let did = c.turn-answer.ensures.did in
-    (did.0, did.1, shown_word _ _ _ (sym c.is_idle.ensures ∙ c.if-is_idle.false) refl)
+returns g c = (c.turn-answer.new.self, c.turn-answer.ensures.did, shown_word _ _ _ (sym c.is_idle.ensures ∙ c.if-is_idle.false) (refl, refl))

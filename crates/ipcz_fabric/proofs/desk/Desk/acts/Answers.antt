@@ -13,8 +13,11 @@ invariant_of-self g c =
     c.note_as.ensures.part
 
 pub returns-clause-did : goal.returns-clause-did
-returns-clause-did g c = let t = g.F.FabricName.table in
-    (c.acts-answer.new.self, subst (λ (x : CellState). RunsTurns t c.args.limit x c.acts-answer.result c.acts-answer.new.self) c.self.view_is c.acts-answer.ensures)
+returns-clause-did g c = let t = g.F.FabricName.table in (
+  c.acts-answer.new.self,
+  subst (λ (x : CellState). RunsTurns t c.args.limit x c.acts-answer.result c.acts-answer.new.self) c.self.view_is c.acts-answer.ensures,
+  record { part = c.note_as.ensures.part; seen = c.note_as.ensures.seen },
+)
 
 pub returns-clause-extends : goal.returns-clause-extends
 returns-clause-extends g c =

@@ -13,8 +13,11 @@ invariant_of-self g c =
     c.note_as.ensures.part
 
 pub returns-clause-did : goal.returns-clause-did
-returns-clause-did g c = let t = g.F.FabricName.table in
-    (c.open_pair-answer.new.self, subst (λ (x : CellState). OpensPair t x c.open_pair-answer.new.self c.open_pair-answer.result) c.self.view_is c.open_pair-answer.ensures)
+returns-clause-did g c = let t = g.F.FabricName.table in (
+  c.open_pair-answer.new.self,
+  subst (λ (x : CellState). OpensPair t x c.open_pair-answer.new.self c.open_pair-answer.result) c.self.view_is c.open_pair-answer.ensures,
+  record { part = c.note_as.ensures.part; seen = c.note_as.ensures.seen },
+)
 
 pub returns-clause-extends : goal.returns-clause-extends
 returns-clause-extends g c =

@@ -1,7 +1,8 @@
 use Rattle.ipcz_rule.specs.declared.history.Call.TheVariants as calls
+use Rattle.ipcz_rule.specs.Steps.{put_part}
 use Rattle.ipcz_fabric.specs.Portals.{ends_of}
 use Rattle.ipcz_fabric.specs.Replays.{Extends}
-use Rattle.ipcz_fabric.proofs.Replaying.{calls_at, reached_more, by_told}
+use Rattle.ipcz_fabric.proofs.Replaying.{calls_at, left_seen, reached_more, by_told}
 use Rattle.ipcz_fabric.proofs.desk.Desk.put_as.Goals as goal
 
 pub invariant_of-self : goal.invariant_of-self
@@ -9,6 +10,12 @@ invariant_of-self g c =
     let noted = c.put_noted.ensures.noted in
     reached_more g.F.FabricName.table (calls.Put c.args.profile c.args.portal.now.end c.args.bytes.items (ends_of c.args.portals.items) noted.0) c.args.me.now.id
     c.self.inside.cell.part noted.2.part c.put_noted.new.cell.part c.self.invariant noted.3 noted.4.part
+
+pub returns-clause-left : goal.returns-clause-left
+returns-clause-left g c =
+    left_seen (λ e. e.why) c.args.me.now.id (calls.Put c.args.profile c.args.portal.now.end c.args.bytes.items (ends_of c.args.portals.items))
+    (put_part c.args.portal.now.end c.args.bytes.items (ends_of c.args.portals.items)) c.put_noted.result c.self.inside.cell c.args.self.now c.put_noted.new.cell
+    c.self.view_is c.put_noted.ensures.left
 
 pub returns-clause-extends : goal.returns-clause-extends
 returns-clause-extends g c =

@@ -13,8 +13,11 @@ invariant_of-self g c =
     c.note_as.ensures.part
 
 pub returns-clause-did : goal.returns-clause-did
-returns-clause-did g c = let t = g.F.FabricName.table in
-    (c.retry-answer.new.self, subst (λ (x : CellState). Retries t x c.retry-answer.result c.retry-answer.new.self) c.self.view_is c.retry-answer.ensures)
+returns-clause-did g c = let t = g.F.FabricName.table in (
+  c.retry-answer.new.self,
+  subst (λ (x : CellState). Retries t x c.retry-answer.result c.retry-answer.new.self) c.self.view_is c.retry-answer.ensures,
+  record { part = c.note_as.ensures.part; seen = c.note_as.ensures.seen },
+)
 
 pub returns-clause-extends : goal.returns-clause-extends
 returns-clause-extends g c =

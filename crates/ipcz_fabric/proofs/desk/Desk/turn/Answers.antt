@@ -1,6 +1,5 @@
 use Rattle.std.proofs.Common.{subst, ◌∙◌}
 use Rattle.ipcz_rule.specs.declared.history.Call.TheVariants as calls
-use Rattle.ipcz_rule.specs.Histories.{entry_of}
 use Rattle.ipcz_cell.specs.CellStates.{CellState}
 use Rattle.ipcz_cell.specs.TurnEnds.{Turns}
 use Rattle.ipcz_fabric.proofs.Books.{turned_book}
@@ -15,13 +14,11 @@ invariant_of-self g c =
     c.note_as.ensures.part
 
 pub returns-clause-did : goal.returns-clause-did
-returns-clause-did g c =
-    let t = g.F.FabricName.table in (
-      c.turn-answer.new.self,
-      subst (λ (old : CellState). Turns t old c.turn-answer.result c.turn-answer.new.self) c.self.view_is c.turn-answer.ensures,
-      entry_of c.turn-answer.new.self.part.node c.args.me.now.id (calls.Turned c.turn-answer.result),
-      record { part = c.note_as.ensures.part; seen = c.note_as.ensures.seen },
-    )
+returns-clause-did g c = let t = g.F.FabricName.table in (
+  c.turn-answer.new.self,
+  subst (λ (x : CellState). Turns t x c.turn-answer.result c.turn-answer.new.self) c.self.view_is c.turn-answer.ensures,
+  record { part = c.note_as.ensures.part; seen = c.note_as.ensures.seen },
+)
 
 pub returns-clause-here : goal.returns-clause-here
 returns-clause-here g c =

@@ -6,12 +6,12 @@ pub returns-clause-answer : goal.returns-clause-answer
 returns-clause-answer g c = λ _. record {
   cell = c.deref_mut.result.now;
   here = lent g.F.FabricName.table _ _ _ _ refl c.deref_mut.ensures.value c.lock.ensures;
-  holds = (c.turn_asking_here.ensures.0, c.turn_asking_here.ensures.1);
+  holds = (c.turn_asking_here.ensures.1.0, c.turn_asking_here.ensures.1.1);
 }
 
 pub returns-clause-asking : goal.returns-clause-asking
 returns-clause-asking g c = λ _. record {
   cell = c.deref_mut.result.now;
   here = lent g.F.FabricName.table _ _ _ _ refl c.deref_mut.ensures.value c.lock.ensures;
-  holds = c.turn_asking_here.ensures;
+  holds = (_, _, c.turn_asking_here.ensures);
 }
