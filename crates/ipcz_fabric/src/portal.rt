@@ -6,7 +6,7 @@ ghost use Rattle.ipcz_rule.specs.Steps.{put_part, close_part};
 ghost use Rattle.ipcz_fabric.specs.Places.{IsRefusedInOrder};
 ghost use Rattle.ipcz_fabric.specs.Portals.{ends_of, portals_at, parcel_refusal, wants_list};
 ghost use Rattle.ipcz_fabric.specs.Portals.{IsPut, IsPutRefusal, IsRefusedPut, IsGot, IsGotHere, IsGetRefusal, IsRefusedGetHere, IsRefusedGet};
-ghost use Rattle.ipcz_fabric.specs.Portals.{IsTaken, IsTakeRefusal, IsRefusedTake};
+ghost use Rattle.ipcz_fabric.specs.Portals.{IsTakeRefusal, IsRefusedTake};
 ghost use Rattle.ipcz_fabric.specs.Portals.{IsClosed, IsCloseRefusal, IsRefusedClose};
 ghost use Rattle.ipcz_fabric.specs.Replays.{Extends, GetsParcel, LeavesParcel, LeavesPart};
 
@@ -343,14 +343,6 @@ impl<F: FabricName> Portal<F> {
         ensures refused { IfErr result (IsRefusedGet F.table self.now.node self.now.end) }
     {
         hub.caller().get(rt, hub, self)
-    }
-
-    // Takes the next parcel, under the lock of the portal's node. It takes no memory.
-    pub(crate) fn take<R: Wait>(&self, rt: &R, hub: &Hub<F>) -> Result<(u64, Parcel), Refusal>
-        ensures taken { IfOk result (IsTaken F.table self.now.node self.now.end) }
-        ensures refused { IfErr result (IsRefusedTake F.table self.now.node self.now.end) }
-    {
-        hub.caller().take(rt, hub, self)
     }
 
     /// Takes the next parcel, as `get`, and sleeps while there is none, for no longer than `limit` in all; `Duration::MAX` is without end.

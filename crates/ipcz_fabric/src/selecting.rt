@@ -1,8 +1,9 @@
 //! A get at several portals at once.
-ghost use Rattle.std.specs.Prelude.{IfOk, IfErr};
+ghost use Rattle.std.specs.Prelude.{◌≡◌, true, false, None, IfOk, IfErr, MatchResult};
 ghost use Rattle.ipcz_fabric.specs.Portals.{IsGot};
-ghost use Rattle.ipcz_fabric.specs.Selecting.{IsFirst, IsNoneGot};
+ghost use Rattle.ipcz_fabric.specs.Selecting.{GivesParcel, IsFirst, IsNoneGot, LooksInVain, LooksOnce, LooksOnceInVain, LooksUntil};
 
+use crate::caller::Caller;
 use crate::deadline::Deadline;
 use crate::hub::Hub;
 use crate::portal::Portal;
@@ -21,23 +22,29 @@ pub struct NoneGot {
 }
 
 // Whether each portal was empty.
-fn are_empty<F: FabricName>(taken: &Result<(usize, Arrival<F>), NoneGot>) -> bool {
+fn are_empty<F: FabricName>(taken: &Result<(usize, Arrival<F>), NoneGot>) -> bool
+    ensures { MatchResult taken.now (λ _. result ≡ false) (λ e. result ≡ true → e.place ≡ None) }
+{
     matches!(taken, Err(NoneGot { place: None, .. }))
 }
 
-impl<F: FabricName> Hub<F> {
+impl<F: FabricName> Caller<F> {
     // Takes the next parcel at the first of some portals that has something.
     fn take_first<R: Wait>(
-        &self,
+        &mut self,
         rt: &R,
+        hub: &Hub<F>,
         portals: &[Portal<F>],
     ) -> Result<(usize, Arrival<F>), NoneGot>
         ensures got { IfOk result
             (λ a. IsFirst F.table portals.now a.0 (λ p. IsGot F.table p.node p.end a.1.n a.1.bytes.items a.1.portals)) }
         ensures refused { IfErr result (λ e. IsNoneGot F.table portals.now e.place e.why) }
+        ensures extends { MatchResult result
+            (λ a. LooksOnce F.table portals.now a.0 (GivesParcel a.1.n a.1.bytes.items a.1.portals) self.old self.new)
+            (λ e. LooksOnceInVain F.table portals.now e.place e.why self.old self.new) }
     {
         for (place, portal) in portals.iter().enumerate() {
-            match portal.take(rt, self) {
+            match self.take(rt, hub, portal) {
                 Ok((n, parcel)) => return Ok((place, arrival_of(portal.node(), n, parcel))),
                 Err(why) => match why {
                     Refusal::Empty => {}
@@ -56,6 +63,46 @@ impl<F: FabricName> Hub<F> {
         })
     }
 
+    /// Takes the next parcel at the first of some portals that has something, and sleeps while none has, as [`Hub::get_any`]. Each look at a portal is a
+    /// call at its node.
+    ///
+    /// Refused as that.
+    ///
+    /// So `me.get_any(rt, &hub, &portals, Duration::from_secs(1))` is `Ok((1, arrival))` where the first parcel comes at `portals[1]`.
+    pub fn get_any<R: Wait + Clock>(
+        &mut self,
+        rt: &R,
+        hub: &Hub<F>,
+        portals: &[Portal<F>],
+        limit: Duration,
+    ) -> Result<(usize, Arrival<F>), NoneGot>
+        ensures got { IfOk result
+            (λ a. IsFirst F.table portals.now a.0 (λ p. IsGot F.table p.node p.end a.1.n a.1.bytes.items a.1.portals)) }
+        ensures refused { IfErr result (λ e. IsNoneGot F.table portals.now e.place e.why) }
+        ensures extends { MatchResult result
+            (λ a. LooksUntil F.table portals.now a.0 (GivesParcel a.1.n a.1.bytes.items a.1.portals) self.old self.new)
+            (λ e. LooksInVain F.table portals.now e.place e.why self.old self.new) }
+    {
+        let first = self.take_first(rt, hub, portals);
+        if !are_empty(&first) {
+            return first;
+        }
+        let news = hub.fabric().news();
+        let deadline = Deadline::new(rt, limit);
+        for _try in rt.forever() {
+            let left = deadline.left(rt);
+            let ticket = news.watch_any();
+            let taken = self.take_first(rt, hub, portals);
+            if left == Duration::ZERO || !are_empty(&taken) {
+                return taken;
+            }
+            news.sleep_any(rt, ticket, left);
+        }
+        unreachable!()
+    }
+}
+
+impl<F: FabricName> Hub<F> {
     /// Takes the next parcel at the first of some portals that has something, with its place in the list, and sleeps while none has, for no
     /// longer than `limit` in all: `Duration::MAX` is without end, and `Duration::ZERO` doesn't sleep. The portals may be of several nodes.
     /// Workers have to take the turns of the nodes meanwhile.
@@ -78,21 +125,6 @@ impl<F: FabricName> Hub<F> {
             (λ a. IsFirst F.table portals.now a.0 (λ p. IsGot F.table p.node p.end a.1.n a.1.bytes.items a.1.portals)) }
         ensures refused { IfErr result (λ e. IsNoneGot F.table portals.now e.place e.why) }
     {
-        let first = self.take_first(rt, portals);
-        if !are_empty(&first) {
-            return first;
-        }
-        let news = self.fabric().news();
-        let deadline = Deadline::new(rt, limit);
-        for _try in rt.forever() {
-            let left = deadline.left(rt);
-            let ticket = news.watch_any();
-            let taken = self.take_first(rt, portals);
-            if left == Duration::ZERO || !are_empty(&taken) {
-                return taken;
-            }
-            news.sleep_any(rt, ticket, left);
-        }
-        unreachable!()
+        self.caller().get_any(rt, self, portals, limit)
     }
 }

@@ -16,7 +16,7 @@ fn long() -> Duration {
 }
 
 // A list of two portals.
-fn list_of<F: FabricName>(
+pub(crate) fn list_of<F: FabricName>(
     alloc: Global,
     first: Portal<F>,
     second: Portal<F>,

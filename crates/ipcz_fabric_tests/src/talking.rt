@@ -2,6 +2,7 @@
 ghost use Rattle.std.specs.Prelude.{◌≡◌};
 
 use crate::hub_tables::{both, hub_of};
+use crate::selecting::list_of;
 use ipcz_base::{Profile, Refusal};
 use ipcz_fabric::{Blank, Caller, FabricName, Hub, Portal, Retry, start};
 use ipcz_node::Happened;
@@ -23,6 +24,7 @@ enum Case {
     Puts,
     Gets,
     Waits,
+    Selects,
     Closes,
     Strangers,
     Talk,
@@ -71,6 +73,26 @@ fn waits_for_it<F: FabricName, R: Wait + Clock>(
     caller.acts(rt, hub, 0, 100).ok()?;
     let got = caller.get_timeout(rt, hub, &b, Duration::ZERO).ok()?;
     Some(early && got.n == 0 && got.portals.is_empty())
+}
+
+// Whether a get at two portals gives the parcel that is there at the second, with its place, and nothing before and behind it.
+fn selects_it<F: FabricName, R: Wait + Clock>(rt: &R, hub: &Hub<F>, alloc: Global) -> Option<bool> {
+    let mut caller = hub.caller();
+    let (_a, b) = caller.open_pair(rt, hub, 0).ok()?;
+    let (c, d) = caller.open_pair(rt, hub, 1).ok()?;
+    let list = list_of(alloc, b, d)?;
+    let early = caller.get_any(rt, hub, &list, Duration::ZERO);
+    caller
+        .put(rt, hub, &c, Vec::new(alloc), Vec::new(alloc))
+        .ok()?;
+    caller.acts(rt, hub, 1, 100).ok()?;
+    let got = caller.get_any(rt, hub, &list, Duration::ZERO);
+    let late = caller.get_any(rt, hub, &list, Duration::ZERO);
+    Some(
+        matches!(early, Err(none) if none.place.is_none() && none.why == Refusal::Empty)
+            && matches!(&got, Ok((1, arrival)) if arrival.n == 0)
+            && matches!(late, Err(none) if none.place.is_none() && none.why == Refusal::Empty),
+    )
 }
 
 // Whether a close behind one parcel answers 1, and the peer gets the parcel and then that it is closed.
@@ -186,6 +208,7 @@ fn goes_well<F: FabricName + Send + Sync, R: Threads + Wait + Clock + Sync>(
         Case::Puts => puts_in_order(rt, &hub, alloc),
         Case::Gets => gets_what_was_put(rt, &hub, alloc),
         Case::Waits => waits_for_it(rt, &hub, alloc),
+        Case::Selects => selects_it(rt, &hub, alloc),
         Case::Closes => closes_behind_one(rt, &hub, alloc),
         Case::Strangers => Some(are_strangers(rt, &hub)),
         Case::Talk => Some(both_talk(rt, &hub, alloc, &here, &there)),
@@ -210,6 +233,11 @@ fn a_caller_gets_what_was_put(rt: HostRuntime) {
 #[test]
 fn a_caller_that_waits_gets_what_is_there(rt: HostRuntime) {
     assert_eq!(rt; goes(&rt, rt.alloc(), Case::Waits), Some(true));
+}
+
+#[test]
+fn a_caller_gets_at_several_portals(rt: HostRuntime) {
+    assert_eq!(rt; goes(&rt, rt.alloc(), Case::Selects), Some(true));
 }
 
 #[test]

@@ -1,0 +1,7 @@
+use Rattle.std.proofs.Common.{take}
+use Rattle.ipcz_fabric.specs.Selecting.{AreEmpty, VainLook}
+use Rattle.ipcz_fabric.proofs.caller.Caller.take_first.Given as goal
+
+-- each portal so far was empty, and the caller has asked these
+abbrev pub invariant-loop-place : goal.invariant-loop-place
+invariant-loop-place g l = AreEmpty g.F.FabricName.table (take l.place l.portals) × VainLook g.F.FabricName.table (take l.place l.portals) l.fn.self l.self
