@@ -99,21 +99,16 @@ fn judge_lines(alloc: Global, header: Header, text: &[u8]) -> Result<Verdict, Al
 {
     let mut session = Session::new(alloc, header.nodes, header.words)?;
     let mut rest = text;
-    let mut number = 2u64;
+    let mut line = 2u64;
     while !rest.is_empty() {
         let len = line_len(rest);
         match hear(alloc, &mut session, header.nodes, &rest[..len])? {
             Some(Judged::Allowed) => {}
-            Some(Judged::Refused(instead)) => {
-                return Ok(Verdict::Refused {
-                    line: number,
-                    instead,
-                });
-            }
-            None => return Ok(Verdict::NoLog(number)),
+            Some(Judged::Refused(instead)) => return Ok(Verdict::Refused { line, instead }),
+            None => return Ok(Verdict::NoLog(line)),
         }
         rest = behind(rest, len);
-        number = number.checked_add(1).ok_or(AllocError)?;
+        line = line.checked_add(1).ok_or(AllocError)?;
     }
     Ok(Verdict::Allowed)
 }

@@ -12,24 +12,24 @@ pub returns-in-Some-Refused : goal.returns-in-Some-Refused
 returns-in-Some-Refused c =
     let refused : c.in_ok-hear.field-0 ≡ Some (judged.Refused c.in-Some-Refused.instead) =
     grind (arith, common_steps, c.in-Some-Refused.is, c.in-Some-Refused.field-0-is, c.in-Some-Refused.instead-is) in
-    said_refused c.args.header.nodes c.args.header.words c.loop-rest.session c.hear.new.session c.loop-rest.number (text_lines c.args.text.now) c.loop-rest.rest.now c.line_len-len.result
+    said_refused c.args.header.nodes c.args.header.words c.loop-rest.session c.hear.new.session c.loop-rest.line (text_lines c.args.text.now) c.loop-rest.rest.now c.line_len-len.result
     c.in_ok-hear.field-0 c.in-Some-Refused.instead (some_left c.loop-rest.rest.now c.is_empty.result c.is_empty.ensures c.loop-rest-test.true)
     c.line_len-len.ensures.len c.in_ok-hear.ensures refused
     c.loop-rest.invariant
 
 pub returns-in-None : goal.returns-in-None
-returns-in-None c = said_none c.args.header.nodes c.args.header.words c.loop-rest.session c.hear.new.session c.loop-rest.number (text_lines c.args.text.now) c.loop-rest.rest.now c.line_len-len.result
+returns-in-None c = said_none c.args.header.nodes c.args.header.words c.loop-rest.session c.hear.new.session c.loop-rest.line (text_lines c.args.text.now) c.loop-rest.rest.now c.line_len-len.result
     c.in_ok-hear.field-0 (some_left c.loop-rest.rest.now c.is_empty.result c.is_empty.ensures c.loop-rest-test.true) c.line_len-len.ensures.len c.in_ok-hear.ensures c.in-None.is
     c.loop-rest.invariant
 
 pub loop-rest-preserved : goal.loop-rest-preserved
 loop-rest-preserved c =
-    let more : c.in_ok-number.number ≡ c.loop-rest.number + 1 = grind (arith, c.in_ok-number.ensures, c.ok_or.ensures, c.checked_add.ensures) in
+    let more : c.in_ok-line.line ≡ c.loop-rest.line + 1 = grind (arith, c.in_ok-line.ensures, c.ok_or.ensures, c.checked_add.ensures) in
     let allowed : c.in_ok-hear.field-0 ≡ Some judged.Allowed = grind (arith, common_steps, c.in-Some-Allowed.is, c.in-Some-Allowed.field-0-is) in
-    goes_on c.args.header.nodes c.args.header.words c.loop-rest.session c.hear.new.session c.loop-rest.number c.in_ok-number.number (text_lines c.args.text.now) c.loop-rest.rest.now c.behind-rest.result.now c.line_len-len.result
+    goes_on c.args.header.nodes c.args.header.words c.loop-rest.session c.hear.new.session c.loop-rest.line c.in_ok-line.line (text_lines c.args.text.now) c.loop-rest.rest.now c.behind-rest.result.now c.line_len-len.result
     c.in_ok-hear.field-0 (some_left c.loop-rest.rest.now c.is_empty.result c.is_empty.ensures c.loop-rest-test.true) c.line_len-len.ensures.len c.in_ok-hear.ensures allowed
     c.behind-rest.ensures more c.loop-rest.invariant
 
 pub returns : goal.returns
-returns c = said_allowed c.args.header.nodes c.args.header.words c.loop-rest.session c.loop-rest.number (text_lines c.args.text.now) c.loop-rest.rest.now
+returns c = said_allowed c.args.header.nodes c.args.header.words c.loop-rest.session c.loop-rest.line (text_lines c.args.text.now) c.loop-rest.rest.now
     (none_left c.loop-rest.rest.now c.is_empty.result c.is_empty.ensures c.loop-rest-test.false) c.loop-rest.invariant
