@@ -63,6 +63,7 @@ usage = line (codes "usage: ipcz_judge_events [--help] < LOG")
 abbrev pub help : List ℕ
 help = usage ++ line [] ++ line (codes "Reads a log of the calls and events of another implementation, a JSON value a line, and says whether the rules allow it: ends with")
     ++ line (codes "status 0 if they do, and else with status 2 and the first line that they don't allow, or that is none of a log.")
+    ++ line (codes "Of one that they don't allow a second line tells a text that is allowed in its place, if one is known.")
 
 -- a text was written, with this status, or after a failed write some front of it, with the status 1
 abbrev pub Writes : List ℕ → ℕ → Option (List ℕ) → Option (List ℕ) → Bool → ℕ → Type 0

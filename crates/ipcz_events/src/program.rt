@@ -18,7 +18,7 @@ const MOST_READ: usize = 1_073_741_825;
 const USAGE: &[u8] = b"usage: ipcz_judge_events [--help] < LOG\n";
 
 const HELP: &[u8] =
-    b"usage: ipcz_judge_events [--help] < LOG\n\nReads a log of the calls and events of another implementation, a JSON value a line, and says whether the rules allow it: ends with\nstatus 0 if they do, and else with status 2 and the first line that they don't allow, or that is none of a log.\n";
+    b"usage: ipcz_judge_events [--help] < LOG\n\nReads a log of the calls and events of another implementation, a JSON value a line, and says whether the rules allow it: ends with\nstatus 0 if they do, and else with status 2 and the first line that they don't allow, or that is none of a log.\nOf one that they don't allow a second line tells a text that is allowed in its place, if one is known.\n";
 
 /// What the arguments of the program ask for.
 #[derive(Clone, Copy, Debug, PartialEq, Eq)]
