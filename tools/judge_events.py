@@ -1,6 +1,7 @@
 """Judges a log with events by tools/model.py: whether its calls and the acts of its nodes, in the order of the log, are those of a world.
 
-    python3 tools/judge_events.py < LOG                          prints `allowed`, or the first line that isn't, and what its node could do there
+    python3 tools/judge_events.py < LOG                          prints `allowed`, or the first line that isn't, with a text that is allowed in its place, and
+                                                                 what its node could do there
     python3 tools/judge_events.py --run SCRIPT --seed N > LOG    runs a script in which each node takes any of its possible acts, as the seed draws
 
 What a log is tells docs/JUDGE.md, "Events". Nothing of it is proved.
@@ -27,6 +28,10 @@ VERBS = {
 }
 
 
+# A number as events have it.
+NUMBER = re.compile(r"0|[1-9]\d{0,19}", re.ASCII)
+
+
 class NoLine(Exception):
     """What stands there is no line of a log."""
 
@@ -46,12 +51,16 @@ class World(model.World):
                 return self.look_at(node, sender)
             case "post", receiver:
                 return self.post_to(node, receiver)
-            case "close", _:
-                return self.pending_close(node)
+            case "close", end:
+                return self.pending_close(node) if end == self.next_close(node) else None
             case "idle", _:
                 return "idle" if self.is_idle(number) else None
             case verb, serial:
                 return self.let_act(node, serial, verb, may_spoil)
+
+    def next_close(self, node: model.Node) -> str | None:
+        """The end that a node closes next."""
+        return "{}{}".format(*node.pending_closes[0]) if node.pending_closes else None
 
     def look_at(self, node: model.Node, sender: int) -> str | None:
         mail = self.mailboxes.get((sender, node.number))
@@ -101,7 +110,7 @@ class World(model.World):
         yield "hand", None
         yield from (("look", sender) for sender in others)
         yield from (("post", receiver) for receiver in others)
-        yield "close", None
+        yield "close", self.next_close(node)
         yield from ((verb, serial) for serial in list(node.routers) for verb in VERBS if verb not in ("rest", "wait", "refused"))
         yield from (("rest", serial) for serial, router in list(node.routers.items()) if router.flagged)
 
@@ -117,21 +126,22 @@ class Run(model.Run):
         self.world = World(nodes, words)
 
 
-# The first words of an event, which name its act.
-FIRST_WORDS = re.compile(rf"(hand|close|idle)\b|(look|post) (\d{{1,3}})$|r(\d{{1,20}}) ({'|'.join(VERBS)})\b", re.ASCII)
-
-
 def named(text: str) -> Act | None:
-    """The act that the first words of an event name, if they name one; only what it prints tells whether it is that act."""
-    match FIRST_WORDS.match(text):
-        case None:
-            return None
-        case found if found[1]:
-            return found[1], None
-        case found if found[2]:
-            return found[2], int(found[3])
-        case found:
-            return found[5], int(found[4])
+    """The act that the first words of an event name, if they name one; only what it prints tells whether it is that act. A word ends at a space."""
+    word, _, rest = text.partition(" ")
+    verb, way = [*rest.split(" "), ""][:2]
+    if verb in ("send", "finish"):
+        verb += " " + way
+    match word:
+        case "hand" | "idle":
+            return word, None
+        case "look" | "post":
+            return (word, int(rest)) if NUMBER.fullmatch(rest) else None
+        case "close":
+            return word, rest
+        case _:
+            is_router = word[:1] == "r" and NUMBER.fullmatch(word[1:])
+            return (verb, int(word[1:])) if is_router and verb in VERBS else None
 
 
 def read(line: str) -> dict[str, Any]:
@@ -144,21 +154,27 @@ def read(line: str) -> dict[str, Any]:
     return value
 
 
-def is_allowed(run: Run, line: dict[str, Any]) -> bool:
-    """Whether a line may come next; it is taken then."""
+def own_text(line: dict[str, Any]) -> str:
+    """The text of an event, or the answer of a call."""
+    return line["event"] if isinstance(line.get("event"), str) else line["answer"]
+
+
+def taken(run: Run, line: dict[str, Any]) -> str | None:
+    """Takes the call of a line, or the act that its event begins with, and gives what that prints: with this text the line may come next. None if it is no call,
+    or no such act is possible."""
     if isinstance(text := line.get("event"), str):
         if not model.is_number(line.get("node"), 0, 255):
             raise NoLine
         act = named(text)
-        return act is not None and run.world.take(int(line["node"]), act, may_spoil=True) == text
+        return run.world.take(int(line["node"]), act, may_spoil=True) if act else None
     command = line.get("call")
     if not isinstance(line.get("answer"), str) or not model.is_command(command, len(run.world.nodes), set()):
         raise NoLine
-    return command[0] not in ("turn", "settle") and run.do(command) == [line["answer"]]
+    return None if command[0] in ("turn", "settle") else run.do(command)[0]
 
 
-def verdict(log: str) -> str:
-    """What is said of a log."""
+def verdict(log: str, tells_acts: bool = False) -> str:
+    """What is said of a log; and if that is asked for, in a line more, what the node of a refused act could do there."""
     lines = log.split("\n")
     lines = lines[:-1] if lines[-1] == "" else lines
     try:
@@ -172,22 +188,24 @@ def verdict(log: str) -> str:
     for number, text in enumerate(lines[1:], 2):
         try:
             line = read(text)
-            if not is_allowed(run, line):
-                return refused(number, line, int(nodes), int(words), lines[1 : number - 1])
+            instead = taken(run, line)
         except NoLine:
             return f"line {number}: no line of a log"
+        if instead != own_text(line):
+            said = [f"line {number}: refused"] + ([] if instead is None else [f"in its place: {instead}"])
+            return "\n".join(said + (acts_there(line, int(nodes), int(words), lines[1 : number - 1]) if tells_acts else []))
     return "allowed"
 
 
-def refused(number: int, line: dict[str, Any], nodes: int, words: int, before: list[str]) -> str:
-    """What is said of a line that isn't allowed, behind the lines before it."""
+def acts_there(line: dict[str, Any], nodes: int, words: int, before: list[str]) -> list[str]:
+    """The line that tells what the node of an act could do behind the lines before; none of a call, or if there is no such node."""
     node = line.get("node")
     if not isinstance(line.get("event"), str) or node >= nodes:
-        return f"line {number}: refused"
+        return []
     run = Run(nodes, words)
     for text in before:
-        is_allowed(run, read(text))
-    return f"line {number}: refused; node {node} could: " + ", ".join(run.world.possible(int(node)))
+        taken(run, read(text))
+    return [f"node {node} could: " + ", ".join(run.world.possible(int(node)))]
 
 
 # ---- runs
@@ -240,7 +258,7 @@ def main() -> int:
             sys.exit(f"{given.run} is no script")
         print(written(log_of(value, given.seed)), end="")
         return 0
-    said = verdict(sys.stdin.read())
+    said = verdict(sys.stdin.read(), tells_acts=True)
     print(said)
     return 0 if said == "allowed" else 2
 

@@ -1,17 +1,18 @@
 -- What is said of the lines of a text, one after the other.
-use Rattle.std.specs.Prelude.{ℕ, suc, ◌≡◌, ◌<◌, ◌+◌, ◌==◌, Bool, true, false, List, [], ◌∷◌, ◌++◌, length, take, drop, nat_eq, if◌then◌else◌, Some, None, refl}
+use Rattle.std.specs.Prelude.{ℕ, suc, ◌≡◌, ◌<◌, ◌+◌, ◌==◌, Bool, true, false, List, [], ◌∷◌, ◌++◌, length, take, drop, nat_eq, if◌then◌else◌, Option, Some, None, refl}
 use Rattle.std.proofs.Common.{arith, ap, ◌∙◌, sym, subst, inl, inr}
 use Rattle.std.proofs.lemmas.Bool.Decides.{nat_tests}
 use Rattle.ipcz_script.specs.Sessions.{Session, new_session}
 use Rattle.ipcz_events.specs.declared.entry.Entry.{Entry}
 use Rattle.ipcz_events.specs.declared.header.Header.{Header}
-use Rattle.ipcz_events.specs.declared.log_text.Heard.{Heard}
-use Rattle.ipcz_events.specs.declared.log_text.Heard.TheVariants as heard
+use Rattle.ipcz_events.specs.declared.judged.Judged.{Judged}
+use Rattle.ipcz_events.specs.declared.judged.Judged.TheVariants as judged
 use Rattle.ipcz_events.specs.declared.verdict.Verdict.{Verdict}
 use Rattle.ipcz_events.specs.declared.verdict.Verdict.TheVariants as verdicts
 use Rattle.ipcz_events.specs.Hearing.{Hears}
+use Rattle.ipcz_events.specs.Judging.{IsInstead, with_text}
 use Rattle.ipcz_events.specs.Rules.{MayEntry, MayLog}
-use Rattle.ipcz_events.specs.Verdicts.{IsHeader, IsSaidOf, IsVerdict, line_len, onto_first, text_lines}
+use Rattle.ipcz_events.specs.Verdicts.{IsHeader, IsInPlace, IsSaidOf, IsVerdict, line_len, onto_first, text_lines}
 use Rattle.ipcz_events.proofs.Deciding.{one_way}
 
 -- ---- one more line of a log
@@ -25,6 +26,13 @@ never_more : (log : List Entry) (s t : Session) (e : Entry) → MayLog s log t �
 never_more [] s t e may never v all = never all.0 (subst (λ x. MayEntry x e all.0) (sym may) all.1)
 never_more (x ∷ log) s t e may never v all =
     never_more log may.0 t e may.2 never v (subst (λ y. MayLog y (log ++ e ∷ []) v) (one_way s all.0 may.0 x all.1 may.1) all.2)
+
+-- what is told of a line in a session is told of it behind the lines that led there
+in_place : (nodes words : ℕ) (log : List Entry) (s : Session) (e : Entry) (told : Option (List ℕ)) → MayLog (new_session nodes words) log s →
+    IsInstead s e told → IsInPlace nodes words log e told
+in_place nodes words log s e (Some text) may instead =
+    (instead.0, one_more log (new_session nodes words) s instead.0 (with_text e text) may instead.1)
+in_place nodes words log s e None may none = (s, may, none)
 
 -- ---- the first line of a text
 
@@ -74,21 +82,29 @@ pub begins_with : (nodes words : ℕ) (s : Session) (all : List (List ℕ)) → 
 begins_with nodes words s all is = ([], is, λ v said. said)
 
 module _ (nodes words : ℕ) (s t : Session) (number : ℕ) where
-  pub said_refused : (all : List (List ℕ)) (rest : List ℕ) (n : ℕ) (h : Heard) → 0 < length rest → n ≡ line_len rest →
-      Hears s nodes (take n rest) h t → h ≡ heard.Refused → Reaches nodes words s number all (text_lines rest) → IsSaidOf nodes words [] 2 all (verdicts.Refused number)
-  said_refused all rest n h some is heard refused way =
+  pub said_refused : (all : List (List ℕ)) (rest : List ℕ) (n : ℕ) (h : Option Judged) (told : Option (List ℕ)) → 0 < length rest → n ≡ line_len rest →
+      Hears s nodes (take n rest) h t → h ≡ Some (judged.Refused told) → Reaches nodes words s number all (text_lines rest) →
+      IsSaidOf nodes words [] 2 all (verdicts.Refused number told)
+  said_refused all rest n h told some is heard refused way =
       let said = subst (λ x. Hears s nodes (take n rest) x t) refused heard in
-      way.2 (verdicts.Refused number) (subst (λ ls. IsSaidOf nodes words way.0 number ls (verdicts.Refused number)) (sym (first_of_rest rest n some is))
-      (inr (inl (said.0, said.1, (λ allowed. never_more way.0 (new_session nodes words) s said.0 way.1 said.2 allowed.0 allowed.1), refl))))
+      way.2 (verdicts.Refused number told) (subst (λ ls. IsSaidOf nodes words way.0 number ls (verdicts.Refused number told)) (sym (first_of_rest rest n some is))
+      (inr (inl (
+        said.0,
+        told,
+        said.1,
+        (λ allowed. never_more way.0 (new_session nodes words) s said.0 way.1 said.2.0 allowed.0 allowed.1),
+        in_place nodes words way.0 s said.0 told way.1 said.2.1,
+        refl,
+      ))))
 
-  pub said_none : (all : List (List ℕ)) (rest : List ℕ) (n : ℕ) (h : Heard) → 0 < length rest → n ≡ line_len rest →
-      Hears s nodes (take n rest) h t → h ≡ heard.NoLine → Reaches nodes words s number all (text_lines rest) → IsSaidOf nodes words [] 2 all (verdicts.NoLog number)
+  pub said_none : (all : List (List ℕ)) (rest : List ℕ) (n : ℕ) (h : Option Judged) → 0 < length rest → n ≡ line_len rest →
+      Hears s nodes (take n rest) h t → h ≡ None → Reaches nodes words s number all (text_lines rest) → IsSaidOf nodes words [] 2 all (verdicts.NoLog number)
   said_none all rest n h some is heard none way =
       let said = subst (λ x. Hears s nodes (take n rest) x t) none heard in
       way.2 (verdicts.NoLog number) (subst (λ ls. IsSaidOf nodes words way.0 number ls (verdicts.NoLog number)) (sym (first_of_rest rest n some is)) (inr (inr (said, refl))))
 
-  pub goes_on : (next : ℕ) (all : List (List ℕ)) (rest left : List ℕ) (n : ℕ) (h : Heard) → 0 < length rest → n ≡ line_len rest →
-      Hears s nodes (take n rest) h t → h ≡ heard.Allowed → left ≡ drop (n + 1) rest → next ≡ number + 1 → Reaches nodes words s number all (text_lines rest) →
+  pub goes_on : (next : ℕ) (all : List (List ℕ)) (rest left : List ℕ) (n : ℕ) (h : Option Judged) → 0 < length rest → n ≡ line_len rest →
+      Hears s nodes (take n rest) h t → h ≡ Some judged.Allowed → left ≡ drop (n + 1) rest → next ≡ number + 1 → Reaches nodes words s number all (text_lines rest) →
       Reaches nodes words t next all (text_lines left)
   goes_on next all rest left n h some is heard allowed behind more way =
       let said = subst (λ x. Hears s nodes (take n rest) x t) allowed heard in

@@ -1,5 +1,5 @@
 -- The status that the program ends with, its texts, and what it has read and written by then.
-use Rattle.std.specs.Prelude.{ℕ, ◌≡◌, ◌≤◌, ◌+◌, ◌↔◌, ◌++◌, ◌∷◌, [], Bool, true, false, IsTrue, IsErrOf, List, length, Option, Result, Ok, Err, codes}
+use Rattle.std.specs.Prelude.{ℕ, ◌≡◌, ◌≤◌, ◌+◌, ◌↔◌, ◌++◌, ◌∷◌, [], Bool, true, false, IsTrue, IsErrOf, List, length, Option, Some, None, Result, Ok, Err, codes}
 use Rattle.std.specs.Fmt.{decimal}
 use Rattle.std.specs.Io.KnownBytes.{Appends, Consumes, IsAtEnd, Keeps}
 use Rattle.ipcz_device.specs.WholeIo.{AppendsFront, ConsumesAtMost}
@@ -13,11 +13,19 @@ use Rattle.ipcz_events.specs.Verdicts.{IsVerdict}
 abbrev pub line : List ℕ → List ℕ
 line text = text ++ 10 ∷ []
 
--- the line that is written for a verdict
+-- the line that tells what is allowed in place of a refused one, if something is told
+abbrev pub place_text : Option (List ℕ) → List ℕ
+place_text None = []
+place_text (Some told) = codes "in its place: " ++ line told
+
+-- what is written for a verdict
+abbrev pub verdict_text : Verdict → List ℕ
+verdict_text verdicts.Allowed = line (codes "allowed")
+verdict_text (verdicts.Refused n told) = codes "line " ++ decimal n ++ line (codes ": refused") ++ place_text told
+verdict_text (verdicts.NoLog n) = codes "line " ++ decimal n ++ line (codes ": no line of a log")
+
 abbrev pub IsText : Verdict → List ℕ → Type 0
-IsText verdicts.Allowed text = text ≡ line (codes "allowed")
-IsText (verdicts.Refused n) text = text ≡ codes "line " ++ (decimal n ++ line (codes ": refused"))
-IsText (verdicts.NoLog n) text = text ≡ codes "line " ++ (decimal n ++ line (codes ": no line of a log"))
+IsText verdict text = text ≡ verdict_text verdict
 
 -- how many bytes a log may have
 abbrev pub most_bytes : ℕ
@@ -29,7 +37,7 @@ pub record IsInput (before after : Option (List ℕ)) (input : List ℕ) : Type 
   pub most : length input ≤ most_bytes + 1
   pub whole : length input ≤ most_bytes → IsAtEnd after
 
--- what was read and written, by the answer: the verdict's line, or after a failed write some front of it, and else nothing
+-- what was read and written, by the answer: the verdict's text, or after a failed write some front of it, and else nothing
 abbrev pub ReadsAndWrites : Option (List ℕ) → Option (List ℕ) → Option (List ℕ) → Option (List ℕ) → Result Verdict RunFault → Type 0
 ReadsAndWrites before after old new (Ok verdict) =
     (input : List ℕ) × (text : List ℕ) × IsInput before after input × IsVerdict input verdict × IsText verdict text × Appends old new text
@@ -43,7 +51,7 @@ unfoldable pub status : Result Verdict RunFault → ℕ
 status (Ok verdicts.Allowed) = 0
 status (Err faults.Read) = 1
 status (Err faults.Write) = 1
-status (Ok (verdicts.Refused n)) = 2
+status (Ok (verdicts.Refused n told)) = 2
 status (Ok (verdicts.NoLog n)) = 2
 status (Err faults.OutOfMemory) = 3
 
@@ -55,6 +63,7 @@ usage = line (codes "usage: ipcz_judge_events [--help] < LOG")
 abbrev pub help : List ℕ
 help = usage ++ line [] ++ line (codes "Reads a log of the calls and events of another implementation, a JSON value a line, and says whether the rules allow it: ends with")
     ++ line (codes "status 0 if they do, and else with status 2 and the first line that they don't allow, or that is none of a log.")
+    ++ line (codes "Of one that they don't allow a second line tells a text that is allowed in its place, if one is known.")
 
 -- a text was written, with this status, or after a failed write some front of it, with the status 1
 abbrev pub Writes : List ℕ → ℕ → Option (List ℕ) → Option (List ℕ) → Bool → ℕ → Type 0

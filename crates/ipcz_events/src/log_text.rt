@@ -17,14 +17,6 @@ use ipcz_script::Session;
 use serde_json::Value;
 use std::alloc::{AllocError, Global};
 
-/// What came of a line.
-#[derive(Clone, Copy, Debug, PartialEq, Eq)]
-pub(crate) enum Heard {
-    Allowed,
-    Refused,
-    NoLine,
-}
-
 // How many bytes stand before the first line feed, or at all.
 fn line_len(text: &[u8]) -> usize
     ensures len { result ≡ line_len text.now }
@@ -71,18 +63,21 @@ fn read_header(alloc: Global, bytes: &[u8]) -> Result<Option<Header>, AllocError
     Ok(header_in(&value))
 }
 
-// What the judge says of the next line.
-fn hear(alloc: Global, session: &mut Session, nodes: u8, bytes: &[u8]) -> Result<Heard, AllocError>
+// What the judge says of the next line, if the bytes are one.
+fn hear(
+    alloc: Global,
+    session: &mut Session,
+    nodes: u8,
+    bytes: &[u8],
+) -> Result<Option<Judged>, AllocError>
     requires some_node { 0 < nodes }
     ensures { IfOk result (λ heard. Hears session.old nodes bytes.now heard session.new) }
 {
     let Some(entry) = read_line(alloc, nodes, bytes)? else {
-        return Ok(Heard::NoLine);
+        return Ok(None);
     };
-    match judge(alloc, session, &entry)? {
-        Judged::Allowed => Ok(Heard::Allowed),
-        Judged::Refused(_) => Ok(Heard::Refused),
-    }
+    let judged = judge(alloc, session, &entry)?;
+    Ok(Some(judged))
 }
 
 // The bytes behind the first line and its line feed.
@@ -104,22 +99,23 @@ fn judge_lines(alloc: Global, header: Header, text: &[u8]) -> Result<Verdict, Al
 {
     let mut session = Session::new(alloc, header.nodes, header.words)?;
     let mut rest = text;
-    let mut number = 2u64;
+    let mut line = 2u64;
     while !rest.is_empty() {
         let len = line_len(rest);
         match hear(alloc, &mut session, header.nodes, &rest[..len])? {
-            Heard::Allowed => {}
-            Heard::Refused => return Ok(Verdict::Refused(number)),
-            Heard::NoLine => return Ok(Verdict::NoLog(number)),
+            Some(Judged::Allowed) => {}
+            Some(Judged::Refused(instead)) => return Ok(Verdict::Refused { line, instead }),
+            None => return Ok(Verdict::NoLog(line)),
         }
         rest = behind(rest, len);
-        number = number.checked_add(1).ok_or(AllocError)?;
+        line = line.checked_add(1).ok_or(AllocError)?;
     }
     Ok(Verdict::Allowed)
 }
 
 /// What is said of the text of a log: whether its first line is a header and each other one a line of a log that the rules allow behind those
-/// before it; and if not, which is the first that isn't so.
+/// before it; and if not, which is the first that isn't so. Of one that isn't allowed a text is told, too, that is allowed in place of its own, where
+/// `judge` tells one.
 ///
 /// So of an empty text it is said that line 1 is no line of a log.
 pub fn judge_log(alloc: Global, text: &[u8]) -> Result<Verdict, AllocError>

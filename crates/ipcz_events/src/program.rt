@@ -1,23 +1,24 @@
 //! The program `ipcz_judge_events`, but for its arguments and devices.
 
-ghost use Rattle.std.specs.Prelude.{◌≡◌, ◌↔◌, false, Ok, OnErr, IsErrOf, IfOk, IsTrue, string_bytes};
-ghost use Rattle.ipcz_events.specs.Outputs.{help, Judges, IsText, ReadsAndWrites, status, usage, Writes};
+ghost use Rattle.std.specs.Prelude.{◌≡◌, ◌↔◌, ◌++◌, false, Ok, OnErr, OnOk, IsErrOf, IfOk, IsTrue, codes};
+ghost use Rattle.ipcz_events.specs.Outputs.{help, Judges, IsText, line, place_text, ReadsAndWrites, status, usage, verdict_text, Writes};
 
 use crate::log_text::judge_log;
 use crate::verdict::Verdict;
+use ipcz_base::Bytes;
 use ipcz_device::{Device, read_up_to, write_whole};
 use ipcz_script::RunFault;
 use std::alloc::{AllocError, Global};
 use std::env;
 use std::env::Env;
-use std::io::{ErrorKind, Read, Write};
+use std::io::{self, ErrorKind, Read, Write};
 
 const MOST_READ: usize = 1_073_741_825;
 
 const USAGE: &[u8] = b"usage: ipcz_judge_events [--help] < LOG\n";
 
 const HELP: &[u8] =
-    b"usage: ipcz_judge_events [--help] < LOG\n\nReads a log of the calls and events of another implementation, a JSON value a line, and says whether the rules allow it: ends with\nstatus 0 if they do, and else with status 2 and the first line that they don't allow, or that is none of a log.\n";
+    b"usage: ipcz_judge_events [--help] < LOG\n\nReads a log of the calls and events of another implementation, a JSON value a line, and says whether the rules allow it: ends with\nstatus 0 if they do, and else with status 2 and the first line that they don't allow, or that is none of a log.\nOf one that they don't allow a second line tells a text that is allowed in its place, if one is known.\n";
 
 /// What the arguments of the program ask for.
 #[derive(Clone, Copy, Debug, PartialEq, Eq)]
@@ -51,14 +52,47 @@ pub fn asked_for(rt: &(impl Env + Alloc)) -> Result<Asked, AllocError> {
     }
 }
 
-// The line that is written for a verdict.
-fn text_of(alloc: Global, verdict: Verdict) -> Result<String, AllocError>
-    ensures { IfOk result (λ text. IsText verdict (string_bytes text)) }
+// Adds the line that tells a text.
+fn push_told(out: &mut Vec<u8>, text: &[u8]) -> io::Result<()>
+    ensures { OnOk result (out.new.items ≡ out.old.items ++ codes "in its place: " ++ line text.now) }
+{
+    write!(out, "in its place: ")?;
+    out.extend_from_slice(text)?;
+    writeln!(out)
+}
+
+// Adds the line that tells what is allowed in place of a refused one, if something is told.
+fn push_place(out: &mut Vec<u8>, told: &Option<Bytes>) -> io::Result<()>
+    ensures { OnOk result (out.new.items ≡ out.old.items ++ place_text told.now) }
+{
+    match told {
+        Some(text) => push_told(out, text.as_slice()),
+        None => Ok(()),
+    }
+}
+
+// Adds what is written for a verdict.
+fn push_verdict(out: &mut Vec<u8>, verdict: &Verdict) -> io::Result<()>
+    ensures { OnOk result (out.new.items ≡ out.old.items ++ verdict_text verdict.now) }
 {
     match verdict {
-        Verdict::Allowed => String::from_str(alloc, "allowed\n"),
-        Verdict::Refused(line) => format!(in alloc; "line {line}: refused\n"),
-        Verdict::NoLog(line) => format!(in alloc; "line {line}: no line of a log\n"),
+        Verdict::Allowed => writeln!(out, "allowed"),
+        Verdict::Refused { line, instead } => {
+            writeln!(out, "line {line}: refused")?;
+            push_place(out, instead)
+        }
+        Verdict::NoLog(line) => writeln!(out, "line {line}: no line of a log"),
+    }
+}
+
+// What is written for a verdict.
+fn text_of(alloc: Global, verdict: &Verdict) -> Result<Vec<u8>, AllocError>
+    ensures { IfOk result (λ text. IsText verdict.now text.items) }
+{
+    let mut text = Vec::new(alloc);
+    match push_verdict(&mut text, verdict) {
+        Ok(()) => Ok(text),
+        Err(_) => Err(AllocError),
     }
 }
 
@@ -80,8 +114,8 @@ pub fn check<R: Read, W: Write>(
 {
     let input = read_up_to(alloc, reader, MOST_READ)?;
     let verdict = judge_log(alloc, &input)?;
-    let text = text_of(alloc, verdict)?;
-    let Ok(()) = write_whole(writer, text.as_bytes()) else {
+    let text = text_of(alloc, &verdict)?;
+    let Ok(()) = write_whole(writer, &text) else {
         return Err(RunFault::Write);
     };
     Ok(verdict)
@@ -95,7 +129,7 @@ fn status_of(ending: Result<Verdict, RunFault>) -> u8
     match ending {
         Ok(Verdict::Allowed) => 0,
         Err(RunFault::Read | RunFault::Write) => 1,
-        Ok(Verdict::Refused(_) | Verdict::NoLog(_)) => 2,
+        Ok(Verdict::Refused { .. } | Verdict::NoLog(_)) => 2,
         Err(RunFault::OutOfMemory) => 3,
     }
 }

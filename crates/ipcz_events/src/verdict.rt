@@ -1,10 +1,13 @@
+use ipcz_base::Bytes;
+
 /// What a judge says of the text of a log with events.
-#[derive(Clone, Copy, Debug, PartialEq, Eq)]
+#[derive(Debug, Drop)]
 pub enum Verdict {
     /// The rules allow each line.
     Allowed,
-    /// They allow the lines before this one, and not those up to it. Lines are counted from 1, which is the header.
-    Refused(u64),
+    /// They allow the lines before this one, and not those up to it. Lines are counted from 1, which is the header. If there is a text, the rules
+    /// allow the line with it in place of its own, as `Judged::Refused` tells.
+    Refused { line: u64, instead: Option<Bytes> },
     /// The lines before this one are allowed, and it is no line of a log (or, if it is the first, no header).
     NoLog(u64),
 }

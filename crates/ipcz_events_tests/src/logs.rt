@@ -6,7 +6,7 @@ use std::alloc::{AllocError, Global};
 
 // A portal moves to node 1 and the proxy that it leaves is bypassed. The order of the acts isn't that of turns: on node 0 the proxy claims a word before
 // the router that has sent the parcel rests, and begins its bypass before the parcel is posted.
-static LINES: [&str; 46] = [
+pub(crate) static LINES: [&str; 46] = [
     "{\"call\": [\"open\", 0, \"x\", \"y\"], \"answer\": \"open x y ok\"}",
     "{\"call\": [\"put\", \"0>1\", \"m\", [\"y\"]], \"answer\": \"put 0>1 0\"}",
     "{\"node\": 0, \"event\": \"r0 send out 0 C0 moves 1B\"}",
