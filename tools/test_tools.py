@@ -29,7 +29,7 @@ from asked import TOP
 
 HERE = pathlib.Path(__file__).resolve().parent
 # Not tools but what they share.
-SHARED = ("asked", "peers")
+SHARED = ("asked", "mutations", "peers")
 # A page and the title of a part of it, as pages and comments name it, there perhaps over the end of a line.
 NAMED = re.compile(r'([A-Z_]+)\.md\)?,\s+(?:(?://[/!]?|--|#)\s+)?"([^"]+)"(?: and "([^"]+)")?')
 # A part that a page names in brackets by itself: it is one of the same page.
@@ -41,7 +41,7 @@ QUOTED = re.compile(r"^<!-- out of (\S+) -->\n```\w*\n(.*?)^```$", re.MULTILINE 
 # A script on four nodes that needs one, whose commands stand on the last.
 MERGED = {"nodes": 4, "words": 7, "commands": [["open", 3, "a", "b"], ["put", "a", "more", ["3>1"]], ["settle", 100], ["get", "b"]]}
 # Tools that run a program which is given to them, with the options that they need for it.
-OF_A_PROGRAM = ("benchmark", "compare_judges", "compare_with_model", "make_cases --check", "refuse_growth", "soak", "try_example", "try_pages")
+OF_A_PROGRAM = ("benchmark", "compare_judges", "compare_with_model", "make_cases --check", "refuse_growth", "soak", "try_example", "try_logs", "try_pages")
 # What the model answers of bytes that are no script, or barely one, by docs/SCRIPTS.md, "The script".
 SCRIPT = b'{"nodes":1,"words":1,"commands":[["put","x",%s]]}'
 TEXTS = {
