@@ -3,6 +3,8 @@ kind's, its sentence says what it changes, and beside it stands what is known of
 
 A kind takes a case, which has a log, another log, and what draws. It gives the text of the changed log, or none if the log has nothing that it could change. A text
 may have bytes that are no UTF-8, which stand in it as Python's `surrogateescape` has them.
+
+What may be allowed either means the same, or is another run that is possible, too: then the reason says how that can be.
 """
 import json
 import random
@@ -16,7 +18,8 @@ import model
 
 Entry = dict[str, Any]
 
-# What is known of the verdict on what a kind makes: it is never allowed; or always, since it means the same; or else it may be, for a reason that is told.
+# What is known of the verdict on what a kind makes: the first changed line never is allowed; or all always are, since it means the same; or else all may be, for a
+# reason that is told.
 NEVER, ALWAYS = "never", "always"
 # The verbs of acts whose events have the same parts: a link and a word.
 OF_A_WORD = ["mark", "wake", "lock", "wait", "refused", "unlock"]
@@ -136,16 +139,18 @@ def portals(call: list[Any]) -> list[str]:
     return call[3] if len(call) > 3 else []
 
 
+Change = Callable[[Case], str | None]
+
+
 @dataclass(frozen=True)
 class Kind:
     name: str
     sentence: str
     allowed: str
-    change: Callable[[Case], str | None]
+    change: Change
 
 
 KINDS: list[Kind] = []
-Change = Callable[[Case], str | None]
 
 
 def kind(allowed: str) -> Callable[[Change], Change]:
@@ -282,7 +287,7 @@ def line_of_another_log_put_in(case: Case) -> str | None:
     return case.put_in(case.place(), case.draw.choice(case.others[1:]))
 
 
-@kind("of a log that is cut the end of another may be the rest, if it is a few lines")
+@kind("the other's last lines are few, and possible there, as calls that are refused")
 def end_of_another_log(case: Case) -> str | None:
     """From some place on the lines are those of another log."""
     return text_of([*case.lines[: case.place()], *case.others[case.draw.randrange(1, len(case.others)) :]])
@@ -304,7 +309,7 @@ def rest_put_in(case: Case) -> str | None:
     return case.put_in(case.place(), json.dumps({"node": case.entries[at]["node"], "event": f"{serial} rest"}))
 
 
-@kind("only an idle node, or a whole that has settled, shows that a router has rested")
+@kind("only an idle node shows that its routers have rested")
 def rest_lost(case: Case) -> str | None:
     """A rest is left out."""
     at = case.line(lambda entry: entry.get("event", "").endswith(" rest"))
@@ -551,7 +556,7 @@ def unlocked(case: Case) -> tuple[int, str] | None:
     return at, json.dumps({"node": case.entries[at]["node"], "event": f"{serial} unlock {link} {word}"})
 
 
-@kind("nothing behind it hangs on it, since that bypass isn't seen any more")
+@kind("the log tells nothing more of that bypass, or of the other end of that pair")
 def unlock_for_a_begin(case: Case) -> str | None:
     """A router gives its lock back where it began its bypass, or retired."""
     found = unlocked(case)
@@ -654,7 +659,7 @@ def portal_put_in(case: Case) -> str | None:
     return case.in_portals(0, lambda names: [*names, case.draw.choice([*case.names(), "nobody"])])
 
 
-@kind("where the same portal is in the list already, the put is refused for it as before")
+@kind("the put is refused for its own portal already, or for a reason that comes before")
 def portal_of_its_own(case: Case) -> str | None:
     """A put carries its own portal."""
     return case.in_put(0, lambda call: [*call[:3], [*portals(call), call[1]]])

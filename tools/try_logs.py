@@ -4,8 +4,8 @@
 
 JUDGE is ipcz_judge_events, and RUN is ipcz_run. Each of N logs (8 if nothing is said) is that of a random script, run by tools/judge_events.py in an order of acts that
 its seed draws. It must be allowed. A copy of it is changed in each way of tools/mutations.py for which it has a place: of each the program must say what
-tools/judge_events.py says, with its status. No line before the changed one may be refused; a copy that means the same must be allowed, and one that nothing makes
-possible must not.
+tools/judge_events.py says, with its status. No line before the changed one may be refused; a copy that means the same must be allowed; and where nothing makes the
+changed line possible, that line must be the one that isn't allowed.
 
 Each of N runs (80 if nothing is said) is one of a random script by ipcz_run, with turns in place of each settle, so that the transcript shows each act. Both judges must
 allow the log that the script and its transcript are.
@@ -94,16 +94,24 @@ def outcome_of(said: str, first: int) -> str:
     return "refused there" if int(found[1]) == first else "refused later"
 
 
+def is_known(allowed: str, said: str, first: int) -> bool:
+    """Whether a verdict is one that is known to be possible of a log whose first changed line has this number."""
+    if allowed == mutations.ALWAYS:
+        return said == "allowed"
+    if allowed == mutations.NEVER:
+        return said.startswith(f"line {first}: ")
+    return outcome_of(said, first) in COLUMNS
+
+
 def judged(judge: pathlib.Path, name: str, seed: int, log: bytes, allowed: str, first: int = 0) -> Tried:
-    """What the two judges say of a log that is always or never allowed, or perhaps."""
+    """What the two judges say of a log, of which it is known whether it is allowed."""
     rules, program = said_by_rules(log), said_by_program(judge, log)
-    outcome = outcome_of(rules, first)
     fault = ""
     if rules != program:
-        fault = f"the program says {program!r}; tools/judge_events.py {rules!r}"
-    elif outcome not in COLUMNS or (allowed == mutations.ALWAYS and outcome != "allowed") or (allowed == mutations.NEVER and outcome == "allowed"):
-        fault = f"both say {rules!r} of a log that is {allowed} allowed, and is changed at line {first}"
-    return Tried(name, outcome, f"{name}, seed {seed}: {fault}" if fault else "", log if fault else b"")
+        fault = f"{name}, seed {seed}: the program says {program!r}; tools/judge_events.py {rules!r}"
+    elif not is_known(allowed, rules, first):
+        fault = f"{name}, seed {seed}: both say {rules!r}; the first changed line is {first} (allowed: {allowed})"
+    return Tried(name, outcome_of(rules, first), fault, log if fault else b"")
 
 
 # ---- Changed logs
@@ -199,10 +207,11 @@ def table(counts: collections.Counter[tuple[str, str]]) -> Iterator[str]:
 
 def summary(counts: collections.Counter[tuple[str, str]]) -> str:
     """All in a line."""
-    kinds = {name for name, _ in counts if name not in (AS_IT_IS, OF_A_RUN)}
-    told = {column: sum(number for (name, outcome), number in counts.items() if name in kinds and outcome == column) for column in COLUMNS}
+    kinds = {name for name, _ in counts} - {AS_IT_IS, OF_A_RUN}
+    told = {column: sum(counts[name, column] for name in kinds) for column in COLUMNS}
     runs, logs = (sum(number for (name, _), number in counts.items() if name == meant) for meant in (OF_A_RUN, AS_IT_IS))
-    return f"{runs} runs, {logs} logs, {sum(told.values())} changes of {len(kinds)} of {len(mutations.KINDS)} kinds: " + ", ".join(f"{number} {column}" for column, number in told.items())
+    copies = f"{sum(told.values())} copies changed in {len(kinds)} of {len(mutations.KINDS)} ways"
+    return f"{runs} runs, {logs} logs, {copies}: " + ", ".join(f"{number} {column}" for column, number in told.items())
 
 
 def keep(folder: pathlib.Path | None, number: int, tried: Tried) -> None:
