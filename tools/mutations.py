@@ -1013,7 +1013,7 @@ def letters_as_escapes(case: Case) -> str | None:
     texts = re.compile(r'"(?:[^"\\]|\\.)*"')
 
     def escaped(found: re.Match[str]) -> str:
-        return '"' + re.sub(r"(\\.)|([A-Za-z>])", lambda it: it[1] or f"\\u{ord(it[2]):04x}", found[0][1:-1]) + '"'
+        return '"' + re.sub(r"(\\u....|\\.)|([A-Za-z>])", lambda it: it[1] or f"\\u{ord(it[2]):04x}", found[0][1:-1]) + '"'
 
     return case.with_line(case.draw.randrange(len(case.lines)), lambda line: texts.sub(escaped, line))
 
