@@ -501,7 +501,7 @@ def act_of_a_router(case: Case) -> str | None:
     return case.in_event(rf"^r\d+ ({'|'.join(judge_events.VERBS)})\b", lambda verb: case.one_but(list(judge_events.VERBS), verb))
 
 
-@kind(NEVER)
+@kind("a node may look for what another has sent where it posted to that, and the other way round")
 def act_of_a_node(case: Case) -> str | None:
     """The verb of a node's own act is that of another act, with all that stands behind it."""
     verbs = ["hand", "look", "post", "close", "idle"]
