@@ -614,13 +614,16 @@ class Run:
     def __init__(self, nodes: int, words: int) -> None:
         self.world = World(nodes, words)
         self.ends: dict[str, End] = {}
+        # The name that each end was opened by: in a log that may be opened again, and then names another end.
+        self.titles: dict[End, str] = {}
         self.is_unsettled = False
         pairs = [(low, high) for low in range(nodes) for high in range(low + 1, nodes)]
         for pair, (low, high) in enumerate(pairs):
-            self.ends[f"{low}>{high}"], self.ends[f"{high}>{low}"] = (pair, "A"), (pair, "B")
+            self.bind((pair, "A"), f"{low}>{high}")
+            self.bind((pair, "B"), f"{high}>{low}")
 
-    def name_of(self, end: End) -> str:
-        return next(name for name, named in self.ends.items() if named == end)
+    def bind(self, end: End, name: str) -> None:
+        self.ends[name], self.titles[end] = end, name
 
     def do(self, command: list) -> list[str]:
         """The lines of a command."""
@@ -659,7 +662,8 @@ class Run:
         return node, self.ends[name], [self.ends[each] for each in names]
 
     def open(self, node: int, a: str, b: str) -> str:
-        self.ends[a], self.ends[b] = self.world.open(node)
+        for end, name in zip(self.world.open(node), (a, b)):
+            self.bind(end, name)
         return "ok"
 
     def put(self, name: str, data: bytes, names: list[str]) -> int:
@@ -668,7 +672,7 @@ class Run:
 
     def get(self, name: str) -> str:
         number, item = self.world.get(*self.place(name, [])[:2])
-        names = ",".join(map(self.name_of, item.ends))
+        names = ",".join(self.titles[end] for end in item.ends)
         return f'{number} [{names}] "{item.data.decode()}"'
 
     def turns(self, node: int, turns: int) -> list[str]:

@@ -17,6 +17,7 @@ import tempfile
 import asked
 import count_sizes
 import judge
+import judge_events
 import make_reference
 import make_theorem
 import model
@@ -29,7 +30,7 @@ from asked import TOP
 
 HERE = pathlib.Path(__file__).resolve().parent
 # Not tools but what they share.
-SHARED = ("asked", "peers")
+SHARED = ("asked", "mutations", "peers")
 # A page and the title of a part of it, as pages and comments name it, there perhaps over the end of a line.
 NAMED = re.compile(r'([A-Z_]+)\.md\)?,\s+(?:(?://[/!]?|--|#)\s+)?"([^"]+)"(?: and "([^"]+)")?')
 # A part that a page names in brackets by itself: it is one of the same page.
@@ -41,7 +42,19 @@ QUOTED = re.compile(r"^<!-- out of (\S+) -->\n```\w*\n(.*?)^```$", re.MULTILINE 
 # A script on four nodes that needs one, whose commands stand on the last.
 MERGED = {"nodes": 4, "words": 7, "commands": [["open", 3, "a", "b"], ["put", "a", "more", ["3>1"]], ["settle", 100], ["get", "b"]]}
 # Tools that run a program which is given to them, with the options that they need for it.
-OF_A_PROGRAM = ("benchmark", "compare_judges", "compare_with_model", "make_cases --check", "refuse_growth", "soak", "try_example", "try_pages")
+OF_A_PROGRAM = ("benchmark", "compare_judges", "compare_with_model", "make_cases --check", "refuse_growth", "soak", "try_example", "try_logs", "try_pages")
+# A log in which names are opened again while a portal that has one of them travels: a get tells it by the name that it was opened by.
+OPENED_AGAIN = r"""{"nodes": 1, "words": 3}
+{"call": ["open", 0, "x", "y"], "answer": "open x y ok"}
+{"call": ["open", 0, "u", "v"], "answer": "open u v ok"}
+{"call": ["put", "u", "m", ["y"]], "answer": "put u 0"}
+{"call": ["open", 0, "x", "y"], "answer": "open x y ok"}
+{"node": 0, "event": "r2 send out 0 C1"}
+{"node": 0, "event": "post 0"}
+{"node": 0, "event": "look 0"}
+{"node": 0, "event": "hand item 0 C1"}
+{"call": ["get", "v"], "answer": "get v 0 [y] \"m\""}
+"""
 # What the model answers of bytes that are no script, or barely one, by docs/SCRIPTS.md, "The script".
 SCRIPT = b'{"nodes":1,"words":1,"commands":[["put","x",%s]]}'
 TEXTS = {
@@ -108,7 +121,8 @@ def faults_of_the_model() -> list[str]:
         text, status, _ = model.answer(script)
         if (status == 2, text if status == 2 else "") != (refusal is not None, f"refused {refusal}\n" if refusal else ""):
             faults.append(f"model of {script[:60]!r}: status {status}, {text[:60]!r}")
-    return faults
+    said = judge_events.verdict(OPENED_AGAIN)
+    return faults + ([] if said == "allowed" else [f"judge_events of names that are opened again: {said}"])
 
 
 def faults_of_readme() -> list[str]:
