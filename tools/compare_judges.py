@@ -102,7 +102,7 @@ def compare(doc: str, name: str, count: int, logs_of: Callable[[int], list[bytes
     for seed in range(arguments.first, arguments.first + arguments.count):
         for number, log in enumerate(logs_of(seed)):
             wanted = verdict(log)
-            said[wanted.split(": ")[-1]] += 1
+            said[wanted.partition("\n")[0].split(": ")[-1]] += 1
             if number == 0 and wanted != "allowed":
                 print(f"{seed}.{number}: {name} says {wanted}")
                 wrong += 1
