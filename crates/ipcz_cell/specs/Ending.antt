@@ -9,6 +9,7 @@ use Rattle.ipcz_base.specs.declared.refusal.Refusal.{Refusal}
 use Rattle.ipcz_base.specs.declared.refusal.Refusal.TheVariants as refusals
 use Rattle.ipcz_world.specs.declared.mail.Mail.{Mail}
 use Rattle.ipcz_world.specs.declared.mail.Mail.TheVariants as mails
+use Rattle.ipcz_rule.specs.declared.view.View.{View}
 use Rattle.ipcz_rule.specs.declared.view.Part.{Part}
 use Rattle.ipcz_rule.specs.Rule.{Slot, saw}
 use Rattle.ipcz_rule.specs.Steps.{unprobe_part}
@@ -68,3 +69,16 @@ FinishRefuses count cells why = why ≡ (if is_in_order count 0 cells then refus
 -- why a table gives no world: its slots are used again, so the words of numbers that were let go are gone; or as above
 abbrev pub GivesNoWorld : TableName → List CellState → Refusal → Type 0
 GivesNoWorld t cells why = MatchBool t.reuses (why ≡ refusals.NoWord) (FinishRefuses t.count cells why)
+
+-- a view whose part is of no node of the table
+abbrev pub outside : ℕ → View → View
+outside count v = change_part (λ p. record {
+  node = count;
+  state = p.state;
+  message = p.message;
+  probed = p.probed;
+  put = p.put;
+  got = p.got;
+  gone = p.gone;
+  history = p.history;
+}) v

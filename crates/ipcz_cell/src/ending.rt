@@ -109,6 +109,7 @@ fn give_back<F: FabricName, X: Outcome>(
 }
 
 // What is left of a cell that has given its slots back.
+#[derive(Drop)]
 pub(crate) struct Rest {
     pub(crate) state: NodeState,
     pub(crate) message: Option<Message>,
@@ -126,7 +127,7 @@ impl<F: FabricName> NodeCell<F> {
     }
 
     // Gives its slots back.
-    fn rest(self, fabric: &Fabric<F>) -> Rest
+    pub(crate) fn rest(self, fabric: &Fabric<F>) -> Rest
         ensures state { result.state.node ≡ self.part.state }
         ensures message { result.message ≡ self.part.message }
         ensures seat { (result.seat.table_id ≡ F.table.id) × (result.seat.me.0.view.parts ≡ rested self.part ∷ []) × (result.seat.me.1 ≡ []) }

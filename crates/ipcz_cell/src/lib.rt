@@ -25,6 +25,7 @@ mod seat;
 mod sizes;
 mod slots;
 mod turns;
+mod twins;
 mod waits;
 mod words;
 

@@ -327,6 +327,22 @@ impl Join<Own<View>> for Together {
     ghost spent = { own_of spent [] [] [] };
 }
 
+/// Two seats with a part of one node would become one whose part is of no node. There are none such, so anything may be said of them.
+pub(crate) struct Twins<F> {
+    of: PhantomData<F>,
+}
+
+impl<F: FabricName> Join<Own<View>> for Twins<F> {
+    ghost use Rattle.std.specs.Prelude.{◌++◌, []};
+    ghost use Rattle.ipcz_rule.specs.Kinds.{spent};
+    ghost use Rattle.ipcz_rule.specs.Lasting.{own_of};
+    ghost use Rattle.ipcz_cell.specs.Ending.{outside};
+
+    ghost both = { λ o p. own_of (outside F.table.count o.view) (o.dirty ++ p.dirty) (o.free ++ p.free) o.looked };
+
+    ghost spent = { own_of spent [] [] [] };
+}
+
 /// A new seat has the view of a caller that has called nothing yet.
 pub(crate) struct Comes;
 

@@ -1,14 +1,16 @@
 //! Hubs: cells that threads share, each behind a lock of its own. There is no other lock.
-ghost use Rattle.std.specs.Prelude.{◌≡◌, ◌⊎◌, ◌≤◌, ◌<◌, [], true, false, OnOk, IfOk, IfErr, Err, vec_len, vec_capacity};
+ghost use Rattle.std.specs.Prelude.{◌≡◌, ◌≤◌, ◌<◌, [], true, OnOk, IfOk, IfErr, Err, length, vec_len, vec_capacity};
 ghost use Rattle.std.specs.Sync.Mutex.{mutex_guard_value};
 ghost use Rattle.ipcz_cell.specs.Ending.{FinishRefuses, is_in_order};
 ghost use Rattle.ipcz_fabric.specs.Places.{IsCellOf};
+ghost use Rattle.ipcz_fabric.specs.Sorting.{AreSorted, standing};
 ghost use Rattle.ipcz_fabric.specs.Hubs.{AddsFirst, AddsHeld, AreFirstPortals, ArePair};
 ghost use Rattle.ipcz_fabric.specs.Hubs.{AreTurnAnswers, IsOpenAnswer, IsOpenRefusal, IsRetryAnswer, IsTurnAnswer, IsTurnRefusal, IsAskingAnswer, TurnsAsking, is_again, is_idle};
 
 use crate::caller::Caller;
 use crate::desk::Desk;
 use crate::portal::Portal;
+use crate::sorting::{cells_at, empty_places, put_in_place};
 use ipcz_base::Refusal;
 use ipcz_cell::{CallerSeat, Fabric, FabricName, NodeCell, Retry};
 use ipcz_node::Happened;
@@ -59,14 +61,18 @@ fn lock_all<F: FabricName>(
     locked
 }
 
-// Takes each cell out of its lock.
+// Takes each cell out of its lock, and puts it at the place of its node.
 fn unlock_all<F: FabricName>(
+    fabric: &Fabric<F>,
     locked: Vec<Mutex<Desk<F>>>,
-    mut cells: Vec<NodeCell<F>>,
-) -> Vec<NodeCell<F>>
-    requires room { vec_len locked ≤ vec_capacity cells }
-    requires empty { vec_len cells ≡ 0 }
-    ensures { vec_len result ≡ vec_len locked }
+    mut places: Vec<Option<NodeCell<F>>>,
+) -> Vec<Option<NodeCell<F>>>
+    requires locked { vec_len locked ≡ F.table.count }
+    requires many { vec_len places ≡ F.table.count }
+    requires none { standing places.items ≡ [] }
+    ensures many { vec_len result ≡ F.table.count }
+    ensures sorted { AreSorted 0 result.items }
+    ensures all { length (standing result.items) ≡ F.table.count }
 {
     let count = locked.len();
     let mut locked = VecDeque::from_vec(locked);
@@ -74,36 +80,9 @@ fn unlock_all<F: FabricName>(
         let Some(lock) = locked.pop_front() else {
             unreachable!()
         };
-        cells.push_reserved(lock.into_inner().into_cell());
+        put_in_place(fabric, &mut places, lock.into_inner().into_cell());
     }
-    cells
-}
-
-// What a hub gives once its cells are out of their locks: the table and the cells, if these are those of all nodes in order, and else a hub
-// of them again.
-fn give_cells<F: FabricName>(
-    fabric: Fabric<F>,
-    cells: Vec<NodeCell<F>>,
-    locks: Vec<Mutex<Desk<F>>>,
-    alloc: Global,
-) -> Result<(Fabric<F>, Vec<NodeCell<F>>), (Refusal, Hub<F>)>
-    requires many { vec_len cells ≡ F.table.count }
-    requires room { vec_len cells ≤ vec_capacity locks }
-    requires empty { vec_len locks ≡ 0 }
-    ensures given { IfOk result (λ r. (is_in_order F.table.count 0 cells.items ≡ true) × (r.1.items ≡ cells.items)) }
-    ensures why { IfErr result (λ e. (is_in_order F.table.count 0 cells.items ≡ false) × (e.0 ≡ Refusal.Stranger)) }
-    ensures back { IfErr result (λ e. e.1 ≡ vec_len cells) }
-{
-    if fabric.are_all(cells.as_slice()) {
-        return Ok((fabric, cells));
-    }
-    let cells = lock_all(&fabric, cells, locks);
-    let hub = Hub {
-        fabric,
-        cells,
-        alloc,
-    };
-    Err((Refusal::Stranger, hub))
+    places
 }
 
 // Adds a portal for each end that callers of a cell's node hold, by the serial of the end's terminal.
@@ -374,28 +353,28 @@ impl<F: FabricName> Hub<F> {
 
     /// Takes the cells out of their locks, and gives the table and the cells of all its nodes, in order. It waits for nothing.
     ///
-    /// Refused `OutOfMemory` if there is no memory for the two lists, and then it gives the hub back. A type doesn't say at which place a cell
-    /// stands, so the cells are asked; were they others than those of all nodes in order, it would be refused `Stranger`, and give the hub
-    /// back, too.
+    /// Refused `OutOfMemory` if there is no memory for two lists of them, and then it gives the hub back.
     ///
     /// So `finish(fabric, cells)` may follow on `hub.into_cells()`, to have all nodes as one world.
     pub fn into_cells(self) -> Result<(Fabric<F>, Vec<NodeCell<F>>), (Refusal, Hub<F>)>
         ensures all { IfOk result (λ r. is_in_order F.table.count 0 r.1.items ≡ true) }
         ensures many { IfOk result (λ r. vec_len r.1 ≡ self) }
-        ensures why { IfErr result (λ e. (e.0 ≡ Refusal.OutOfMemory) ⊎ (e.0 ≡ Refusal.Stranger)) }
+        ensures why { IfErr result (λ e. e.0 ≡ Refusal.OutOfMemory) }
         ensures back { IfErr result (λ e. e.1 ≡ self) }
     {
-        let (Ok(room), Ok(locks)) = (
-            Vec::with_capacity(self.alloc, self.cells.len()),
-            Vec::with_capacity(self.alloc, self.cells.len()),
+        let count = self.cells.len();
+        let (Ok(places), Ok(room)) = (
+            Vec::with_capacity(self.alloc, count),
+            Vec::with_capacity(self.alloc, count),
         ) else {
             return Err((Refusal::OutOfMemory, self));
         };
         let Hub {
             fabric,
             cells,
-            alloc,
+            alloc: _,
         } = self;
-        give_cells(fabric, unlock_all(cells, room), locks, alloc)
+        let places = unlock_all(&fabric, cells, empty_places(count, places));
+        Ok((fabric, cells_at(places, room)))
     }
 }

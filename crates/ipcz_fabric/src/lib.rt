@@ -9,6 +9,7 @@ mod hub;
 mod portal;
 mod portals;
 mod selecting;
+mod sorting;
 mod workers;
 
 pub use caller::Caller;

@@ -1,14 +1,17 @@
 -- Seats of a table whose link words come back are dealt and joined, and callers come with seats of their own.
-use Rattle.std.specs.Prelude.{[], length, Some, refl}
-use Rattle.std.proofs.Common.{sym, subst}
+use Rattle.std.specs.Prelude.{[], length, List, Some, refl}
+use Rattle.std.proofs.Common.{ap, ◌∙◌, sym, subst}
+use lib.ListN.{get_elem?}
 use Rattle.ipcz_world.specs.World.{World}
 use Rattle.ipcz_world.specs.HeldEnds.{IsEndHeld}
 use Rattle.ipcz_rule.specs.Start.{after_deal, dealt}
+use Rattle.ipcz_rule.specs.declared.view.Part.{Part}
 use Rattle.ipcz_rule.specs.Histories.{caller_view, new_caller, without_caller}
 use Rattle.ipcz_rule.specs.Kinds.{together, spent}
 use Rattle.ipcz_rule.specs.Lasting.{virtual, sizes, side_of, own_of}
-use Rattle.ipcz_rule.specs.LastingSeats.{SeatsLast}
+use Rattle.ipcz_rule.specs.LastingSeats.{SeatsAreApart, SeatsLast}
 use Rattle.ipcz_slots.proofs.Beginning.{deals as dealing, comes}
+use Rattle.ipcz_slots.proofs.Folding.{view_at}
 use Rattle.ipcz_slots.proofs.Uniting.{joins_seats}
 use Rattle.ipcz_rule.proofs.Dealing.{deals_opening, deals_opening_world}
 use Rattle.ipcz_rule.proofs.Joining.{joins, joins_world}
@@ -54,3 +57,14 @@ seats_last = (
     (length l.0.views, refl),
   )),
 )
+
+-- each node's part is its owner's
+pub seats_apart : SeatsAreApart
+seats_apart count limit k id other reuses s l o p a b at there mine his same =
+    let t = l.0 in
+    let r = l.1 in
+    let view = view_at (virtual count limit) (sizes count limit k reuses) s t r l.2 in
+    let first = λ (ps : List Part). get_elem? ps 0 in
+    let one = r.shows.parts id o.view 0 a (view id o at) (ap first mine) in
+    let two = r.shows.parts other p.view 0 b (view other p there) (ap first his) in
+    sym one.0 ∙ (ap r.owner same ∙ two.0)

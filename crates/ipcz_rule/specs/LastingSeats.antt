@@ -1,10 +1,13 @@
 -- Seats of a table whose link words come back are dealt and joined, and callers come with seats of their own.
 use Rattle.std.specs.Prelude.{◌≡◌, ◌<◌, ◌-◌, ◌++◌, ℕ, Bool, [], ◌∷◌, Some}
-use Rattle.atomic_table.specs.Table.{Splits, Joins, Enters}
+use mathlib.Core.Option.{some}
+use lib.ListN.{get_elem?}
+use Rattle.atomic_table.specs.Table.{State, Splits, Joins, Enters}
 use Rattle.ipcz_rule.specs.declared.view.View.{View}
 use Rattle.ipcz_rule.specs.declared.view.Part.{Part}
 use Rattle.ipcz_rule.specs.Histories.{caller_view, new_caller, without_caller}
 use Rattle.ipcz_rule.specs.Start.{opening_parts, after_deal, dealt}
+use Rattle.ipcz_rule.specs.Rule.{Slot}
 use Rattle.ipcz_rule.specs.Kinds.{together, spent}
 use Rattle.ipcz_slots.specs.declared.own.Own.{Own}
 use Rattle.ipcz_rule.specs.Lasting.{LastingRules, own_of}
@@ -31,3 +34,8 @@ CallersCome = (count limit k slots i : ℕ) (reuses : Bool) →
 
 abbrev pub SeatsLast : Type 0
 SeatsLast = DealsLast × JoinsLast × ReturnsLast × CallersCome
+
+-- no two seats have a part of one node
+abbrev pub SeatsAreApart : Type 0
+SeatsAreApart = (count limit k id other : ℕ) (reuses : Bool) (s : State Slot (Own View)) → LastingRules count limit k reuses s → (o p : Own View) (a b : Part) →
+    get_elem? s.views id ≡ some o → get_elem? s.views other ≡ some p → o.view.parts ≡ a ∷ [] → p.view.parts ≡ b ∷ [] → a.node ≡ b.node → id ≡ other

@@ -2,7 +2,7 @@
 
 ghost use Rattle.ipcz_rule.specs.Lasting.{NoSlotOfItIsLost};
 ghost use Rattle.ipcz_rule.specs.LastingKinds.{TurnsLast};
-ghost use Rattle.ipcz_rule.specs.LastingSeats.{SeatsLast};
+ghost use Rattle.ipcz_rule.specs.LastingSeats.{SeatsAreApart, SeatsLast};
 ghost use Rattle.ipcz_rule.specs.LastingStart.{StartLasts};
 ghost use Rattle.ipcz_rule.specs.LastingCalls.{CallsLast, OpensLast, ClaimsForOpenLast, ClaimsForOpenInOrder};
 
@@ -38,6 +38,11 @@ pub fn the_start_keeps_the_lasting_rule()
 /// So do seats that are dealt and joined.
 pub fn seats_keep_the_lasting_rule()
     ensures { SeatsLast }
+{}
+
+/// No two seats of a table that keeps this rule have a part of one node.
+pub fn seats_are_apart()
+    ensures { SeatsAreApart }
 {}
 
 /// No slot of a table that keeps the rule of one whose link words come back is lost: each shows a number of which an end is held, or both sides
