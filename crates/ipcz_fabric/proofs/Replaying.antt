@@ -22,7 +22,7 @@ use Rattle.ipcz_cell.specs.Parts.{got_part}
 use Rattle.ipcz_cell.specs.TableNames.{TableName}
 use Rattle.ipcz_fabric.specs.Places.{IsCellOf, IsRefusedInOrder}
 use Rattle.ipcz_fabric.specs.Portals.{wants_list}
-use Rattle.ipcz_fabric.specs.Replays.{Changes, PutsAt, GivesAt, ClosesAt, Does, Replays, IsReached, Extends, ExtendsInTurn, LeavesPart, entered, tries}
+use Rattle.ipcz_fabric.specs.Replays.{Changes, PutsAt, GivesAt, ClosesAt, Does, Replays, IsReached, Extends, ExtendsInTurn, LeavesPart, entered}
 use Rattle.ipcz_fabric.proofs.Books.{same_book}
 
 -- a call more at the end
@@ -68,11 +68,13 @@ extends_by t call p q r c c' h does is written =
       reached = reached_more t call c.id p q r h does is;
     })
 
--- a call more behind others
-pub in_turn_more : (t : TableName) (node : ℕ) (made : List Call) (call : Call) (c d e : CallerView) → ExtendsInTurn t node made c d → Extends t node call d e →
-    ExtendsInTurn t node (made ++ call ∷ []) c e
-in_turn_more t node [] call c d e is more = (e, subst (λ (x : CallerView). Extends t node call x e) is more, refl)
-in_turn_more t node (first ∷ made) call c d e h more = (h.0, h.1, in_turn_more t node made call h.0 d e h.2 more)
+-- one call, and calls behind others
+pub one_call : (t : TableName) (node : ℕ) (call : Call) (c d : CallerView) → Extends t node call c d → ExtendsInTurn t ((node, call) ∷ []) c d
+one_call t node call c d h = (d, h, refl)
+
+pub in_turn_both : (t : TableName) (made more : List (ℕ × Call)) (c d e : CallerView) → ExtendsInTurn t made c d → ExtendsInTurn t more d e → ExtendsInTurn t (made ++ more) c e
+in_turn_both t [] more c d e is then = subst (λ (x : CallerView). ExtendsInTurn t more x e) is then
+in_turn_both t (first ∷ made) more c d e h then = (h.0, h.1, in_turn_both t made more h.0 d e h.2 then)
 
 -- what a cell has done
 pub changes : (t : TableName) (Did : CellState → CellState → Type 0) (o old new : CellState) → o ≡ old → IsCellOf t old.part.node old → Did o new → Changes t Did o.part new.part
@@ -165,21 +167,3 @@ own_cell t node c here = record { node_is = refl; inside = subst (λ (n : ℕ). 
 
 pub sound_cell : (t : TableName) (c : CellState) → IsSoundCell t c → IsCellOf t c.part.node c
 sound_cell t c sound = record { node_is = refl; inside = sound.inside; sound = sound }
-
--- a try more behind those that found nothing
-pub tries_more : (vain : ℕ) (at : End) (answer : Result (ℕ × parcels.Parcel) Refusal) → tries vain at (Err refusals.Empty) ++ calls.Taken at answer ∷ [] ≡ tries (suc vain) at answer
-tries_more zero at answer = refl
-tries_more (suc vain) at answer = ap (λ (l : List Call). calls.Taken at (Err refusals.Empty) ∷ l) (tries_more vain at answer)
-
-pub tried_once : (t : TableName) (node : ℕ) (at : End) (answer : Result (ℕ × parcels.Parcel) Refusal) (c d : CallerView) → Extends t node (calls.Taken at answer) c d →
-    ExtendsInTurn t node (tries 0 at answer) c d
-tried_once t node at answer c d h = (d, h, refl)
-
-pub tried_more : (t : TableName) (node : ℕ) (at : End) (answer : Result (ℕ × parcels.Parcel) Refusal) (c d e : CallerView) →
-    (vain : ℕ) × ExtendsInTurn t node (tries vain at (Err refusals.Empty)) c d → Extends t node (calls.Taken at answer) d e →
-    (vain : ℕ) × ExtendsInTurn t node (tries vain at answer) c e
-tried_more t node at answer c d e so_far last = (
-  suc so_far.0,
-  subst (λ (l : List Call). ExtendsInTurn t node l c e) (tries_more so_far.0 at answer)
-      (in_turn_more t node (tries so_far.0 at (Err refusals.Empty)) (calls.Taken at answer) c d e so_far.1 last),
-)

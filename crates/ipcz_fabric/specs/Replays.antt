@@ -94,10 +94,10 @@ pub record Extends (t : TableName) (node : ℕ) (call : Call) (c c' : CallerView
   pub history : at_node node c'.seen ≡ last.history
   pub reached : IsReached t last
 
--- the caller's next calls were these, at this node, one after the other
-abbrev pub ExtendsInTurn : TableName → ℕ → List Call → CallerView → CallerView → Type 0
-ExtendsInTurn t node [] c c' = c' ≡ c
-ExtendsInTurn t node (call ∷ more) c c' = (d : CallerView) × Extends t node call c d × ExtendsInTurn t node more d c'
+-- the caller's next calls were these, each at its node, one after the other
+abbrev pub ExtendsInTurn : TableName → List (ℕ × Call) → CallerView → CallerView → Type 0
+ExtendsInTurn t [] c c' = c' ≡ c
+ExtendsInTurn t (first ∷ more) c c' = (d : CallerView) × Extends t first.0 first.1 c d × ExtendsInTurn t more d c'
 
 -- a parcel of this number is given with these bytes and these portals of its node
 pub record IsParcelOf (node : ℕ) (bytes : List ℕ) (portals : List PortalValue) (parcel : parcels.Parcel) : Type 0 where
@@ -108,17 +108,6 @@ pub record IsParcelOf (node : ℕ) (bytes : List ℕ) (portals : List PortalValu
 abbrev pub GetsParcel : TableName → ℕ → ℕ → End → ℕ → List ℕ → List PortalValue → CallerView → CallerView → Type 0
 GetsParcel t node here at number bytes portals c c' = (parcel : parcels.Parcel) × IsParcelOf here bytes portals parcel ×
     Extends t node (calls.Got at (Ok (number, parcel))) c c'
-
--- the calls of a get that sleeps while there is nothing: so many tries that found none, and a last one that was answered this
-abbrev pub tries : ℕ → End → Result (ℕ × parcels.Parcel) Refusal → List Call
-tries zero at answer = calls.Taken at answer ∷ []
-tries (suc more) at answer = calls.Taken at (Err refusals.Empty) ∷ tries more at answer
-
--- the caller's next calls were the tries of such a get, at an end of a node, and the last gave a parcel of this number, with these bytes and these
--- portals of that node
-abbrev pub WaitsForParcel : TableName → ℕ → End → ℕ → List ℕ → List PortalValue → CallerView → CallerView → Type 0
-WaitsForParcel t node at number bytes portals c c' = (parcel : parcels.Parcel) × IsParcelOf node bytes portals parcel ×
-    ((vain : ℕ) × ExtendsInTurn t node (tries vain at (Ok (number, parcel))) c c')
 
 -- behind a call a cell was left so, and then the call was written down in it
 pub record IsNotedCell (e : Entry) (c c' : CellState) : Type 0 where

@@ -1,13 +1,14 @@
--- What a get at several portals answers: that of the first which has something, or none has. And which calls of its caller it is.
-use Rattle.std.specs.Prelude.{◌≡◌, ◌≢◌, ℕ, zero, suc, All, List, [], ◌∷◌, take, slice_get, Option, Some, None, Result, Ok, Err}
+-- What a get at several portals answers: that of the first which has something, or none has. And which calls of its caller it is, and a get that sleeps.
+use Rattle.std.specs.Prelude.{◌≡◌, ◌≢◌, ℕ, zero, suc, All, List, [], ◌∷◌, ◌++◌, map, take, slice_get, Option, Some, None, Result, Ok, Err}
 use Rattle.ipcz_base.specs.declared.parcel.Parcel as parcels
 use Rattle.ipcz_base.specs.declared.refusal.Refusal.{Refusal}
 use Rattle.ipcz_base.specs.declared.refusal.Refusal.TheVariants.{Empty}
+use Rattle.ipcz_rule.specs.declared.history.Call.{Call}
 use Rattle.ipcz_rule.specs.declared.history.Call.TheVariants as calls
 use Rattle.ipcz_rule.specs.declared.history.CallerView.{CallerView}
 use Rattle.ipcz_cell.specs.TableNames.{TableName}
 use Rattle.ipcz_fabric.specs.Portals.{PortalValue, IsRefusedTake}
-use Rattle.ipcz_fabric.specs.Replays.{Extends, IsParcelOf}
+use Rattle.ipcz_fabric.specs.Replays.{ExtendsInTurn, IsParcelOf}
 
 -- a get at each of these portals is Empty
 abbrev pub AreEmpty : TableName → List PortalValue → Type 0
@@ -22,15 +23,23 @@ abbrev pub IsNoneGot : TableName → List PortalValue → Option ℕ → Refusal
 IsNoneGot t portals (Some place) why = IsFirst t portals place (λ p. IsRefusedTake t p.node p.end why × (why ≢ Empty))
 IsNoneGot t portals None why = (why ≡ Empty) × AreEmpty t portals
 
--- the caller's next calls were gets at these portals, one after the other, and each was Empty
-abbrev pub VainLook : TableName → List PortalValue → CallerView → CallerView → Type 0
-VainLook t [] c c' = c' ≡ c
-VainLook t (p ∷ ps) c c' = (d : CallerView) × Extends t p.node (calls.Taken p.end (Err Empty)) c d × VainLook t ps d c'
+-- a get at a portal that was Empty, at its node
+abbrev pub vain_get : PortalValue → ℕ × Call
+vain_get p = (p.node, calls.Taken p.end (Err Empty))
 
--- the caller's next calls were so many looks at these portals, and each found all of them Empty
-abbrev pub VainLooks : TableName → ℕ → List PortalValue → CallerView → CallerView → Type 0
-VainLooks t zero portals c c' = c' ≡ c
-VainLooks t (suc more) portals c c' = (d : CallerView) × VainLooks t more portals c d × VainLook t portals d c'
+-- so many looks at these portals, one after the other, in which each was Empty
+abbrev pub vain_looks : ℕ → List PortalValue → List (ℕ × Call)
+vain_looks zero portals = []
+vain_looks (suc more) portals = vain_looks more portals ++ map vain_get portals
+
+-- the calls of a get that sleeps while there is nothing: so many tries that found none, and a last one that was answered this
+abbrev pub tries : ℕ → PortalValue → Result (ℕ × parcels.Parcel) Refusal → List (ℕ × Call)
+tries vain p answer = vain_looks vain (p ∷ []) ++ (p.node, calls.Taken p.end answer) ∷ []
+
+-- the caller's next calls were the tries of such a get at a portal, and the last gave a parcel of this number, with these bytes and these portals
+abbrev pub WaitsForParcel : TableName → PortalValue → ℕ → List ℕ → List PortalValue → CallerView → CallerView → Type 0
+WaitsForParcel t p number bytes portals c c' = (parcel : parcels.Parcel) × IsParcelOf p.node bytes portals parcel ×
+    ((vain : ℕ) × ExtendsInTurn t (tries vain p (Ok (number, parcel))) c c')
 
 -- a get at a portal was answered so: it gave a parcel of this number, with these bytes and these portals
 abbrev pub GivesParcel : ℕ → List ℕ → List PortalValue → PortalValue → Result (ℕ × parcels.Parcel) Refusal → Type 0
@@ -42,19 +51,17 @@ pub record LooksOnce (t : TableName) (portals : List PortalValue) (place : ℕ) 
   pub answer : Result (ℕ × parcels.Parcel) Refusal
   pub there : slice_get portals place ≡ Some portal
   pub answered : Answered portal answer
-  pub before : CallerView
-  pub vain : VainLook t (take place portals) c before
-  pub last : Extends t portal.node (calls.Taken portal.end answer) before c'
+  pub made : ExtendsInTurn t (map vain_get (take place portals) ++ (portal.node, calls.Taken portal.end answer) ∷ []) c c'
 
 -- and it gave no parcel: the portal at a place refuses the get, or all were Empty
 abbrev pub LooksOnceInVain : TableName → List PortalValue → Option ℕ → Refusal → CallerView → CallerView → Type 0
 LooksOnceInVain t portals (Some place) why c c' = LooksOnce t portals place (λ p answer. answer ≡ Err why) c c'
-LooksOnceInVain t portals None why c c' = VainLook t portals c c'
+LooksOnceInVain t portals None why c c' = ExtendsInTurn t (map vain_get portals) c c'
 
 -- the caller's next calls were looks at these portals, each in vain but for the last, in which the get at the portal of a place was answered so
 abbrev pub LooksUntil : TableName → List PortalValue → ℕ → (PortalValue → Result (ℕ × parcels.Parcel) Refusal → Type 0) → CallerView → CallerView → Type 0
-LooksUntil t portals place Answered c c' = (vain : ℕ) × (d : CallerView) × VainLooks t vain portals c d × LooksOnce t portals place Answered d c'
+LooksUntil t portals place Answered c c' = (vain : ℕ) × (d : CallerView) × ExtendsInTurn t (vain_looks vain portals) c d × LooksOnce t portals place Answered d c'
 
 -- and they gave no parcel: in the last the portal at a place refuses the get, or all were Empty in the last, too
 abbrev pub LooksInVain : TableName → List PortalValue → Option ℕ → Refusal → CallerView → CallerView → Type 0
-LooksInVain t portals place why c c' = (vain : ℕ) × (d : CallerView) × VainLooks t vain portals c d × LooksOnceInVain t portals place why d c'
+LooksInVain t portals place why c c' = (vain : ℕ) × (d : CallerView) × ExtendsInTurn t (vain_looks vain portals) c d × LooksOnceInVain t portals place why d c'

@@ -7,7 +7,8 @@ ghost use Rattle.ipcz_fabric.specs.Hubs.{IsTurnAnswer, IsTurnRefusal, LeavesOpen
 ghost use Rattle.ipcz_fabric.specs.Portals.{ends_of, parcel_refusal};
 ghost use Rattle.ipcz_fabric.specs.Portals.{IsPut, IsPutRefusal, IsRefusedPut, IsGot, IsGetRefusal, IsRefusedGet};
 ghost use Rattle.ipcz_fabric.specs.Portals.{IsTaken, IsTakeRefusal, IsRefusedTake, IsClosed, IsCloseRefusal, IsRefusedClose};
-ghost use Rattle.ipcz_fabric.specs.Replays.{Extends, ExtendsInTurn, GetsParcel, WaitsForParcel, tries};
+ghost use Rattle.ipcz_fabric.specs.Replays.{Extends, ExtendsInTurn, GetsParcel};
+ghost use Rattle.ipcz_fabric.specs.Selecting.{WaitsForParcel, tries};
 
 use crate::deadline::Deadline;
 use crate::desk::Desk;
@@ -300,7 +301,7 @@ impl<F: FabricName> Caller<F> {
     ) -> Result<(u64, Parcel), Refusal>
         ensures taken { IfOk result (IsTaken F.table portal.now.node portal.now.end) }
         ensures refused { IfErr result (IsRefusedTake F.table portal.now.node portal.now.end) }
-        ensures extends { (vain : ℕ) × ExtendsInTurn F.table portal.now.node (tries vain portal.now.end result) self.old self.new }
+        ensures extends { (vain : ℕ) × ExtendsInTurn F.table (tries vain portal.now result) self.old self.new }
     {
         let first = self.take(rt, hub, portal);
         if !is_empty(&first) {
@@ -339,8 +340,8 @@ impl<F: FabricName> Caller<F> {
         ensures why { IfErr result IsTakeRefusal }
         ensures refused { IfErr result (IsRefusedTake F.table portal.now.node portal.now.end) }
         ensures extends { MatchResult result
-            (λ a. WaitsForParcel F.table portal.now.node portal.now.end a.n a.bytes.items a.portals self.old self.new)
-            (λ why. (vain : ℕ) × ExtendsInTurn F.table portal.now.node (tries vain portal.now.end (Err why)) self.old self.new) }
+            (λ a. WaitsForParcel F.table portal.now a.n a.bytes.items a.portals self.old self.new)
+            (λ why. (vain : ℕ) × ExtendsInTurn F.table (tries vain portal.now (Err why)) self.old self.new) }
     {
         let node = portal.place();
         match self.take_timeout(rt, hub, portal, limit) {
