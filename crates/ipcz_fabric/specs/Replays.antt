@@ -1,6 +1,6 @@
 -- What the history of a node tells: in which state the node came behind its lock, and what each call since then answered there, one after the
 -- other. A caller knows a beginning of it.
-use Rattle.std.specs.Prelude.{◌≡◌, ℕ, zero, suc, List, [], ◌∷◌, ◌++◌, Some, None, Result, Ok, Err, MatchResult, unwrap_or, take}
+use Rattle.std.specs.Prelude.{◌≡◌, ℕ, List, [], ◌∷◌, ◌++◌, Some, None, Result, Ok, MatchResult, unwrap_or, take}
 use Rattle.ipcz_base.specs.declared.end.End.{End}
 use Rattle.ipcz_base.specs.declared.parcel.Parcel as parcels
 use Rattle.ipcz_base.specs.declared.profile.Profile.{Profile}
