@@ -1,6 +1,8 @@
 //! Bells, one a node: a thread that waits for a node sleeps on its bell, and one that may have brought the node something rings it. One more is
 //! rung with each, for a thread that waits for several nodes. They are no part of the table, and no clause speaks of them: docs/TABLE.md says
 //! why no wake is lost.
+ghost use Rattle.std.specs.Prelude.{◌≡◌, ◌+◌, ◌%◌, ◌^◌, nat_eq, if◌then◌else◌};
+
 use std::alloc::{AllocError, Global};
 use std::sync::Wait;
 use std::sync::atomic::{AtomicU64, Ordering};
@@ -26,6 +28,16 @@ pub struct Bells {
     bells: Vec<Bell>,
 }
 
+// The number of a bell once it is rung: of one that a thread watches the next even number, and else the one that it was.
+fn rung(found: u64) -> u64
+    ensures { result ≡ (if nat_eq (found % 2) 1 then (found + 1) % 2 ^ 64 else found) }
+{
+    if found % 2 == 1 {
+        return found.wrapping_add(1);
+    }
+    found
+}
+
 impl Bell {
     fn new() -> Bell {
         Bell {
@@ -45,12 +57,12 @@ impl Bell {
     // begun to watch since that looks again.
     fn ring(&self) {
         let found = self.word.load(Ordering::SeqCst);
-        if found & 1 == 1 {
-            let next = found.wrapping_add(1);
-            let rung = self
+        let next = rung(found);
+        if next != found {
+            let exchanged = self
                 .word
                 .compare_exchange(found, next, Ordering::SeqCst, Ordering::SeqCst);
-            if rung.is_ok() {
+            if exchanged.is_ok() {
                 self.word.wake_all();
             }
         }
