@@ -1,6 +1,6 @@
 //! Bells, one a node: a thread that waits for a node sleeps on its bell, and one that may have brought the node something rings it. One more is
-//! rung with each, for a thread that waits for several nodes. They are no part of the table, and no clause speaks of them: docs/TABLE.md says
-//! why no wake is lost.
+//! rung with each, for a thread that waits for several nodes. They are no part of the table, and clauses speak only of the number that a ring gives
+//! a bell: docs/TABLE.md says why no wake is lost.
 ghost use Rattle.std.specs.Prelude.{◌≡◌, ◌+◌, ◌%◌, ◌^◌, nat_eq, if◌then◌else◌};
 
 use std::alloc::{AllocError, Global};

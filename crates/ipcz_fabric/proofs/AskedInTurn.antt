@@ -1,7 +1,7 @@
 -- A get at several portals, one after the other.
-use Rattle.std.specs.Prelude.{◌≡◌, ◌<◌, ◌≤◌, ◌+◌, ℕ, zero, suc, Bool, true, false, List, [], ◌∷◌, ◌++◌, map, take, get_or, length, refl, Option, None, Result, Ok, Err, MatchResult}
-use Rattle.std.proofs.Common.{arith, ap, ◌∙◌, sym, subst}
-use Rattle.std.proofs.lemmas.List.{take_all}
+use Rattle.std.specs.Prelude.{◌≡◌, ◌≢◌, ◌<◌, ◌≤◌, ◌+◌, ℕ, zero, suc, Bool, true, false, List, [], ◌∷◌, ◌++◌, map, take, get_or, length, refl, Option, None, Result, Ok, Err, MatchBool, MatchResult}
+use Rattle.std.proofs.Common.{arith, ap, append_assoc, ◌∙◌, sym, subst}
+use Rattle.std.proofs.lemmas.List.{append-nil, take_all}
 use Rattle.std.proofs.lemmas.List.Elements.{All-more}
 use Rattle.std.proofs.lemmas.Option.{slice_get_read}
 use Rattle.ipcz_base.specs.declared.parcel.Parcel as parcels
@@ -13,7 +13,7 @@ use Rattle.ipcz_rule.specs.declared.history.CallerView.{CallerView}
 use Rattle.ipcz_cell.specs.TableNames.{TableName}
 use Rattle.ipcz_fabric.specs.Portals.{PortalValue, IsRefusedTake}
 use Rattle.ipcz_fabric.specs.Replays.{Extends, ExtendsInTurn}
-use Rattle.ipcz_fabric.specs.Selecting.{AreEmpty, IsFirst, LooksOnce, LooksOnceInVain, tries, vain_get, vain_looks}
+use Rattle.ipcz_fabric.specs.Selecting.{AreEmpty, IsFirst, LooksInVain, LooksOnce, LooksOnceInVain, LooksUntil, tries, vain_get, vain_looks}
 use Rattle.ipcz_fabric.proofs.Replaying.{in_turn_both, one_call}
 
 -- the portal at a place is asked, where those before it were empty
@@ -66,10 +66,12 @@ looked_at t portals place p c d e within is so_far answer last Answered answered
 
 -- a look that found all Empty
 pub looked_in_vain : {A E : Type 0} (place : E → Option ℕ) (why : E → Refusal) (t : TableName) (portals : List PortalValue) (Given : A → Type 0) (r : Result A E)
-    (empty : Bool) (c c' : CallerView) → MatchResult r (λ a. empty ≡ false) (λ e. empty ≡ true → place e ≡ None) → empty ≡ true →
+    (empty : Bool) (c c' : CallerView) → MatchResult r (λ a. empty ≡ false) (λ e. MatchBool empty (place e ≡ None) (place e ≢ None)) → empty ≡ true →
     MatchResult r Given (λ e. LooksOnceInVain t portals (place e) (why e) c c') → ExtendsInTurn t (map vain_get portals) c c'
 looked_in_vain place why t portals Given (Ok a) empty c c' tells is looks = absurd (cc)
-looked_in_vain place why t portals Given (Err e) empty c c' tells is looks = subst (λ (x : Option ℕ). LooksOnceInVain t portals x (why e) c c') (tells is) looks
+looked_in_vain place why t portals Given (Err e) empty c c' tells is looks =
+    let none : place e ≡ None = subst (λ (b : Bool). MatchBool b (place e ≡ None) (place e ≢ None)) is tells in
+    subst (λ (x : Option ℕ). LooksOnceInVain t portals x (why e) c c') none looks
 
 -- a look more in vain
 pub looks_more : (t : TableName) (portals : List PortalValue) (vain : ℕ) (c d e : CallerView) → ExtendsInTurn t (vain_looks vain portals) c d →
@@ -88,3 +90,32 @@ pub tried_in_vain : (t : TableName) (p : PortalValue) (answer : Result (ℕ × p
 tried_in_vain t p answer c d e empty so_far last =
     let more = tried_last t p (Err Empty) c d e so_far (subst (λ (a : Result (ℕ × parcels.Parcel) Refusal). Extends t p.node (calls.Taken p.end a) d e) empty last) in
     (suc more.0, more.1)
+
+-- looks in vain are the same calls, whether one is made before the others or behind them
+looks_turned : (portals : List PortalValue) (vain : ℕ) → vain_looks vain portals ++ map vain_get portals ≡ map vain_get portals ++ vain_looks vain portals
+looks_turned portals zero = sym (append-nil (map vain_get portals))
+looks_turned portals (suc vain) = ap (λ (l : List (ℕ × Call)). l ++ map vain_get portals) (looks_turned portals vain) ∙ append_assoc (map vain_get portals) (vain_looks vain portals) (map vain_get portals)
+
+-- a look in vain before others
+pub looks_before : (t : TableName) (portals : List PortalValue) (vain : ℕ) (c d e : CallerView) → ExtendsInTurn t (map vain_get portals) c d →
+    ExtendsInTurn t (vain_looks vain portals) d e → ExtendsInTurn t (vain_looks (suc vain) portals) c e
+looks_before t portals vain c d e look others = subst (λ (l : List (ℕ × Call)). ExtendsInTurn t l c e) (sym (looks_turned portals vain))
+    (in_turn_both t (map vain_get portals) (vain_looks vain portals) c d e look others)
+
+pub looked_before : {A E : Type 0} (place : E → Option ℕ) (why : E → Refusal) (at : A → ℕ) (Answered : A → PortalValue → Result (ℕ × parcels.Parcel) Refusal → Type 0)
+    (t : TableName) (portals : List PortalValue) (c d e : CallerView) (r : Result A E) → ExtendsInTurn t (map vain_get portals) c d →
+    MatchResult r (λ a. LooksUntil t portals (at a) (Answered a) d e) (λ x. LooksInVain t portals (place x) (why x) d e) →
+    MatchResult r (λ a. LooksUntil t portals (at a) (Answered a) c e) (λ x. LooksInVain t portals (place x) (why x) c e)
+looked_before place why at Answered t portals c d e (Ok a) look others = (suc others.0, others.1, looks_before t portals others.0 c d others.1 look others.2, others.3)
+looked_before place why at Answered t portals c d e (Err x) look others = (suc others.0, others.1, looks_before t portals others.0 c d others.1 look others.2, others.3)
+
+-- a try in vain before others
+pub tried_before : (t : TableName) (p : PortalValue) (first answer : Result (ℕ × parcels.Parcel) Refusal) (c d e : CallerView) → first ≡ Err Empty →
+    Extends t p.node (calls.Taken p.end first) c d → (vain : ℕ) × ExtendsInTurn t (tries vain p answer) d e → (vain : ℕ) × ExtendsInTurn t (tries vain p answer) c e
+tried_before t p first answer c d e empty try others =
+    let last = (p.node, calls.Taken p.end answer) ∷ [] in
+    let one = one_call t p.node (calls.Taken p.end (Err Empty)) c d (subst (λ (a : Result (ℕ × parcels.Parcel) Refusal). Extends t p.node (calls.Taken p.end a) c d) empty try) in (
+      suc others.0,
+      subst (λ (l : List (ℕ × Call)). ExtendsInTurn t (l ++ last) c e) (sym (looks_turned (p ∷ []) others.0))
+          (in_turn_both t (vain_get p ∷ []) (vain_looks others.0 (p ∷ []) ++ last) c d e one others.1),
+    )

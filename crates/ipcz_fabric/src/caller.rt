@@ -1,5 +1,5 @@
 //! Callers: each knows what its calls were answered, and the beginnings of the nodes' histories in which they stand.
-ghost use Rattle.std.specs.Prelude.{◌≡◌, ◌<◌, ◌≤◌, ℕ, None, Ok, Err, MatchResult, All, IfOk, IfErr, OnOk, length, true, vec_len};
+ghost use Rattle.std.specs.Prelude.{◌≡◌, ◌≢◌, ◌<◌, ◌≤◌, ℕ, None, Ok, Err, MatchBool, MatchResult, All, IfOk, IfErr, OnOk, length, vec_len};
 ghost use Rattle.ipcz_rule.specs.declared.history.Call.TheVariants as calls;
 ghost use Rattle.ipcz_fabric.specs.Places.{IsCellOf};
 ghost use Rattle.ipcz_fabric.specs.Hubs.{AreTurnAnswers, ArePair, ExtendsByOpen, ExtendsByRetry, IsOpenAnswer, IsOpenRefusal, IsRetryAnswer};
@@ -10,7 +10,7 @@ ghost use Rattle.ipcz_fabric.specs.Portals.{IsTaken, IsTakeRefusal, IsRefusedTak
 ghost use Rattle.ipcz_fabric.specs.Replays.{Extends, ExtendsInTurn, GetsParcel};
 ghost use Rattle.ipcz_fabric.specs.Selecting.{WaitsForParcel, tries};
 
-use crate::deadline::Deadline;
+use crate::deadline::{Deadline, Patience};
 use crate::desk::Desk;
 use crate::hub::Hub;
 use crate::portal::{Got, Portal, PortalPutRefused};
@@ -66,7 +66,7 @@ fn open_here<F: FabricName>(
 
 // Whether a get has found that nothing has come.
 fn is_empty(taken: &Result<(u64, Parcel), Refusal>) -> bool
-    ensures { result ≡ true → taken.now ≡ Err Refusal.Empty }
+    ensures { MatchBool result (taken.now ≡ Err Refusal.Empty) (taken.now ≢ Err Refusal.Empty) }
 {
     match taken {
         Err(Refusal::Empty) => true,
@@ -290,8 +290,35 @@ impl<F: FabricName> Caller<F> {
             .take(hub.fabric(), &mut self.seat, portal.end())
     }
 
-    // Takes the next parcel, and sleeps while there is none. The bell is watched before each look that a sleep may follow, so that no
-    // parcel is missed between the two.
+    // Takes the next parcel, and sleeps while there is none, as long as there is patience. The bell is watched before each look that a sleep may
+    // follow, so that no parcel is missed between the two.
+    fn take_patiently<R: Wait, P: Patience>(
+        &mut self,
+        rt: &R,
+        hub: &Hub<F>,
+        portal: &Portal<F>,
+        patience: &P,
+    ) -> Result<(u64, Parcel), Refusal>
+        ensures taken { IfOk result (IsTaken F.table portal.now.node portal.now.end) }
+        ensures refused { IfErr result (IsRefusedTake F.table portal.now.node portal.now.end) }
+        ensures over { result ≡ Err Refusal.Empty → P.over }
+        ensures extends { (vain : ℕ) × ExtendsInTurn F.table (tries vain portal.now result) self.old self.new }
+    {
+        let node = portal.node();
+        let news = hub.fabric().news();
+        for _try in rt.forever() {
+            let left = patience.left();
+            let ticket = news.watch(node);
+            let taken = self.take(rt, hub, portal);
+            if left.is_zero() || !is_empty(&taken) {
+                return taken;
+            }
+            news.sleep(rt, node, ticket, left);
+        }
+        unreachable!()
+    }
+
+    // Takes the next parcel, and sleeps while there is none, until the time is over.
     fn take_timeout<R: Wait + Clock>(
         &mut self,
         rt: &R,
@@ -307,19 +334,7 @@ impl<F: FabricName> Caller<F> {
         if !is_empty(&first) {
             return first;
         }
-        let node = portal.node();
-        let news = hub.fabric().news();
-        let deadline = Deadline::new(rt, limit);
-        for _try in rt.forever() {
-            let left = deadline.left(rt);
-            let ticket = news.watch(node);
-            let taken = self.take(rt, hub, portal);
-            if left == Duration::ZERO || !is_empty(&taken) {
-                return taken;
-            }
-            news.sleep(rt, node, ticket, left);
-        }
-        unreachable!()
+        self.take_patiently(rt, hub, portal, &Deadline::new(rt, limit))
     }
 
     /// Takes the next parcel at a portal, and sleeps while there is none, as [`Portal::get_timeout`]. Each try is a call.

@@ -1,10 +1,10 @@
 //! A get at several portals at once.
-ghost use Rattle.std.specs.Prelude.{◌≡◌, true, false, None, IfOk, IfErr, MatchResult};
+ghost use Rattle.std.specs.Prelude.{◌≡◌, ◌≢◌, false, None, IfOk, IfErr, MatchBool, MatchResult};
 ghost use Rattle.ipcz_fabric.specs.Portals.{IsGot};
 ghost use Rattle.ipcz_fabric.specs.Selecting.{GivesParcel, IsFirst, IsNoneGot, LooksInVain, LooksOnce, LooksOnceInVain, LooksUntil};
 
 use crate::caller::Caller;
-use crate::deadline::Deadline;
+use crate::deadline::{Deadline, Patience};
 use crate::hub::Hub;
 use crate::portal::Portal;
 use crate::portals::{Arrival, arrival_of};
@@ -23,7 +23,7 @@ pub struct NoneGot {
 
 // Whether each portal was empty.
 fn are_empty<F: FabricName>(taken: &Result<(usize, Arrival<F>), NoneGot>) -> bool
-    ensures { MatchResult taken.now (λ _. result ≡ false) (λ e. result ≡ true → e.place ≡ None) }
+    ensures { MatchResult taken.now (λ _. result ≡ false) (λ e. MatchBool result (e.place ≡ None) (e.place ≢ None)) }
 {
     matches!(taken, Err(NoneGot { place: None, .. }))
 }
@@ -63,6 +63,35 @@ impl<F: FabricName> Caller<F> {
         })
     }
 
+    // Takes the next parcel at the first of some portals that has something, and sleeps while none has, as long as there is patience.
+    fn take_any_patiently<R: Wait, P: Patience>(
+        &mut self,
+        rt: &R,
+        hub: &Hub<F>,
+        portals: &[Portal<F>],
+        patience: &P,
+    ) -> Result<(usize, Arrival<F>), NoneGot>
+        ensures got { IfOk result
+            (λ a. IsFirst F.table portals.now a.0 (λ p. IsGot F.table p.node p.end a.1.n a.1.bytes.items a.1.portals)) }
+        ensures refused { IfErr result (λ e. IsNoneGot F.table portals.now e.place e.why) }
+        ensures over { IfErr result (λ e. e.place ≡ None → P.over) }
+        ensures extends { MatchResult result
+            (λ a. LooksUntil F.table portals.now a.0 (GivesParcel a.1.n a.1.bytes.items a.1.portals) self.old self.new)
+            (λ e. LooksInVain F.table portals.now e.place e.why self.old self.new) }
+    {
+        let news = hub.fabric().news();
+        for _try in rt.forever() {
+            let left = patience.left();
+            let ticket = news.watch_any();
+            let taken = self.take_first(rt, hub, portals);
+            if left.is_zero() || !are_empty(&taken) {
+                return taken;
+            }
+            news.sleep_any(rt, ticket, left);
+        }
+        unreachable!()
+    }
+
     /// Takes the next parcel at the first of some portals that has something, and sleeps while none has, as [`Hub::get_any`]. Each look at a portal is a
     /// call at its node.
     ///
@@ -87,18 +116,7 @@ impl<F: FabricName> Caller<F> {
         if !are_empty(&first) {
             return first;
         }
-        let news = hub.fabric().news();
-        let deadline = Deadline::new(rt, limit);
-        for _try in rt.forever() {
-            let left = deadline.left(rt);
-            let ticket = news.watch_any();
-            let taken = self.take_first(rt, hub, portals);
-            if left == Duration::ZERO || !are_empty(&taken) {
-                return taken;
-            }
-            news.sleep_any(rt, ticket, left);
-        }
-        unreachable!()
+        self.take_any_patiently(rt, hub, portals, &Deadline::new(rt, limit))
     }
 }
 

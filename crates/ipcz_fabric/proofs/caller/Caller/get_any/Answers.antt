@@ -1,11 +1,11 @@
-use Rattle.std.proofs.Common.{suc}
-use Rattle.ipcz_fabric.proofs.AskedInTurn.{looked_in_vain, looks_more}
+use Rattle.ipcz_fabric.specs.Selecting.{GivesParcel}
+use Rattle.ipcz_fabric.proofs.AskedInTurn.{looked_before, looked_in_vain}
 use Rattle.ipcz_fabric.proofs.caller.Caller.get_any.Goals as goal
 
-pub loop-try-preserved : goal.loop-try-preserved
-loop-try-preserved g c =
+pub returns-clause-extends : goal.returns-clause-extends
+returns-clause-extends g c =
     let t = g.F.FabricName.table in
-    let look = looked_in_vain (λ e. e.place) (λ e. e.why) t c.args.portals.now _ c.take_first-taken.result c.are_empty-else-eq.result c.loop-try.self
-    c.take_first-taken.new.self c.are_empty-else-eq.ensures c.if-not-are_empty-2.false c.take_first-taken.ensures.extends in
-    let so_far = c.loop-try.invariant.2 in
-    (tt, tt, (suc so_far.0, looks_more t c.args.portals.now so_far.0 c.args.self.now c.loop-try.self c.take_first-taken.new.self so_far.1 look))
+    let look = looked_in_vain (λ e. e.place) (λ e. e.why) t c.args.portals.now _ c.take_first-first.result c.are_empty.result c.args.self.now
+    c.take_first-first.new.self c.are_empty.ensures c.if-not-are_empty.false c.take_first-first.ensures.extends in
+    looked_before (λ e. e.place) (λ e. e.why) (λ a. a.0) (λ a. GivesParcel a.1.n a.1.bytes.items a.1.portals) t c.args.portals.now c.args.self.now
+    c.take_first-first.new.self c.take_any_patiently.new.self c.take_any_patiently.result look c.take_any_patiently.ensures.extends

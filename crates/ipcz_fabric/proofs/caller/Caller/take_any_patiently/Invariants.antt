@@ -1,9 +1,9 @@
-use Rattle.std.proofs.Common.{ℕ, [], ◌∷◌}
+use Rattle.std.proofs.Common.{ℕ}
 use Rattle.ipcz_fabric.specs.Replays.{ExtendsInTurn}
 use Rattle.ipcz_fabric.specs.Selecting.{vain_looks}
-use Rattle.ipcz_fabric.proofs.caller.Caller.take_timeout.Given as goal
+use Rattle.ipcz_fabric.proofs.caller.Caller.take_any_patiently.Given as goal
 
--- each try so far has found nothing
+-- each look so far was in vain
 abbrev pub invariant-loop-try : goal.invariant-loop-try
 invariant-loop-try g l = (goal.iterator-loop-try g).can_next l._try-iterator × (goal.iterator-loop-try g).is_finite l._try-iterator ×
-    ((vain : ℕ) × ExtendsInTurn g.F.FabricName.table (vain_looks vain (l.portal ∷ [])) l.fn.self l.self)
+    ((vain : ℕ) × ExtendsInTurn g.F.FabricName.table (vain_looks vain l.portals) l.fn.self l.self)
