@@ -3,8 +3,9 @@ use Rattle.std.specs.Prelude.{◌≡◌, ◌+◌, ℕ, zero, suc, Bool, true, fa
 use Rattle.ipcz_base.specs.declared.refusal.Refusal.{Refusal}
 use Rattle.ipcz_base.specs.declared.refusal.Refusal.TheVariants as refusals
 use Rattle.ipcz_node.specs.declared.happened.Happened.{Happened}
+use Rattle.ipcz_rule.specs.declared.history.CallerView.{CallerView}
 use Rattle.ipcz_cell.specs.TableNames.{TableName}
-use Rattle.ipcz_fabric.specs.Hubs.{IsTurnAnswer}
+use Rattle.ipcz_fabric.specs.Hubs.{ExtendsByTurn, IsTurnAnswer}
 
 -- what a turn is answered
 abbrev pub Answer : Type 0
@@ -37,3 +38,9 @@ module _ {S : Type 0} (asks : S → ℕ → Bool → S → Type 0) (takes : S �
 abbrev pub IsWork : TableName → ℕ → (ℕ → ℕ → Bool → Type 0) → ℕ → ℕ → Type 0
 IsWork t node Answers limit number =
     Works {S = Unit {0}} (λ s turns may u. Answers node turns may) (λ s answer u. IsTurnAnswer t node answer) ends_work limit 0 tt number tt
+
+-- and these turns were a caller's next calls, each with its answer, one after the other; behind each idle one the caller let a proxy of the node ask again, and
+-- it has called nothing else. So the number is that of the caller's own turns, but for a last one that ended the work by its refusal
+abbrev pub IsWorkOf : TableName → ℕ → (ℕ → ℕ → Bool → Type 0) → ℕ → CallerView → ℕ → CallerView → Type 0
+IsWorkOf t node Answers limit c number c' = Works {S = CallerView} (λ d turns may e. Answers node turns may × (e ≡ d))
+    (λ d answer e. ExtendsByTurn t node answer d e) ends_work limit 0 c number c'
