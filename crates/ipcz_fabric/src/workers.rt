@@ -126,8 +126,8 @@ impl<'a, R: Wait, F: FabricName, G: Gate> Worker for HubWorker<'a, R, F, G> {
 
     ghost asks = { λ s turns may t. G.answers s.node turns may × (t.node ≡ s.node) × (t.me ≡ s.me) };
 
-    ghost takes = { λ s answer t. (s.node < F.table.count → IsTurnAnswer F.table s.node answer × ExtendsByTurn F.table s.node answer s.me t.me) ×
-        (t.node ≡ s.node) };
+    ghost takes = { λ s answer t. (s.node < F.table.count → IsTurnAnswer F.table s.node answer) ×
+        (s.node < F.table.count → ExtendsByTurn F.table s.node answer s.me t.me) × (t.node ≡ s.node) };
 
     ghost ends = { ends_work };
 

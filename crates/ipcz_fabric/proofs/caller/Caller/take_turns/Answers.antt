@@ -11,7 +11,7 @@ returns-clause-works g c = λ inside.
     shown _ _ _ _ _ _ c.run_worker-turns.ensures.works (λ s. s.node ≡ c.args.node) (λ s. tt) (λ s turns may u. g.G.Gate.answers c.args.node turns may)
     (λ s a u. IsTurnAnswer t c.args.node a)
     (λ s u turns may is h. (subst (λ (n : ℕ). g.G.Gate.answers n turns may) is h.0, h.1 ∙ is))
-    (λ u v a is h. (subst (λ (n : ℕ). IsTurnAnswer t n a) is (h.0 (subst (λ (n : ℕ). n < t.count) (sym is) inside)).0, h.1 ∙ is))
+    (λ u v a is h. (subst (λ (n : ℕ). IsTurnAnswer t n a) is (h.0 (subst (λ (n : ℕ). n < t.count) (sym is) inside)), h.2 ∙ is))
     refl
 
 pub returns-clause-extends : goal.returns-clause-extends
@@ -20,7 +20,7 @@ returns-clause-extends g c = λ inside.
     let done = shown _ _ _ _ _ _ c.run_worker-turns.ensures.works (λ s. s.node ≡ c.args.node) (λ s. s.me)
     (λ d turns may e. g.G.Gate.answers c.args.node turns may × (e ≡ d)) (λ d a e. ExtendsByTurn t c.args.node a d e)
     (λ s u turns may is h. ((subst (λ (n : ℕ). g.G.Gate.answers n turns may) is h.0, h.2), h.1 ∙ is))
-    (λ u v a is h. (subst (λ (n : ℕ). ExtendsByTurn t n a u.me v.me) is (h.0 (subst (λ (n : ℕ). n < t.count) (sym is) inside)).1, h.1 ∙ is))
+    (λ u v a is h. (subst (λ (n : ℕ). ExtendsByTurn t n a u.me v.me) is (h.1 (subst (λ (n : ℕ). n < t.count) (sym is) inside)), h.2 ∙ is))
     refl in
     subst (λ (d : CallerView). IsWorkOf t c.args.node g.G.Gate.answers c.args.limit d c.run_worker-turns.result c.run_worker-turns.new.worker.me)
     c.replace.ensures.value done
