@@ -238,7 +238,8 @@ impl<F: FabricName> Caller<F> {
 ///
 /// Before each turn it asks the gate, without any lock, and ends if that answers false; it ends after `limit` turns, and at a turn that
 /// is refused `OutOfMemory` or `NumbersEnd`, which isn't counted. One that is refused `Raced` is counted, and it goes on. For a node that
-/// isn't below the number of nodes it gives 0 and asks nothing. It is never refused itself.
+/// isn't below the number of nodes it gives 0 and asks nothing. It is never refused itself. [`Caller::work`] says besides which calls of a
+/// caller these turns are.
 ///
 /// So `work(rt, &hub, 0, &mut gate, 100)` takes a hundred turns of node 0 at most.
 pub fn work<R: Wait, F: FabricName, G: Gate>(
