@@ -7,3 +7,4 @@ pub mod Taking
 pub mod AskedInTurn
 pub mod Books
 pub mod Replaying
+pub mod TurnsCounted

@@ -1,6 +1,6 @@
 //! Workers: what takes turns of a node and asks before each.
-ghost use Rattle.std.specs.Prelude.{◌≡◌, ◌≤◌, ◌<◌, ◌-◌, ◌^◌};
-ghost use Rattle.ipcz_fabric.specs.Workers.{IsWork, IsWorkOf, Works, counted};
+ghost use Rattle.std.specs.Prelude.{◌≡◌, ◌≤◌, ◌<◌, ◌+◌, ◌-◌, ◌^◌};
+ghost use Rattle.ipcz_fabric.specs.Workers.{IsWork, IsWorkOf, Works, counted, turns_among};
 
 use crate::caller::Caller;
 use crate::hub::Hub;
@@ -165,6 +165,7 @@ impl<F: FabricName> Caller<F> {
         ensures few { result ≤ limit }
         ensures stranger { F.table.count ≤ node → result ≡ 0 }
         ensures extends { node < F.table.count → IsWorkOf F.table node G.answers limit self.old result self.new }
+        ensures counts { turns_among self.new.mine ≡ turns_among self.old.mine + result }
         ensures none { F.table.count ≤ node → self.new ≡ self.old }
     {
         if node >= hub.nodes() {
@@ -186,8 +187,8 @@ impl<F: FabricName> Caller<F> {
     }
 
     /// Takes turns of a node, one by one, as [`work`]. Each of them is a call, also one that is refused, and behind an idle one so is the
-    /// [`Caller::retry`] that follows under the same hold of the lock. So the number that it gives is that of the caller's turns which stand in the
-    /// node's history, but for a last one that ended the work by its refusal.
+    /// [`Caller::retry`] that follows under the same hold of the lock. So the caller has just as many turns more among its own calls as the
+    /// number says, but for a last one whose refusal ended the work.
     ///
     /// It is never refused. At a node that isn't there it gives 0 and calls nothing, and the caller stays as it was.
     ///
@@ -204,6 +205,7 @@ impl<F: FabricName> Caller<F> {
         ensures few { result ≤ limit }
         ensures stranger { F.table.count ≤ node → result ≡ 0 }
         ensures extends { node < F.table.count → IsWorkOf F.table node G.answers limit self.old result self.new }
+        ensures counts { turns_among self.new.mine ≡ turns_among self.old.mine + result }
         ensures none { F.table.count ≤ node → self.new ≡ self.old }
     {
         self.take_turns(rt, hub, node, gate, limit, None)
@@ -228,6 +230,7 @@ impl<F: FabricName> Caller<F> {
         ensures few { result ≤ limit }
         ensures stranger { F.table.count ≤ node → result ≡ 0 }
         ensures extends { node < F.table.count → IsWorkOf F.table node G.answers limit self.old result self.new }
+        ensures counts { turns_among self.new.mine ≡ turns_among self.old.mine + result }
         ensures none { F.table.count ≤ node → self.new ≡ self.old }
     {
         self.take_turns(rt, hub, node, gate, limit, Some(limit_of_sleep))

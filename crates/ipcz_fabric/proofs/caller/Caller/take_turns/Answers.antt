@@ -1,7 +1,8 @@
-use Rattle.std.proofs.Common.{◌≡◌, ◌<◌, ◌∙◌, ℕ, sym, subst, refl}
+use Rattle.std.proofs.Common.{◌≡◌, ◌<◌, ◌∙◌, ℕ, sym, subst, refl, arith}
 use Rattle.ipcz_rule.specs.declared.history.CallerView.{CallerView}
 use Rattle.ipcz_fabric.specs.Hubs.{ExtendsByTurn, IsTurnAnswer}
 use Rattle.ipcz_fabric.specs.Workers.{IsWorkOf}
+use Rattle.ipcz_fabric.proofs.TurnsCounted.{turns_counted}
 use Rattle.ipcz_fabric.proofs.Working.{shown}
 use Rattle.ipcz_fabric.proofs.caller.Caller.take_turns.Goals as goal
 
@@ -24,3 +25,9 @@ returns-clause-extends g c = λ inside.
     refl in
     subst (λ (d : CallerView). IsWorkOf t c.args.node g.G.Gate.answers c.args.limit d c.run_worker-turns.result c.run_worker-turns.new.worker.me)
     c.replace.ensures.value done
+
+pub returns-clause-counts : goal.returns-clause-counts
+returns-clause-counts g c =
+    let inside : c.args.node < g.F.FabricName.table.count = omega (arith, c.if-node-nodes.false, c.nodes.ensures) in
+    turns_counted g.F.FabricName.table c.args.node g.G.Gate.answers c.args.limit c.args.self.now c.run_worker-turns.result c.run_worker-turns.new.worker.me
+    (returns-clause-extends g c inside)
