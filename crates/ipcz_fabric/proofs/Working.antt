@@ -1,6 +1,6 @@
 -- A worker's turns so far, and what is left of them.
 use Rattle.std.specs.Prelude.{MatchBool}
-use Rattle.std.proofs.Common.{◌≡◌, ◌≤◌, ◌<◌, ◌-◌, ◌+◌, ℕ, zero, suc, Bool, true, false, refl, sym, subst, ◌∙◌, arith}
+use Rattle.std.proofs.Common.{◌≡◌, ◌≤◌, ◌<◌, ◌-◌, ◌+◌, ℕ, zero, suc, Bool, true, false, refl, sym, subst, ap, ◌∙◌, arith}
 use Rattle.ipcz_fabric.specs.Workers.{Answer, Works, counted}
 
 module _ {S : Type 0} (asks : S → ℕ → Bool → S → Type 0) (takes : S → Answer → S → Type 0) (ends : Answer → Bool) where
@@ -42,35 +42,36 @@ module _ {S : Type 0} (asks : S → ℕ → Bool → S → Type 0) (takes : S �
   goes_on-end limit turns first s on up most = let none : limit - turns ≡ 0 = omega (arith, up) in
       on limit s (subst (λ n. Works asks takes ends n turns s limit s) (sym none) (omega (arith, up, most), refl))
 
--- what a worker does, if its state is left out but for what stays of it
-module _ {S : Type 0} (asks : S → ℕ → Bool → S → Type 0) (takes : S → Answer → S → Type 0) (ends : Answer → Bool) (Is : S → Type 0)
-    (Asked : ℕ → Bool → Type 0) (Taken : Answer → Type 0) (ask : (s u : S) (turns : ℕ) (may : Bool) → Is s → asks s turns may u → Asked turns may × Is u)
-    (take : (u v : S) (a : Answer) → Is u → takes u a v → Taken a × Is v) where
-  abbrev Plain : ℕ → ℕ → ℕ → Type 0
-  Plain left turns answer = Works {S = Unit {0}} (λ s turns may u. Asked turns may) (λ s a u. Taken a) ends left turns tt answer tt
+-- what a worker does, as a view of its state shows it, if something stays of the state
+module _ {S R : Type 0} (asks : S → ℕ → Bool → S → Type 0) (takes : S → Answer → S → Type 0) (ends : Answer → Bool) (Is : S → Type 0) (view : S → R)
+    (Asked : R → ℕ → Bool → R → Type 0) (Taken : R → Answer → R → Type 0)
+    (ask : (s u : S) (turns : ℕ) (may : Bool) → Is s → asks s turns may u → Asked (view s) turns may (view u) × Is u)
+    (take : (u v : S) (a : Answer) → Is u → takes u a v → Taken (view u) a (view v) × Is v) where
+  abbrev Shown : ℕ → ℕ → R → ℕ → R → Type 0
+  Shown = Works Asked Taken ends
 
-  module _ (left turns : ℕ) (others : (v t : S) (answer : ℕ) → Is v → Works asks takes ends left (turns + 1) v answer t → Plain left (turns + 1) answer) where
+  module _ (left turns : ℕ) (others : (v t : S) (answer : ℕ) → Is v → Works asks takes ends left (turns + 1) v answer t → Shown left (turns + 1) (view v) answer (view t)) where
     ended : (v t : S) (a : Answer) (answer : ℕ) → Is v → (last : Bool) → MatchBool last ((answer ≡ counted turns a) × (t ≡ v)) (Works asks takes ends left (turns + 1) v answer t) →
-        MatchBool last ((answer ≡ counted turns a) × (◌≡◌ {A = Unit {0}} tt tt)) (Plain left (turns + 1) answer)
-    ended v t a answer is true h = (h.0, refl)
+        MatchBool last ((answer ≡ counted turns a) × (view t ≡ view v)) (Shown left (turns + 1) (view v) answer (view t))
+    ended v t a answer is true h = (h.0, ap view h.1)
     ended v t a answer is false h = others v t answer is h
 
     went : (u t : S) (answer : ℕ) → Is u → (may : Bool) →
         MatchBool may ((a : Answer) × (v : S) × takes u a v × MatchBool (ends a) ((answer ≡ counted turns a) × (t ≡ v)) (Works asks takes ends left (turns + 1) v answer t))
         ((answer ≡ turns) × (t ≡ u)) →
-        MatchBool may ((a : Answer) × (v : Unit {0}) × Taken a × MatchBool (ends a) ((answer ≡ counted turns a) × (◌≡◌ {A = Unit {0}} tt v)) (Plain left (turns + 1) answer))
-        ((answer ≡ turns) × (◌≡◌ {A = Unit {0}} tt tt))
-    went u t answer is true h = let taken = take u h.1 h.0 is h.2 in (h.0, tt, taken.0, ended h.1 t h.0 answer taken.1 (ends h.0) h.3)
-    went u t answer is false h = (h.0, refl)
+        MatchBool may ((a : Answer) × (v : R) × Taken (view u) a v × MatchBool (ends a) ((answer ≡ counted turns a) × (view t ≡ v)) (Shown left (turns + 1) v answer (view t)))
+        ((answer ≡ turns) × (view t ≡ view u))
+    went u t answer is true h = let taken = take u h.1 h.0 is h.2 in (h.0, view h.1, taken.0, ended h.1 t h.0 answer taken.1 (ends h.0) h.3)
+    went u t answer is false h = (h.0, ap view h.1)
 
-  plain_by : (left turns : ℕ) (s t : S) (answer : ℕ) → Is s → Works asks takes ends left turns s answer t → Plain left turns answer
-  plain_by zero turns s t answer is works = (works.0, refl)
-  plain_by (suc left) turns s t answer is works = let asked = ask s works.1 turns works.0 is works.2 in
-      (works.0, tt, asked.0, went left turns (plain_by left (turns + 1)) works.1 t answer asked.1 works.0 works.3)
+  shown_by : (left turns : ℕ) (s t : S) (answer : ℕ) → Is s → Works asks takes ends left turns s answer t → Shown left turns (view s) answer (view t)
+  shown_by zero turns s t answer is works = (works.0, ap view works.1)
+  shown_by (suc left) turns s t answer is works = let asked = ask s works.1 turns works.0 is works.2 in
+      (works.0, view works.1, asked.0, went left turns (shown_by left (turns + 1)) works.1 t answer asked.1 works.0 works.3)
 
-pub plain : {S : Type 0} {asks : S → ℕ → Bool → S → Type 0} {takes : S → Answer → S → Type 0} (ends : Answer → Bool) (left turns : ℕ) (s : S) (answer : ℕ) (t : S) →
-    Works asks takes ends left turns s answer t → (Is : S → Type 0) (Asked : ℕ → Bool → Type 0) (Taken : Answer → Type 0) →
-    ((s u : S) (turns : ℕ) (may : Bool) → Is s → asks s turns may u → Asked turns may × Is u) → ((u v : S) (a : Answer) → Is u → takes u a v → Taken a × Is v) → Is s →
-    Works {S = Unit {0}} (λ s turns may u. Asked turns may) (λ s a u. Taken a) ends left turns tt answer tt
-plain {S} {asks} {takes} ends left turns s answer t works Is Asked Taken ask take is =
-    plain_by asks takes ends Is Asked Taken ask take left turns s t answer is works
+pub shown : {S R : Type 0} {asks : S → ℕ → Bool → S → Type 0} {takes : S → Answer → S → Type 0} (ends : Answer → Bool) (left turns : ℕ) (s : S) (answer : ℕ) (t : S) →
+    Works asks takes ends left turns s answer t → (Is : S → Type 0) (view : S → R) (Asked : R → ℕ → Bool → R → Type 0) (Taken : R → Answer → R → Type 0) →
+    ((s u : S) (turns : ℕ) (may : Bool) → Is s → asks s turns may u → Asked (view s) turns may (view u) × Is u) →
+    ((u v : S) (a : Answer) → Is u → takes u a v → Taken (view u) a (view v) × Is v) → Is s → Works Asked Taken ends left turns (view s) answer (view t)
+shown {S} {R} {asks} {takes} ends left turns s answer t works Is view Asked Taken ask take is =
+    shown_by asks takes ends Is view Asked Taken ask take left turns s t answer is works

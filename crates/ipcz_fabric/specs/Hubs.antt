@@ -119,3 +119,8 @@ ExtendsByOpen t node answer c c' = (ends : Result (End × End) Refusal) × (answ
 -- the caller's next call let a proxy ask again, at a node, and was answered this
 abbrev pub ExtendsByRetry : TableName → ℕ → Result Retry Refusal → CallerView → CallerView → Type 0
 ExtendsByRetry t node answer c c' = (found : Retry) × (answer ≡ Ok found) × Extends t node (calls.Retried found) c c'
+
+-- the caller's next call was a turn, at a node, that answered this; and behind an idle one the next let a proxy of the node ask again
+abbrev pub ExtendsByTurn : TableName → ℕ → Result Happened Refusal → CallerView → CallerView → Type 0
+ExtendsByTurn t node answer c c' = (turned : CallerView) × Extends t node (calls.Turned answer) c turned ×
+    MatchBool (is_idle answer) ((found : Retry) × Extends t node (calls.Retried found) turned c') (c' ≡ turned)

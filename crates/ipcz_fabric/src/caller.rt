@@ -2,7 +2,7 @@
 ghost use Rattle.std.specs.Prelude.{◌≡◌, ◌≢◌, ◌<◌, ◌≤◌, ℕ, None, Ok, Err, MatchBool, MatchResult, All, IfOk, IfErr, OnOk, length, vec_len};
 ghost use Rattle.ipcz_rule.specs.declared.history.Call.TheVariants as calls;
 ghost use Rattle.ipcz_fabric.specs.Places.{IsCellOf};
-ghost use Rattle.ipcz_fabric.specs.Hubs.{AreTurnAnswers, ArePair, ExtendsByOpen, ExtendsByRetry, IsOpenAnswer, IsOpenRefusal, IsRetryAnswer};
+ghost use Rattle.ipcz_fabric.specs.Hubs.{AreTurnAnswers, ArePair, ExtendsByOpen, ExtendsByRetry, ExtendsByTurn, IsAskingAnswer, IsOpenAnswer, IsOpenRefusal, IsRetryAnswer};
 ghost use Rattle.ipcz_fabric.specs.Hubs.{IsTurnAnswer, IsTurnRefusal, LeavesOpened};
 ghost use Rattle.ipcz_fabric.specs.Portals.{ends_of, parcel_refusal};
 ghost use Rattle.ipcz_fabric.specs.Portals.{IsPut, IsPutRefusal, IsRefusedPut, IsGot, IsGetRefusal, IsRefusedGet};
@@ -12,7 +12,7 @@ ghost use Rattle.ipcz_fabric.specs.Selecting.{WaitsForParcel, tries};
 
 use crate::deadline::{Deadline, Patience};
 use crate::desk::Desk;
-use crate::hub::Hub;
+use crate::hub::{Hub, turn_asking_here};
 use crate::portal::{Got, Portal, PortalPutRefused};
 use crate::portals::{Arrival, arrival_of};
 use ipcz_base::{Parcel, Profile, Refusal};
@@ -165,6 +165,26 @@ impl<F: FabricName> Caller<F> {
             return Err(Refusal::Stranger);
         }
         Ok(hub.lock(rt, node).retry(hub.fabric(), &mut self.seat))
+    }
+
+    // Takes one turn of a node, as `turn`; behind an idle one a proxy that waits for a slot asks again, as `retry`, under the same hold of the lock.
+    // Whether one does.
+    pub(crate) fn turn_asking<R: Wait>(
+        &mut self,
+        rt: &R,
+        hub: &Hub<F>,
+        node: u8,
+    ) -> (Result<Happened, Refusal>, bool)
+        ensures stranger { F.table.count ≤ node → result.0 ≡ Err Refusal.Stranger }
+        ensures answer { node < F.table.count → IsTurnAnswer F.table node result.0 }
+        ensures asking { node < F.table.count → IsAskingAnswer F.table node result.0 result.1 }
+        ensures extends { node < F.table.count → ExtendsByTurn F.table node result.0 self.old self.new }
+        ensures none { F.table.count ≤ node → self.new ≡ self.old }
+    {
+        if node >= hub.nodes() {
+            return (Err(Refusal::Stranger), false);
+        }
+        turn_asking_here(&mut hub.lock(rt, node), hub.fabric(), &mut self.seat)
     }
 
     /// Puts a parcel of a profile at a portal, as [`Portal::put_as`].

@@ -5,7 +5,7 @@ ghost use Rattle.ipcz_cell.specs.Ending.{FinishRefuses, is_in_order};
 ghost use Rattle.ipcz_fabric.specs.Places.{IsCellOf};
 ghost use Rattle.ipcz_fabric.specs.Sorting.{AreSorted, standing};
 ghost use Rattle.ipcz_fabric.specs.Hubs.{AddsFirst, AddsHeld, AreFirstPortals, ArePair};
-ghost use Rattle.ipcz_fabric.specs.Hubs.{AreTurnAnswers, IsOpenAnswer, IsOpenRefusal, IsRetryAnswer, IsTurnAnswer, IsTurnRefusal, IsAskingAnswer, TurnsAsking, is_again, is_idle};
+ghost use Rattle.ipcz_fabric.specs.Hubs.{AreTurnAnswers, ExtendsByTurn, IsOpenAnswer, IsOpenRefusal, IsRetryAnswer, IsTurnAnswer, IsTurnRefusal, TurnsAsking, is_again, is_idle};
 
 use crate::caller::Caller;
 use crate::desk::Desk;
@@ -137,13 +137,14 @@ fn is_again(found: Retry) -> bool
 }
 
 // Takes one turn of a desk's node. Behind an idle one it lets a proxy that waits for a slot ask again, and tells whether one does.
-fn turn_asking_here<F: FabricName>(
+pub(crate) fn turn_asking_here<F: FabricName>(
     desk: &mut Desk<F>,
     fabric: &Fabric<F>,
     me: &mut CallerSeat<F>,
 ) -> (Result<Happened, Refusal>, bool)
     requires { IsCellOf F.table desk.old.part.node desk.old }
-    ensures { TurnsAsking F.table me.old.id desk.old result.0 result.1 desk.new }
+    ensures did { TurnsAsking F.table me.old.id desk.old result.0 result.1 desk.new }
+    ensures extends { ExtendsByTurn F.table desk.old.part.node result.0 me.old me.new }
 {
     let answer = desk.turn(fabric, me);
     if is_idle(&answer) {
@@ -258,20 +259,6 @@ impl<F: FabricName> Hub<F> {
         ensures answer { node < F.table.count → IsTurnAnswer F.table node result }
     {
         self.caller().turn(rt, self, node)
-    }
-
-    // Takes one turn of a node, as `turn`; behind an idle one a proxy that waits for a slot asks again, as `retry`, under the same hold of the lock.
-    // Whether one does.
-    pub(crate) fn turn_asking<R: Wait>(&self, rt: &R, node: u8) -> (Result<Happened, Refusal>, bool)
-        ensures stranger { F.table.count ≤ node → result.0 ≡ Err Refusal.Stranger }
-        ensures answer { node < F.table.count → IsTurnAnswer F.table node result.0 }
-        ensures asking { node < F.table.count → IsAskingAnswer F.table node result.0 result.1 }
-    {
-        if node >= self.fabric.nodes() {
-            return (Err(Refusal::Stranger), false);
-        }
-        let mut me = self.fabric.caller();
-        turn_asking_here(&mut self.lock(rt, node), &self.fabric, &mut me)
     }
 
     /// Takes turns of a node one after the other, under one hold of that node's lock, until one is idle, but no more than `limit`, and answers

@@ -1,11 +1,13 @@
 //! Workers: what takes turns of a node and asks before each.
-ghost use Rattle.std.specs.Prelude.{◌≡◌, ◌≤◌, ◌<◌, ◌-◌, ◌^◌};
-ghost use Rattle.ipcz_fabric.specs.Workers.{IsWork, Works, counted};
+ghost use Rattle.std.specs.Prelude.{◌≡◌, ◌≤◌, ◌<◌, ◌+◌, ◌-◌, ◌^◌};
+ghost use Rattle.ipcz_fabric.specs.Workers.{IsWork, IsWorkOf, Works, counted, turns_among};
 
+use crate::caller::Caller;
 use crate::hub::Hub;
 use ipcz_base::Refusal;
 use ipcz_cell::{FabricName, Ticket};
 use ipcz_node::Happened;
+use std::mem;
 use std::sync::Wait;
 use std::time::Duration;
 
@@ -102,13 +104,14 @@ fn sleep<R: Wait, F: FabricName>(
     }
 }
 
-// A worker of one node of a hub, which asks a gate. If it has a limit for a sleep, it watches the node's bell behind an idle turn, before it
-// asks the gate again, and sleeps behind the next one that is idle: so neither a message nor a word to the gate is missed. In which states
-// its turns find the node is known only under the lock.
+// A worker of one node of a hub, which asks a gate, and takes its turns as one caller. If it has a limit for a sleep, it watches the node's bell
+// behind an idle turn, before it asks the gate again, and sleeps behind the next one that is idle: so neither a message nor a word to the gate is
+// missed. In which states its turns find the node is known only under the lock.
 #[derive(Drop)]
 struct HubWorker<'a, R, F: FabricName, G> {
     rt: &'a R,
     hub: &'a Hub<F>,
+    me: Caller<F>,
     node: u8,
     gate: &'a mut G,
     limit: Option<Duration>,
@@ -118,12 +121,13 @@ struct HubWorker<'a, R, F: FabricName, G> {
 
 impl<'a, R: Wait, F: FabricName, G: Gate> Worker for HubWorker<'a, R, F, G> {
     ghost use Rattle.std.specs.Prelude.{◌≡◌, ◌<◌};
-    ghost use Rattle.ipcz_fabric.specs.Hubs.{IsTurnAnswer};
+    ghost use Rattle.ipcz_fabric.specs.Hubs.{ExtendsByTurn, IsTurnAnswer};
     ghost use Rattle.ipcz_fabric.specs.Workers.{ends_work};
 
-    ghost asks = { λ s turns may t. G.answers s.node turns may × (t.node ≡ s.node) };
+    ghost asks = { λ s turns may t. G.answers s.node turns may × (t.node ≡ s.node) × (t.me ≡ s.me) };
 
-    ghost takes = { λ s answer t. (s.node < F.table.count → IsTurnAnswer F.table s.node answer) × (t.node ≡ s.node) };
+    ghost takes = { λ s answer t. (s.node < F.table.count → IsTurnAnswer F.table s.node answer) ×
+        (s.node < F.table.count → ExtendsByTurn F.table s.node answer s.me t.me) × (t.node ≡ s.node) };
 
     ghost ends = { ends_work };
 
@@ -133,7 +137,7 @@ impl<'a, R: Wait, F: FabricName, G: Gate> Worker for HubWorker<'a, R, F, G> {
     }
 
     fn turn(&mut self) -> Result<Happened, Refusal> {
-        let (answer, asks_again) = self.hub.turn_asking(self.rt, self.node);
+        let (answer, asks_again) = self.me.turn_asking(self.rt, self.hub, self.node);
         self.idle = matches!(&answer, Ok(Happened::Idle)) && !asks_again;
         if self.idle {
             sleep(self.rt, self.hub, self.node, self.ticket, self.limit);
@@ -146,39 +150,99 @@ impl<'a, R: Wait, F: FabricName, G: Gate> Worker for HubWorker<'a, R, F, G> {
     }
 }
 
-// Takes turns of a node of a hub, as `work`, and sleeps after each idle one if it has a limit for that.
-fn take_turns<R: Wait, F: FabricName, G: Gate>(
-    rt: &R,
-    hub: &Hub<F>,
-    node: u8,
-    gate: &mut G,
-    limit: u64,
-    limit_of_sleep: Option<Duration>,
-) -> u64
-    ensures works { node < F.table.count → IsWork F.table node G.answers limit result }
-    ensures few { result ≤ limit }
-    ensures stranger { F.table.count ≤ node → result ≡ 0 }
-{
-    if node >= hub.nodes() {
-        return 0;
+impl<F: FabricName> Caller<F> {
+    // Takes turns of a node of a hub, as `work`, and sleeps after each idle one if it has a limit for that.
+    fn take_turns<R: Wait, G: Gate>(
+        &mut self,
+        rt: &R,
+        hub: &Hub<F>,
+        node: u8,
+        gate: &mut G,
+        limit: u64,
+        limit_of_sleep: Option<Duration>,
+    ) -> u64
+        ensures works { node < F.table.count → IsWork F.table node G.answers limit result }
+        ensures few { result ≤ limit }
+        ensures stranger { F.table.count ≤ node → result ≡ 0 }
+        ensures extends { node < F.table.count → IsWorkOf F.table node G.answers limit self.old result self.new }
+        ensures counts { turns_among self.new.mine ≡ turns_among self.old.mine + result }
+        ensures none { F.table.count ≤ node → self.new ≡ self.old }
+    {
+        if node >= hub.nodes() {
+            return 0;
+        }
+        let mut worker = HubWorker {
+            rt,
+            hub,
+            me: mem::replace(self, hub.caller()),
+            node,
+            gate,
+            limit: limit_of_sleep,
+            idle: false,
+            ticket: None,
+        };
+        let turns = run_worker(&mut worker, limit);
+        *self = worker.me;
+        turns
     }
-    let mut worker = HubWorker {
-        rt,
-        hub,
-        node,
-        gate,
-        limit: limit_of_sleep,
-        idle: false,
-        ticket: None,
-    };
-    run_worker(&mut worker, limit)
+
+    /// Takes turns of a node, one by one, as [`work`]. Each of them is a call, also one that is refused, and behind an idle one so is the
+    /// [`Caller::retry`] that follows under the same hold of the lock. So the caller has just as many turns more among its own calls as the
+    /// number says, but for a last one whose refusal ended the work.
+    ///
+    /// It is never refused. At a node that isn't there it gives 0 and calls nothing, and the caller stays as it was.
+    ///
+    /// So `me.work(rt, &hub, 0, &mut gate, 100)` takes a hundred turns of node 0 at most.
+    pub fn work<R: Wait, G: Gate>(
+        &mut self,
+        rt: &R,
+        hub: &Hub<F>,
+        node: u8,
+        gate: &mut G,
+        limit: u64,
+    ) -> u64
+        ensures works { node < F.table.count → IsWork F.table node G.answers limit result }
+        ensures few { result ≤ limit }
+        ensures stranger { F.table.count ≤ node → result ≡ 0 }
+        ensures extends { node < F.table.count → IsWorkOf F.table node G.answers limit self.old result self.new }
+        ensures counts { turns_among self.new.mine ≡ turns_among self.old.mine + result }
+        ensures none { F.table.count ≤ node → self.new ≡ self.old }
+    {
+        self.take_turns(rt, hub, node, gate, limit, None)
+    }
+
+    /// Takes turns of a node, and sleeps if two in a row are idle, for no longer than `limit_of_sleep`, as [`work_waiting`]. Which calls they are
+    /// [`Caller::work`] says.
+    ///
+    /// It is never refused. At a node that isn't there it gives 0 and calls nothing, and the caller stays as it was.
+    ///
+    /// So `me.work_waiting(rt, &hub, 0, &mut gate, u64::MAX, Duration::MAX)` serves node 0 until the gate answers false.
+    pub fn work_waiting<R: Wait, G: Gate>(
+        &mut self,
+        rt: &R,
+        hub: &Hub<F>,
+        node: u8,
+        gate: &mut G,
+        limit: u64,
+        limit_of_sleep: Duration,
+    ) -> u64
+        ensures works { node < F.table.count → IsWork F.table node G.answers limit result }
+        ensures few { result ≤ limit }
+        ensures stranger { F.table.count ≤ node → result ≡ 0 }
+        ensures extends { node < F.table.count → IsWorkOf F.table node G.answers limit self.old result self.new }
+        ensures counts { turns_among self.new.mine ≡ turns_among self.old.mine + result }
+        ensures none { F.table.count ≤ node → self.new ≡ self.old }
+    {
+        self.take_turns(rt, hub, node, gate, limit, Some(limit_of_sleep))
+    }
 }
 
 /// Takes turns of a node of a hub, one by one, each under the node's lock, and gives how many were taken, idle ones included.
 ///
 /// Before each turn it asks the gate, without any lock, and ends if that answers false; it ends after `limit` turns, and at a turn that
 /// is refused `OutOfMemory` or `NumbersEnd`, which isn't counted. One that is refused `Raced` is counted, and it goes on. For a node that
-/// isn't below the number of nodes it gives 0 and asks nothing. It is never refused itself.
+/// isn't below the number of nodes it gives 0 and asks nothing. It is never refused itself. [`Caller::work`] says besides which calls of a
+/// caller these turns are.
 ///
 /// So `work(rt, &hub, 0, &mut gate, 100)` takes a hundred turns of node 0 at most.
 pub fn work<R: Wait, F: FabricName, G: Gate>(
@@ -192,7 +256,7 @@ pub fn work<R: Wait, F: FabricName, G: Gate>(
     ensures few { result ≤ limit }
     ensures stranger { F.table.count ≤ node → result ≡ 0 }
 {
-    take_turns(rt, hub, node, gate, limit, None)
+    hub.caller().work(rt, hub, node, gate, limit)
 }
 
 /// Takes turns of a node of a hub, as `work`, and sleeps if two in a row are idle, as `Hub::turn_or_wait`, for no longer than
@@ -212,5 +276,6 @@ pub fn work_waiting<R: Wait, F: FabricName, G: Gate>(
     ensures few { result ≤ limit }
     ensures stranger { F.table.count ≤ node → result ≡ 0 }
 {
-    take_turns(rt, hub, node, gate, limit, Some(limit_of_sleep))
+    hub.caller()
+        .work_waiting(rt, hub, node, gate, limit, limit_of_sleep)
 }

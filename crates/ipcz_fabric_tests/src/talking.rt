@@ -4,7 +4,7 @@ ghost use Rattle.std.specs.Prelude.{◌≡◌};
 use crate::hub_tables::{both, hub_of};
 use crate::selecting::list_of;
 use ipcz_base::{Profile, Refusal};
-use ipcz_fabric::{Blank, Caller, FabricName, Hub, Portal, Retry, start};
+use ipcz_fabric::{Blank, Caller, FabricName, Gate, Hub, Portal, Retry, start};
 use ipcz_node::Happened;
 use std::alloc::Global;
 use std::marker::Brand;
@@ -26,6 +26,7 @@ enum Case {
     Waits,
     Selects,
     Closes,
+    Works,
     Strangers,
     Talk,
 }
@@ -107,6 +108,33 @@ fn closes_behind_one<F: FabricName, R: Wait>(rt: &R, hub: &Hub<F>, alloc: Global
     let got = caller.get(rt, hub, &b).is_ok();
     let end = matches!(caller.get(rt, hub, &b), Err(Refusal::PeerClosed));
     Some(matches!(closed, Ok(1)) && got && end)
+}
+
+// A gate that is open for so many turns of a worker.
+#[derive(Drop)]
+struct OpenFor {
+    turns: u64,
+}
+
+impl Gate for OpenFor {
+    fn pass(&mut self, _node: u8, turns: u64) -> bool {
+        turns < self.turns
+    }
+}
+
+// Whether a caller's work takes as many turns as its gate and its limit allow, and none of a node that isn't there, and a parcel comes by it.
+fn works_for_it<F: FabricName, R: Wait>(rt: &R, hub: &Hub<F>, alloc: Global) -> Option<bool> {
+    let mut caller = hub.caller();
+    let (a, b) = caller.open_pair(rt, hub, 0).ok()?;
+    caller
+        .put(rt, hub, &a, Vec::new(alloc), Vec::new(alloc))
+        .ok()?;
+    let mut gate = OpenFor { turns: 50 };
+    let as_gated = caller.work(rt, hub, 0, &mut gate, 100);
+    let as_limited = caller.work_waiting(rt, hub, 0, &mut gate, 3, Duration::ZERO);
+    let of_none = caller.work(rt, hub, 2, &mut gate, 100);
+    let got = caller.get(rt, hub, &b).ok()?;
+    Some(as_gated == 50 && as_limited == 3 && of_none == 0 && got.n == 0)
 }
 
 // Whether a node that isn't there is a stranger, and no proxy waits at one that is.
@@ -210,6 +238,7 @@ fn goes_well<F: FabricName + Send + Sync, R: Threads + Wait + Clock + Sync>(
         Case::Waits => waits_for_it(rt, &hub, alloc),
         Case::Selects => selects_it(rt, &hub, alloc),
         Case::Closes => closes_behind_one(rt, &hub, alloc),
+        Case::Works => works_for_it(rt, &hub, alloc),
         Case::Strangers => Some(are_strangers(rt, &hub)),
         Case::Talk => Some(both_talk(rt, &hub, alloc, &here, &there)),
     }
@@ -243,6 +272,11 @@ fn a_caller_gets_at_several_portals(rt: HostRuntime) {
 #[test]
 fn a_callers_close_comes_behind_its_parcels(rt: HostRuntime) {
     assert_eq!(rt; goes(&rt, rt.alloc(), Case::Closes), Some(true));
+}
+
+#[test]
+fn a_callers_work_is_as_long_as_it_may_be(rt: HostRuntime) {
+    assert_eq!(rt; goes(&rt, rt.alloc(), Case::Works), Some(true));
 }
 
 #[test]
