@@ -7,4 +7,5 @@ pub mod Taking
 pub mod AskedInTurn
 pub mod Books
 pub mod Replaying
+pub mod Standing
 pub mod TurnsCounted
