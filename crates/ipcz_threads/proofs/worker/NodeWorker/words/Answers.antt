@@ -1,4 +1,4 @@
-use Rattle.std.proofs.Common.{ap, refl, subst}
+use Rattle.std.proofs.Common.{ap, subst}
 use Rattle.ipcz_cell.specs.Mails.{HasSeen}
 use Rattle.ipcz_threads.proofs.Wording.{goes_on-start, goes_on-word, goes_on-none, goes_on-end}
 use Rattle.ipcz_threads.proofs.worker.NodeWorker.words.Goals as goal
