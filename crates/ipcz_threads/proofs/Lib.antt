@@ -1,3 +1,4 @@
 mod Asking
 mod Settling
 mod Turning
+mod Wording

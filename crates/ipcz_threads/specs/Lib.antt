@@ -1,4 +1,5 @@
 pub mod Rounds
+pub mod Shows
 pub mod Stages
 pub mod Statuses
 pub mod Transcripts

@@ -15,6 +15,7 @@ use Rattle.ipcz_threads.specs.declared.call.Call.{Call}
 use Rattle.ipcz_threads.specs.declared.call.Call.TheVariants as calls
 use Rattle.ipcz_threads.specs.Workers.{WorkerState, CallsAt, holder_from}
 use Rattle.ipcz_threads.specs.Rounds.{Gates, IsRound, AreAsked, is_some_starved, left_after}
+use Rattle.ipcz_threads.specs.Shows.{FirstTells}
 
 pub record Stage : Type 0 where
   pub workers : List WorkerState
@@ -91,9 +92,9 @@ abbrev pub SettlesTo : Gates → TableName → ℕ → List WorkerState → Said
 SettlesTo gates t limit ws answer vs = (quiet : Bool) × Settles gates t limit ws quiet vs
     × (answer ≡ (if quiet then said.Settled else said.Unsettled))
 
--- a show is answered by some words
-abbrev pub Shows : Stage → Said → Stage → Type 0
-Shows s answer u = (words : List ℕ) × (answer ≡ said.Words words) × (u.labels ≡ s.labels)
+-- a show is answered by the claimed link words, as the first worker's cell finds them
+abbrev pub Shows : TableName → Stage → Said → Stage → Type 0
+Shows t s answer u = (words : List ℕ) × (answer ≡ said.Words words) × (u.labels ≡ s.labels) × FirstTells t s.workers words u.workers
 
 -- what a command may be answered, and the stage after it
 abbrev pub Runs : Gates → TableName → Stage → Command → Said → Stage → Type 0
@@ -103,4 +104,4 @@ Runs gates t s (commands.Get at) answer u = CallsNamed t s at calls.Get answer u
 Runs gates t s (commands.Close at) answer u = CallsNamed t s at calls.Close answer u
 Runs gates t s (commands.Turn node count) answer u = TurnsTo t count node s.workers answer u.workers × (u.labels ≡ s.labels)
 Runs gates t s (commands.Settle limit) answer u = SettlesTo gates t limit s.workers answer u.workers × (u.labels ≡ s.labels)
-Runs gates t s commands.Show answer u = Shows s answer u
+Runs gates t s commands.Show answer u = Shows t s answer u

@@ -130,18 +130,12 @@ impl<'a, F: FabricName, G> Session<'a, F, G> {
 
     // The claimed link words, as the first node's cell finds them.
     fn show(&mut self) -> Result<Said, AllocError>
-        ensures { IfOk result (λ said. Shows self.old said self.new) }
+        ensures { IfOk result (λ said. Shows F.table self.old said self.new) }
     {
-        let mut words = Vec::new(self.alloc);
-        let Some(worker) = self.workers.as_mut_slice().first_mut() else {
-            return Ok(Said::Words(Sequence::from_vec(words)));
+        let Some(worker) = self.workers.first_mut() else {
+            return Ok(Said::Words(Sequence::from_vec(Vec::new(self.alloc))));
         };
-        for i in 0..worker.cell.claimed(worker.fabric) {
-            let Some(word) = worker.cell.word(worker.fabric, i) else {
-                break;
-            };
-            words.push(word)?;
-        }
+        let words = worker.words(self.alloc)?;
         Ok(Said::Words(Sequence::from_vec(words)))
     }
 }

@@ -1,8 +1,9 @@
 //! A node's cell with its gate, as a thread has both for a round.
-ghost use Rattle.std.specs.Prelude.{◌≡◌};
+ghost use Rattle.std.specs.Prelude.{◌≡◌, IfOk};
 ghost use Rattle.ipcz_cell.specs.Opens.{FindsQuiet, OpensPair};
 ghost use Rattle.ipcz_node.specs.Node.{holds_end};
 ghost use Rattle.ipcz_threads.specs.Rounds.{ends_round, finds_no_memory};
+ghost use Rattle.ipcz_threads.specs.Shows.{TellsWords};
 ghost use Rattle.ipcz_threads.specs.Workers.{CallsWorker, Puts, opened, put};
 
 use crate::call::Call;
@@ -10,6 +11,7 @@ use ipcz_base::{Bytes, End, Ends, Refusal};
 use ipcz_fabric::{Fabric, FabricName, Gate, NodeCell, Worker};
 use ipcz_node::Happened;
 use ipcz_world::Reply;
+use std::alloc::{AllocError, Global};
 use std::marker::Model;
 
 /// A node's cell with what a worker needs that takes its turns: the table, and the gate that it asks before each.
@@ -93,6 +95,21 @@ impl<'a, F: FabricName, G> NodeWorker<'a, F, G> {
             Ok(number) => Ok(number),
             Err(refused) => Err(refused.why),
         }
+    }
+
+    /// The claimed link words, as the cell finds them: as many as the claim count that it looks at first, or fewer if one isn't there.
+    pub(crate) fn words(&mut self, alloc: Global) -> Result<Vec<u64>, AllocError>
+        ensures { IfOk result (λ words. TellsWords F.table self.old words.items self.new) }
+    {
+        let mut words = Vec::new(alloc);
+        let claimed = self.cell.claimed(self.fabric);
+        for i in 0..claimed {
+            let Some(word) = self.cell.word(self.fabric, i) else {
+                return Ok(words);
+            };
+            words.push(word)?;
+        }
+        Ok(words)
     }
 
     /// Makes a call on the cell.
