@@ -2,6 +2,7 @@
 //! messages, and refusals. The devices of `ipcz_device` are passed on.
 #![tactic(auto)]
 
+mod bytes;
 mod descriptor;
 mod end;
 mod item;
@@ -15,6 +16,7 @@ mod refusal;
 mod sequence;
 mod side;
 
+pub use bytes::Bytes;
 pub use descriptor::Descriptor;
 pub use end::End;
 pub use ipcz_device::Device;
@@ -26,5 +28,5 @@ pub use message::Message;
 pub use parcel::{Parcel, Sizes};
 pub use profile::Profile;
 pub use refusal::Refusal;
-pub use sequence::{Bytes, Ends, Moves, Sequence};
+pub use sequence::{Ends, Moves, Sequence};
 pub use side::Side;

@@ -1,7 +1,7 @@
 //! How loose the limit is that a world tells, compared with the acts that were taken, over worlds that are drawn by a number.
 use crate::fault::Fault;
 use crate::trial::Portal;
-use ipcz_base::{End, Refusal, Sequence, Side};
+use ipcz_base::{Bytes, End, Ends, Refusal, Side};
 use ipcz_world::{Reply, Settled, Step, World};
 use std::alloc::Global;
 
@@ -76,14 +76,12 @@ impl Drawn {
 
     // Puts a parcel, with a portal or none; a put that is refused does nothing.
     fn put(&mut self, alloc: Global, at: Portal, carried: Option<End>) -> Result<(), Fault> {
-        let bytes = Sequence::from_vec(vec![in alloc; b'x'; 4]?);
+        let bytes = Bytes::from_slice(alloc, b"xxxx")?;
         let mut ends = Vec::new(alloc);
         if let Some(end) = carried {
             ends.push(end)?;
         }
-        let put = self
-            .world
-            .put(at.node, at.end, bytes, Sequence::from_vec(ends));
+        let put = self.world.put(at.node, at.end, bytes, Ends::from_vec(ends));
         if carried.is_some() && put.is_ok() {
             self.carried = self.carried.saturating_add(1);
         }

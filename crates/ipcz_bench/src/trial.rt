@@ -1,11 +1,14 @@
 //! A world of one or two nodes, and parcels and portals that go through it.
 use crate::fault::Fault;
-use ipcz_base::{End, Refusal, Sequence, Side};
+use ipcz_base::{Bytes, End, Ends, Refusal, Side};
 use ipcz_world::{Reply, Settled, Step, World};
 use std::alloc::Global;
 
 /// More acts than any settle of a measure takes.
 const ENOUGH: u64 = 1_000_000_000;
+
+// What parcels are made of.
+static DATA: [u8; 256] = [b'x'; 256];
 
 /// A portal that the callers of a node hold.
 #[derive(Clone, Copy)]
@@ -72,14 +75,13 @@ pub fn put(
     length: usize,
     carried: Option<End>,
 ) -> Result<(), Fault> {
-    let bytes = vec![in alloc; b'x'; length]?;
+    let bytes = Bytes::from_slice(alloc, &DATA[..length.min(DATA.len())])?;
     let mut ends = Vec::new(alloc);
     if let Some(end) = carried {
         ends.try_reserve(1)?;
         ends.push_reserved(end);
     }
-    let bytes = Sequence::from_vec(bytes);
-    match world.put(at.node, at.end, bytes, Sequence::from_vec(ends)) {
+    match world.put(at.node, at.end, bytes, Ends::from_vec(ends)) {
         Ok(_) => Ok(()),
         Err(refused) => Err(Fault::Refused(refused.why)),
     }

@@ -1,16 +1,24 @@
 //! A node with one portal, as a measure calls it: a cell that a thread owns, or a portal of a hub.
-use ipcz_base::{End, Refusal, Sequence};
+use ipcz_base::{Bytes, End, Ends, Refusal};
 use ipcz_fabric::{Fabric, FabricName, Hub, NodeCell, Portal};
 use ipcz_node::Happened;
-use std::alloc::Global;
+use std::alloc::{AllocError, Global};
 use std::sync::Wait;
 use std::time::Duration;
 
 /// More turns than a talker takes on its way.
 pub const TURNS: u64 = 1_000_000_000;
 
+// What parcels are made of: as many bytes as take no memory.
+static DATA: [u8; 16] = [b'x'; 16];
+
 // The longest sleep.
 const LONGEST: Duration = Duration::MAX;
+
+// The bytes of a parcel, at most sixteen.
+fn bytes_of(alloc: Global, length: usize) -> Result<Bytes, AllocError> {
+    Bytes::from_slice(alloc, &DATA[..length.min(DATA.len())])
+}
 
 /// What puts, acts and gets at one node.
 pub trait Talker {
@@ -42,13 +50,11 @@ pub struct Own<'a, R, F: FabricName> {
 
 impl<'a, R: Wait, F: FabricName> Talker for Own<'a, R, F> {
     fn put(&mut self, length: usize) -> bool {
-        let Ok(bytes) = vec![in self.alloc; b'x'; length] else {
+        let Ok(bytes) = bytes_of(self.alloc, length) else {
             return false;
         };
-        let none = Sequence::from_vec(Vec::new(self.alloc));
-        let put = self
-            .cell
-            .put(self.fabric, self.at, Sequence::from_vec(bytes), none);
+        let none = Ends::from_vec(Vec::new(self.alloc));
+        let put = self.cell.put(self.fabric, self.at, bytes, none);
         put.is_ok()
     }
 
@@ -84,7 +90,7 @@ pub struct Shared<'a, R, F: FabricName> {
 
 impl<'a, R: Wait, F: FabricName> Talker for Shared<'a, R, F> {
     fn put(&mut self, length: usize) -> bool {
-        let Ok(bytes) = vec![in self.alloc; b'x'; length] else {
+        let Ok(bytes) = bytes_of(self.alloc, length) else {
             return false;
         };
         let put = self

@@ -53,7 +53,7 @@ pub(crate) fn lists_of(
 ) -> Result<(Bytes, Ends), AllocError>
     ensures { IfOk result (λ r. (r.0 ≡ bytes.now) × (r.1 ≡ ends_of portals.now)) }
 {
-    let bytes = Vec::from_slice(alloc, bytes)?;
+    let bytes = Bytes::from_slice(alloc, bytes)?;
     let ends = ends_of(alloc, portals)?;
-    Ok((Bytes::from_vec(bytes), ends))
+    Ok((bytes, ends))
 }

@@ -1,7 +1,7 @@
 //! A caller of the library: what is put at a portal on node 0 is got at its peer on node 1.
 #![tactic(auto)]
 
-use ipcz_base::{End, Refusal, Sequence, Side};
+use ipcz_base::{Bytes, End, Ends, Refusal, Side};
 use ipcz_world::{Reply, Step, World};
 use std::alloc::Global;
 
@@ -13,9 +13,9 @@ fn talk(alloc: Global) -> Result<Reply, Refusal> {
     };
     let right = left.opposite();
     let mut world = World::new(alloc, 2, 1 << 24)?;
-    let bytes = Vec::from_slice(alloc, b"hello")?;
-    let ends = Vec::new(alloc);
-    world.put_wide(0, left, Sequence::from_vec(bytes), Sequence::from_vec(ends))?;
+    let bytes = Bytes::from_slice(alloc, b"hello")?;
+    let ends = Ends::from_vec(Vec::new(alloc));
+    world.put_wide(0, left, bytes, ends)?;
     world.settle(100)?;
     Ok(world.step(&Step::Get { node: 1, at: right }))
 }

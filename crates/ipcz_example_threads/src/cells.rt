@@ -1,7 +1,7 @@
 //! Each thread owns the cell of a node, and takes the node's turns between its own calls. No lock stands between them.
 ghost use Rattle.std.specs.Prelude.{◌≡◌};
 
-use ipcz_base::{End, Parcel, Refusal, Sequence, Side};
+use ipcz_base::{Bytes, End, Ends, Parcel, Refusal, Side};
 use ipcz_fabric::{Blank, Fabric, FabricName, NodeCell, Ticket};
 use ipcz_node::Happened;
 use std::alloc::Global;
@@ -21,7 +21,7 @@ const RIGHT: End = End {
     side: Side::B,
 };
 
-// Puts a text and some ends. A cell takes each as a `Sequence`.
+// Puts a text and some ends. Up to 16 bytes take no memory.
 fn put<F: FabricName>(
     alloc: Global,
     fabric: &Fabric<F>,
@@ -30,8 +30,8 @@ fn put<F: FabricName>(
     text: &[u8],
     ends: &[End],
 ) -> Result<(), Refusal> {
-    let bytes = Sequence::from_vec(Vec::from_slice(alloc, text)?);
-    let ends = Sequence::from_vec(Vec::from_slice(alloc, ends)?);
+    let bytes = Bytes::from_slice(alloc, text)?;
+    let ends = Ends::from_vec(Vec::from_slice(alloc, ends)?);
     match cell.put_wide(fabric, at, bytes, ends) {
         Ok(_number) => Ok(()),
         Err(refused) => Err(refused.why),
@@ -82,12 +82,12 @@ fn asks<F: FabricName, R: Wait>(
     fabric: &Fabric<F>,
     cell: &mut NodeCell<F>,
     ended: &AtomicU64,
-) -> Result<Vec<u8>, Refusal> {
+) -> Result<Bytes, Refusal> {
     let (kept, moved) = cell.open_pair(fabric)?;
     put(alloc, fabric, cell, LEFT, b"", &[moved])?;
     put(alloc, fabric, cell, kept, b"hello", &[])?;
     let answer = get(rt, fabric, cell, kept, ended)?;
-    Ok(answer.bytes.into_vec())
+    Ok(answer.bytes)
 }
 
 // Node 1: gets the end and the text, and puts the text back. Then it takes turns until the other thread has got it.
@@ -123,7 +123,7 @@ fn two_talk<F: FabricName + Send + Sync, R: Threads + Wait + Sync>(
     fabric: &Fabric<F>,
     left: &mut NodeCell<F>,
     right: &mut NodeCell<F>,
-) -> Result<Vec<u8>, Refusal> {
+) -> Result<Bytes, Refusal> {
     let (left_ended, right_ended) = (AtomicU64::new(0), AtomicU64::new(0));
     let (answer, _answered) = join(
         rt,
@@ -147,7 +147,7 @@ fn both_talk<F: FabricName + Send + Sync, R: Threads + Wait + Sync>(
     alloc: Global,
     fabric: &Fabric<F>,
     cells: &mut [NodeCell<F>],
-) -> Result<Vec<u8>, Refusal> {
+) -> Result<Bytes, Refusal> {
     match cells {
         [left, right] => two_talk(rt, alloc, fabric, left, right),
         _ => Err(Refusal::Stranger),
@@ -159,7 +159,7 @@ pub fn talk_by_cells<F: FabricName + Send + Sync, R: Threads + Wait + Sync>(
     rt: &R,
     alloc: Global,
     blank: Blank,
-) -> Result<Vec<u8>, Refusal>
+) -> Result<Bytes, Refusal>
     requires { blank ≡ F.table }
 {
     let (fabric, mut cells) = match blank.name::<F>() {

@@ -1,7 +1,7 @@
 //! Two threads share a hub, each with portals of its own, and a worker for each node takes its turns. A lock stands round each node's cell.
 ghost use Rattle.std.specs.Prelude.{◌≡◌};
 
-use ipcz_base::Refusal;
+use ipcz_base::{Bytes, Refusal};
 use ipcz_fabric::{Arrival, Blank, FabricName, Gate, Hub, Portal, work_waiting};
 use std::alloc::Global;
 use std::sync::Wait;
@@ -9,12 +9,12 @@ use std::sync::atomic::{AtomicU64, Ordering};
 use std::thread::{Threads, join};
 use std::time::{Clock, Duration};
 
-// Puts a text and some portals, which are used up. A portal takes each as a `Vec`.
+// Puts a text and some portals, which are used up.
 fn put<F: FabricName, R: Wait>(
     rt: &R,
     hub: &Hub<F>,
     at: &Portal<F>,
-    text: Vec<u8>,
+    text: Bytes,
     portals: Vec<Portal<F>>,
 ) -> Result<(), Refusal> {
     match at.put_wide(rt, hub, text, portals) {
@@ -38,12 +38,12 @@ fn asks<F: FabricName, R: Wait + Clock>(
     alloc: Global,
     hub: &Hub<F>,
     left: &Portal<F>,
-) -> Result<Vec<u8>, Refusal> {
+) -> Result<Bytes, Refusal> {
     let (kept, moved) = hub.open_pair(rt, 0)?;
     let mut portals = Vec::with_capacity(alloc, 1)?;
     portals.push_reserved(moved);
-    put(rt, hub, left, Vec::new(alloc), portals)?;
-    let text = Vec::from_slice(alloc, b"hello")?;
+    put(rt, hub, left, Bytes::new(), portals)?;
+    let text = Bytes::from_slice(alloc, b"hello")?;
     put(rt, hub, &kept, text, Vec::new(alloc))?;
     let answer = get(rt, hub, &kept)?;
     Ok(answer.bytes)
@@ -90,7 +90,7 @@ fn both_call<F: FabricName + Send + Sync, R: Threads + Wait + Clock + Sync>(
     left: &Portal<F>,
     right: &Portal<F>,
     ended: &AtomicU64,
-) -> Result<Vec<u8>, Refusal> {
+) -> Result<Bytes, Refusal> {
     let (answer, _answered) = join(
         rt,
         || asks(rt, alloc, hub, left),
@@ -108,7 +108,7 @@ fn all_run<F: FabricName + Send + Sync, R: Threads + Wait + Clock + Sync>(
     alloc: Global,
     hub: &Hub<F>,
     portals: &[Portal<F>],
-) -> Result<Vec<u8>, Refusal> {
+) -> Result<Bytes, Refusal> {
     let [left, right] = portals else {
         return Err(Refusal::Stranger);
     };
@@ -130,7 +130,7 @@ pub fn talk_by_hub<F: FabricName + Send + Sync, R: Threads + Wait + Clock + Sync
     rt: &R,
     alloc: Global,
     blank: Blank,
-) -> Result<Vec<u8>, Refusal>
+) -> Result<Bytes, Refusal>
     requires { blank ≡ F.table }
 {
     let (fabric, cells) = match blank.name::<F>() {

@@ -91,13 +91,13 @@ fits_by true false true true peer each at e = cc
 fits_by true false true false true each at e = cc
 fits_by true false true false false each at e = refl
 
-pub put_here : (profile : Profile) (n : Node) (at at' : End) (bytes bytes' : List ℕ) (ends ends' : List End) → at ≡ at' → bytes ≡ bytes' → ends ≡ ends' →
-    put_refusal profile n at bytes ends ≡ put_refusal profile n at' bytes' ends'
-put_here profile n at at' bytes bytes' ends ends' same_at same_bytes same_ends = λ j. put_refusal profile n (same_at j) (same_bytes j) (same_ends j)
+pub put_here : (profile : Profile) (n : Node) (at at' : End) (bytes : List ℕ) (ends ends' : List End) → at ≡ at' → ends ≡ ends' →
+    put_refusal profile n at bytes ends ≡ put_refusal profile n at' bytes ends'
+put_here profile n at at' bytes ends ends' same_at same_ends = λ j. put_refusal profile n (same_at j) bytes (same_ends j)
 
-pub part_here : (p : Part) (at at' : End) (bytes bytes' : List ℕ) (ends ends' : List End) → at ≡ at' → bytes ≡ bytes' → ends ≡ ends' →
-    put_part at bytes ends p ≡ put_part at' bytes' ends' p
-part_here p at at' bytes bytes' ends ends' same_at same_bytes same_ends = λ j. put_part (same_at j) (same_bytes j) (same_ends j) p
+pub part_here : (p : Part) (at at' : End) (bytes : List ℕ) (ends ends' : List End) → at ≡ at' → ends ≡ ends' →
+    put_part at bytes ends p ≡ put_part at' bytes ends' p
+part_here p at at' bytes ends ends' same_at same_ends = λ j. put_part (same_at j) bytes (same_ends j) p
 
 pub put_fits : (profile : Profile) (n : Node) (at : End) (bytes : List ℕ) (ends : List End) → put_refusal profile n at bytes ends ≡ None → parcel_refusal profile at bytes ends ≡ None
 unfolding put_refusal

@@ -15,7 +15,7 @@ use crate::desk::Desk;
 use crate::hub::{Hub, turn_asking_here};
 use crate::portal::{Got, Portal, PortalPutRefused};
 use crate::portals::{Arrival, arrival_of};
-use ipcz_base::{Parcel, Profile, Refusal};
+use ipcz_base::{Bytes, Parcel, Profile, Refusal};
 use ipcz_cell::{CallerSeat, Fabric, FabricName, Retry};
 use ipcz_node::Happened;
 use std::marker::Model;
@@ -198,18 +198,18 @@ impl<F: FabricName> Caller<F> {
         hub: &Hub<F>,
         portal: &Portal<F>,
         profile: Profile,
-        bytes: Vec<u8>,
+        bytes: Bytes,
         portals: Vec<Portal<F>>,
     ) -> Result<u64, PortalPutRefused<F>>
-        ensures number { IfOk result (IsPut profile F.table portal.now.node portal.now.end bytes.items (ends_of portals.items)) }
-        ensures fits { OnOk result (parcel_refusal profile portal.now.end bytes.items (ends_of portals.items) ≡ None) }
-        ensures why { IfErr result (λ e. IsPutRefusal profile portal.now.end bytes.items (ends_of portals.items) e.why) }
+        ensures number { IfOk result (IsPut profile F.table portal.now.node portal.now.end bytes (ends_of portals.items)) }
+        ensures fits { OnOk result (parcel_refusal profile portal.now.end bytes (ends_of portals.items) ≡ None) }
+        ensures why { IfErr result (λ e. IsPutRefusal profile portal.now.end bytes (ends_of portals.items) e.why) }
         ensures refused { IfErr result
-            (λ e. IsRefusedPut profile F.table portal.now.node portal.now.end bytes.items (ends_of portals.items) e.why) }
-        ensures back { IfErr result (λ e. (e.bytes.items ≡ bytes.items) × (e.portals.items ≡ portals.items)) }
+            (λ e. IsRefusedPut profile F.table portal.now.node portal.now.end bytes (ends_of portals.items) e.why) }
+        ensures back { IfErr result (λ e. (e.bytes ≡ bytes) × (e.portals.items ≡ portals.items)) }
         ensures extends { MatchResult result
-            (λ n. Extends F.table portal.now.node (calls.Put profile portal.now.end bytes.items (ends_of portals.items) (Ok n)) self.old self.new)
-            (λ e. Extends F.table portal.now.node (calls.Put profile portal.now.end bytes.items (ends_of portals.items) (Err e.why)) self.old self.new) }
+            (λ n. Extends F.table portal.now.node (calls.Put profile portal.now.end bytes (ends_of portals.items) (Ok n)) self.old self.new)
+            (λ e. Extends F.table portal.now.node (calls.Put profile portal.now.end bytes (ends_of portals.items) (Err e.why)) self.old self.new) }
     {
         let node = portal.place();
         let put = hub
@@ -229,18 +229,18 @@ impl<F: FabricName> Caller<F> {
         rt: &R,
         hub: &Hub<F>,
         portal: &Portal<F>,
-        bytes: Vec<u8>,
+        bytes: Bytes,
         portals: Vec<Portal<F>>,
     ) -> Result<u64, PortalPutRefused<F>>
-        ensures number { IfOk result (IsPut Profile.Wide F.table portal.now.node portal.now.end bytes.items (ends_of portals.items)) }
-        ensures fits { OnOk result (parcel_refusal Profile.Wide portal.now.end bytes.items (ends_of portals.items) ≡ None) }
-        ensures why { IfErr result (λ e. IsPutRefusal Profile.Wide portal.now.end bytes.items (ends_of portals.items) e.why) }
+        ensures number { IfOk result (IsPut Profile.Wide F.table portal.now.node portal.now.end bytes (ends_of portals.items)) }
+        ensures fits { OnOk result (parcel_refusal Profile.Wide portal.now.end bytes (ends_of portals.items) ≡ None) }
+        ensures why { IfErr result (λ e. IsPutRefusal Profile.Wide portal.now.end bytes (ends_of portals.items) e.why) }
         ensures refused { IfErr result
-            (λ e. IsRefusedPut Profile.Wide F.table portal.now.node portal.now.end bytes.items (ends_of portals.items) e.why) }
-        ensures back { IfErr result (λ e. (e.bytes.items ≡ bytes.items) × (e.portals.items ≡ portals.items)) }
+            (λ e. IsRefusedPut Profile.Wide F.table portal.now.node portal.now.end bytes (ends_of portals.items) e.why) }
+        ensures back { IfErr result (λ e. (e.bytes ≡ bytes) × (e.portals.items ≡ portals.items)) }
         ensures extends { MatchResult result
-            (λ n. Extends F.table portal.now.node (calls.Put Profile.Wide portal.now.end bytes.items (ends_of portals.items) (Ok n)) self.old self.new)
-            (λ e. Extends F.table portal.now.node (calls.Put Profile.Wide portal.now.end bytes.items (ends_of portals.items) (Err e.why)) self.old self.new) }
+            (λ n. Extends F.table portal.now.node (calls.Put Profile.Wide portal.now.end bytes (ends_of portals.items) (Ok n)) self.old self.new)
+            (λ e. Extends F.table portal.now.node (calls.Put Profile.Wide portal.now.end bytes (ends_of portals.items) (Err e.why)) self.old self.new) }
     {
         self.put_as(rt, hub, portal, Profile::Wide, bytes, portals)
     }
@@ -255,18 +255,18 @@ impl<F: FabricName> Caller<F> {
         rt: &R,
         hub: &Hub<F>,
         portal: &Portal<F>,
-        bytes: Vec<u8>,
+        bytes: Bytes,
         portals: Vec<Portal<F>>,
     ) -> Result<u64, PortalPutRefused<F>>
-        ensures number { IfOk result (IsPut Profile.Printed F.table portal.now.node portal.now.end bytes.items (ends_of portals.items)) }
-        ensures fits { OnOk result (parcel_refusal Profile.Printed portal.now.end bytes.items (ends_of portals.items) ≡ None) }
-        ensures why { IfErr result (λ e. IsPutRefusal Profile.Printed portal.now.end bytes.items (ends_of portals.items) e.why) }
+        ensures number { IfOk result (IsPut Profile.Printed F.table portal.now.node portal.now.end bytes (ends_of portals.items)) }
+        ensures fits { OnOk result (parcel_refusal Profile.Printed portal.now.end bytes (ends_of portals.items) ≡ None) }
+        ensures why { IfErr result (λ e. IsPutRefusal Profile.Printed portal.now.end bytes (ends_of portals.items) e.why) }
         ensures refused { IfErr result
-            (λ e. IsRefusedPut Profile.Printed F.table portal.now.node portal.now.end bytes.items (ends_of portals.items) e.why) }
-        ensures back { IfErr result (λ e. (e.bytes.items ≡ bytes.items) × (e.portals.items ≡ portals.items)) }
+            (λ e. IsRefusedPut Profile.Printed F.table portal.now.node portal.now.end bytes (ends_of portals.items) e.why) }
+        ensures back { IfErr result (λ e. (e.bytes ≡ bytes) × (e.portals.items ≡ portals.items)) }
         ensures extends { MatchResult result
-            (λ n. Extends F.table portal.now.node (calls.Put Profile.Printed portal.now.end bytes.items (ends_of portals.items) (Ok n)) self.old self.new)
-            (λ e. Extends F.table portal.now.node (calls.Put Profile.Printed portal.now.end bytes.items (ends_of portals.items) (Err e.why)) self.old self.new) }
+            (λ n. Extends F.table portal.now.node (calls.Put Profile.Printed portal.now.end bytes (ends_of portals.items) (Ok n)) self.old self.new)
+            (λ e. Extends F.table portal.now.node (calls.Put Profile.Printed portal.now.end bytes (ends_of portals.items) (Err e.why)) self.old self.new) }
     {
         self.put_as(rt, hub, portal, Profile::Printed, bytes, portals)
     }
@@ -282,13 +282,13 @@ impl<F: FabricName> Caller<F> {
         hub: &Hub<F>,
         portal: &Portal<F>,
     ) -> Result<Got<F>, Refusal>
-        ensures got { IfOk result (λ g. IsGot F.table portal.now.node portal.now.end g.n g.bytes.items g.portals.items) }
+        ensures got { IfOk result (λ g. IsGot F.table portal.now.node portal.now.end g.n g.bytes g.portals.items) }
         ensures here { IfOk result (λ g. All (λ p. p.node ≡ portal.now.node) g.portals.items) }
         ensures few { IfOk result (λ g. vec_len g.portals ≤ 8) }
         ensures why { IfErr result IsGetRefusal }
         ensures refused { IfErr result (IsRefusedGet F.table portal.now.node portal.now.end) }
         ensures extends { MatchResult result
-            (λ g. GetsParcel F.table portal.now.node portal.now.node portal.now.end g.n g.bytes.items g.portals.items self.old self.new)
+            (λ g. GetsParcel F.table portal.now.node portal.now.node portal.now.end g.n g.bytes g.portals.items self.old self.new)
             (λ why. Extends F.table portal.now.node (calls.Got portal.now.end (Err why)) self.old self.new) }
     {
         portal.get_here(&mut hub.lock(rt, portal.place()), hub, &mut self.seat)
@@ -369,13 +369,13 @@ impl<F: FabricName> Caller<F> {
         portal: &Portal<F>,
         limit: Duration,
     ) -> Result<Arrival<F>, Refusal>
-        ensures got { IfOk result (λ a. IsGot F.table portal.now.node portal.now.end a.n a.bytes.items a.portals) }
+        ensures got { IfOk result (λ a. IsGot F.table portal.now.node portal.now.end a.n a.bytes a.portals) }
         ensures here { IfOk result (λ a. All (λ p. p.node ≡ portal.now.node) a.portals) }
         ensures few { IfOk result (λ a. length a.portals ≤ 8) }
         ensures why { IfErr result IsTakeRefusal }
         ensures refused { IfErr result (IsRefusedTake F.table portal.now.node portal.now.end) }
         ensures extends { MatchResult result
-            (λ a. WaitsForParcel F.table portal.now a.n a.bytes.items a.portals self.old self.new)
+            (λ a. WaitsForParcel F.table portal.now a.n a.bytes a.portals self.old self.new)
             (λ why. (vain : ℕ) × ExtendsInTurn F.table (tries vain portal.now (Err why)) self.old self.new) }
     {
         let node = portal.place();

@@ -18,7 +18,7 @@ ghost use Rattle.ipcz_fabric.specs.Replays.{Extends, IsNotedCell, Leaves, Leaves
 
 use crate::hub::Hub;
 use crate::portal::{Portal, PortalPutRefused};
-use ipcz_base::{End, Parcel, Profile, Refusal, Sizes};
+use ipcz_base::{Bytes, End, Parcel, Profile, Refusal, Sizes};
 use ipcz_cell::{CallName, CallerSeat, Fabric, FabricName, NodeCell, Retry};
 use ipcz_node::Happened;
 use std::marker::{Brand, Model};
@@ -95,20 +95,20 @@ fn put_noted<F: FabricName, P: PutName>(
     me: &mut CallerSeat<F>,
     portal: &Portal<F>,
     profile: Profile,
-    bytes: Vec<u8>,
+    bytes: Bytes,
     portals: Vec<Portal<F>>,
 ) -> Result<u64, PortalPutRefused<F>>
-    ensures allowed { OnOk result (put_refusal profile cell.old.part.state portal.now.end bytes.items (ends_of portals.items) ≡ None) }
+    ensures allowed { OnOk result (put_refusal profile cell.old.part.state portal.now.end bytes (ends_of portals.items) ≡ None) }
     ensures number { IfOk result (λ n. n ≡ put_number cell.old.part.state portal.now.end) }
     ensures why { IfErr result
         (λ e. IsRefusedInOrder (wants_list (ends_of portals.items))
-        (put_refusal profile cell.old.part.state portal.now.end bytes.items (ends_of portals.items)) e.why) }
-    ensures back { IfErr result (λ e. (e.bytes.items ≡ bytes.items) × (e.portals.items ≡ portals.items)) }
+        (put_refusal profile cell.old.part.state portal.now.end bytes (ends_of portals.items)) e.why) }
+    ensures back { IfErr result (λ e. (e.bytes ≡ bytes) × (e.portals.items ≡ portals.items)) }
     ensures left { MatchResult result
-        (λ n. LeavesPart me.old.id (P.puts (Ok n)) (put_part portal.now.end bytes.items (ends_of portals.items) cell.old.part) cell.old cell.new)
+        (λ n. LeavesPart me.old.id (P.puts (Ok n)) (put_part portal.now.end bytes (ends_of portals.items) cell.old.part) cell.old cell.new)
         (λ e. LeavesPart me.old.id (P.puts (Err e.why)) cell.old.part cell.old cell.new) }
     ensures noted { (told : Result ℕ Refusal) × MatchResult result (λ n. told ≡ Ok n) (λ e. told ≡ Err e.why) × (done : CellState) ×
-        PutsAt profile portal.now.end bytes.items (ends_of portals.items) told cell.old.part done.part ×
+        PutsAt profile portal.now.end bytes (ends_of portals.items) told cell.old.part done.part ×
         IsNotedCell (entry_of done.part.node me.old.id (P.puts told)) done cell.new ×
         IsWritten (entry_of done.part.node me.old.id (P.puts told)) cell.new.part.history me.old me.new }
 {
@@ -217,22 +217,22 @@ impl<F: FabricName> Desk<F> {
         me: &mut CallerSeat<F>,
         portal: &Portal<F>,
         profile: Profile,
-        bytes: Vec<u8>,
+        bytes: Bytes,
         portals: Vec<Portal<F>>,
     ) -> Result<u64, PortalPutRefused<F>>
-        ensures allowed { OnOk result (put_refusal profile self.old.part.state portal.now.end bytes.items (ends_of portals.items) ≡ None) }
+        ensures allowed { OnOk result (put_refusal profile self.old.part.state portal.now.end bytes (ends_of portals.items) ≡ None) }
         ensures number { IfOk result (λ n. n ≡ put_number self.old.part.state portal.now.end) }
         ensures why { IfErr result
             (λ e. IsRefusedInOrder (wants_list (ends_of portals.items))
-            (put_refusal profile self.old.part.state portal.now.end bytes.items (ends_of portals.items)) e.why) }
-        ensures back { IfErr result (λ e. (e.bytes.items ≡ bytes.items) × (e.portals.items ≡ portals.items)) }
+            (put_refusal profile self.old.part.state portal.now.end bytes (ends_of portals.items)) e.why) }
+        ensures back { IfErr result (λ e. (e.bytes ≡ bytes) × (e.portals.items ≡ portals.items)) }
         ensures left { MatchResult result
-            (λ n. LeavesPart me.old.id (calls.Put profile portal.now.end bytes.items (ends_of portals.items) (Ok n))
-            (put_part portal.now.end bytes.items (ends_of portals.items) self.old.part) self.old self.new)
-            (λ e. LeavesPart me.old.id (calls.Put profile portal.now.end bytes.items (ends_of portals.items) (Err e.why)) self.old.part self.old self.new) }
+            (λ n. LeavesPart me.old.id (calls.Put profile portal.now.end bytes (ends_of portals.items) (Ok n))
+            (put_part portal.now.end bytes (ends_of portals.items) self.old.part) self.old self.new)
+            (λ e. LeavesPart me.old.id (calls.Put profile portal.now.end bytes (ends_of portals.items) (Err e.why)) self.old.part self.old self.new) }
         ensures extends { MatchResult result
-            (λ n. Extends F.table self.old.part.node (calls.Put profile portal.now.end bytes.items (ends_of portals.items) (Ok n)) me.old me.new)
-            (λ e. Extends F.table self.old.part.node (calls.Put profile portal.now.end bytes.items (ends_of portals.items) (Err e.why)) me.old me.new) }
+            (λ n. Extends F.table self.old.part.node (calls.Put profile portal.now.end bytes (ends_of portals.items) (Ok n)) me.old me.new)
+            (λ e. Extends F.table self.old.part.node (calls.Put profile portal.now.end bytes (ends_of portals.items) (Err e.why)) me.old me.new) }
     {
         put_noted::<F, Brand>(&mut self.cell, hub, me, portal, profile, bytes, portals)
     }

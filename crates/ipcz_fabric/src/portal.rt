@@ -52,7 +52,7 @@ impl<F: FabricName> Model for Portal<F> {
 #[derive(Drop)]
 pub struct Got<F: FabricName> {
     pub n: u64,
-    pub bytes: Vec<u8>,
+    pub bytes: Bytes,
     pub portals: Vec<Portal<F>>,
 }
 
@@ -60,7 +60,7 @@ pub struct Got<F: FabricName> {
 #[derive(Drop)]
 pub struct PortalPutRefused<F: FabricName> {
     pub why: Refusal,
-    pub bytes: Vec<u8>,
+    pub bytes: Bytes,
     pub portals: Vec<Portal<F>>,
 }
 
@@ -102,7 +102,7 @@ fn with_portals<F: FabricName>(node: u8, n: u64, parcel: Parcel, room: Vec<Porta
     requires room { length parcel.ends ≤ vec_capacity room }
     requires empty { vec_len room ≡ 0 }
     ensures number { result.n ≡ n }
-    ensures bytes { result.bytes.items ≡ parcel.bytes }
+    ensures bytes { result.bytes ≡ parcel.bytes }
     ensures portals { result.portals.items ≡ portals_at node (take 8 parcel.ends) }
 {
     let mut portals = room;
@@ -116,7 +116,7 @@ fn with_portals<F: FabricName>(node: u8, n: u64, parcel: Parcel, room: Vec<Porta
     add_portals(node, ends, most, &mut portals);
     Got {
         n,
-        bytes: parcel.bytes.into_vec(),
+        bytes: parcel.bytes,
         portals,
     }
 }
@@ -158,16 +158,16 @@ impl<F: FabricName> Portal<F> {
         cell: &mut NodeCell<F>,
         hub: &Hub<F>,
         profile: Profile,
-        bytes: Vec<u8>,
+        bytes: Bytes,
         portals: Vec<Portal<F>>,
     ) -> Result<u64, PortalPutRefused<F>>
-        ensures allowed { OnOk result (put_refusal profile cell.old.part.state self.now.end bytes.items (ends_of portals.items) ≡ None) }
+        ensures allowed { OnOk result (put_refusal profile cell.old.part.state self.now.end bytes (ends_of portals.items) ≡ None) }
         ensures number { IfOk result (λ n. n ≡ put_number cell.old.part.state self.now.end) }
-        ensures ok { OnOk result (cell.new.part ≡ put_part self.now.end bytes.items (ends_of portals.items) cell.old.part) }
+        ensures ok { OnOk result (cell.new.part ≡ put_part self.now.end bytes (ends_of portals.items) cell.old.part) }
         ensures why { IfErr result
             (λ e. IsRefusedInOrder (wants_list (ends_of portals.items))
-            (put_refusal profile cell.old.part.state self.now.end bytes.items (ends_of portals.items)) e.why) }
-        ensures back { IfErr result (λ e. (e.bytes.items ≡ bytes.items) × (e.portals.items ≡ portals.items)) }
+            (put_refusal profile cell.old.part.state self.now.end bytes (ends_of portals.items)) e.why) }
+        ensures back { IfErr result (λ e. (e.bytes ≡ bytes) × (e.portals.items ≡ portals.items)) }
         ensures err { OnErr result (cell.new.part ≡ cell.old.part) }
         ensures seen { cell.new.seen ≡ cell.old.seen }
     {
@@ -179,12 +179,12 @@ impl<F: FabricName> Portal<F> {
             });
         };
         let end = self.end;
-        let put = cell.put_as(hub.fabric(), profile, end, Bytes::from_vec(bytes), ends);
+        let put = cell.put_as(hub.fabric(), profile, end, bytes, ends);
         match put {
             Ok(n) => Ok(n),
             Err(refused) => Err(PortalPutRefused {
                 why: refused.why,
-                bytes: refused.bytes.into_vec(),
+                bytes: refused.bytes,
                 portals,
             }),
         }
@@ -206,13 +206,13 @@ impl<F: FabricName> Portal<F> {
         hub: &Hub<F>,
         me: &mut CallerSeat<F>,
     ) -> Result<Got<F>, Refusal>
-        ensures got { IfOk result (λ g. IsGotHere desk.old self.now.node self.now.end g.n g.bytes.items g.portals.items) }
+        ensures got { IfOk result (λ g. IsGotHere desk.old self.now.node self.now.end g.n g.bytes g.portals.items) }
         ensures why { IfErr result (IsRefusedGetHere desk.old self.now.end) }
         ensures left { MatchResult result
-            (λ g. LeavesParcel self.now.node self.now.end g.n g.bytes.items g.portals.items me.old.id desk.old desk.new)
+            (λ g. LeavesParcel self.now.node self.now.end g.n g.bytes g.portals.items me.old.id desk.old desk.new)
             (λ why. LeavesPart me.old.id (calls.Got self.now.end (Err why)) desk.old.part desk.old desk.new) }
         ensures extends { MatchResult result
-            (λ g. GetsParcel F.table desk.old.part.node self.now.node self.now.end g.n g.bytes.items g.portals.items me.old me.new)
+            (λ g. GetsParcel F.table desk.old.part.node self.now.node self.now.end g.n g.bytes g.portals.items me.old me.new)
             (λ why. Extends F.table desk.old.part.node (calls.Got self.now.end (Err why)) me.old me.new) }
     {
         let count = match desk.next_sizes(self.end) {
@@ -261,15 +261,15 @@ impl<F: FabricName> Portal<F> {
         &self,
         rt: &R,
         hub: &Hub<F>,
-        bytes: Vec<u8>,
+        bytes: Bytes,
         portals: Vec<Portal<F>>,
     ) -> Result<u64, PortalPutRefused<F>>
-        ensures number { IfOk result (IsPut Profile.Wide F.table self.now.node self.now.end bytes.items (ends_of portals.items)) }
-        ensures fits { OnOk result (parcel_refusal Profile.Wide self.now.end bytes.items (ends_of portals.items) ≡ None) }
-        ensures why { IfErr result (λ e. IsPutRefusal Profile.Wide self.now.end bytes.items (ends_of portals.items) e.why) }
+        ensures number { IfOk result (IsPut Profile.Wide F.table self.now.node self.now.end bytes (ends_of portals.items)) }
+        ensures fits { OnOk result (parcel_refusal Profile.Wide self.now.end bytes (ends_of portals.items) ≡ None) }
+        ensures why { IfErr result (λ e. IsPutRefusal Profile.Wide self.now.end bytes (ends_of portals.items) e.why) }
         ensures refused { IfErr result
-            (λ e. IsRefusedPut Profile.Wide F.table self.now.node self.now.end bytes.items (ends_of portals.items) e.why) }
-        ensures back { IfErr result (λ e. (e.bytes.items ≡ bytes.items) × (e.portals.items ≡ portals.items)) }
+            (λ e. IsRefusedPut Profile.Wide F.table self.now.node self.now.end bytes (ends_of portals.items) e.why) }
+        ensures back { IfErr result (λ e. (e.bytes ≡ bytes) × (e.portals.items ≡ portals.items)) }
     {
         self.put_as(rt, hub, Profile::Wide, bytes, portals)
     }
@@ -284,15 +284,15 @@ impl<F: FabricName> Portal<F> {
         &self,
         rt: &R,
         hub: &Hub<F>,
-        bytes: Vec<u8>,
+        bytes: Bytes,
         portals: Vec<Portal<F>>,
     ) -> Result<u64, PortalPutRefused<F>>
-        ensures number { IfOk result (IsPut Profile.Printed F.table self.now.node self.now.end bytes.items (ends_of portals.items)) }
-        ensures fits { OnOk result (parcel_refusal Profile.Printed self.now.end bytes.items (ends_of portals.items) ≡ None) }
-        ensures why { IfErr result (λ e. IsPutRefusal Profile.Printed self.now.end bytes.items (ends_of portals.items) e.why) }
+        ensures number { IfOk result (IsPut Profile.Printed F.table self.now.node self.now.end bytes (ends_of portals.items)) }
+        ensures fits { OnOk result (parcel_refusal Profile.Printed self.now.end bytes (ends_of portals.items) ≡ None) }
+        ensures why { IfErr result (λ e. IsPutRefusal Profile.Printed self.now.end bytes (ends_of portals.items) e.why) }
         ensures refused { IfErr result
-            (λ e. IsRefusedPut Profile.Printed F.table self.now.node self.now.end bytes.items (ends_of portals.items) e.why) }
-        ensures back { IfErr result (λ e. (e.bytes.items ≡ bytes.items) × (e.portals.items ≡ portals.items)) }
+            (λ e. IsRefusedPut Profile.Printed F.table self.now.node self.now.end bytes (ends_of portals.items) e.why) }
+        ensures back { IfErr result (λ e. (e.bytes ≡ bytes) × (e.portals.items ≡ portals.items)) }
     {
         self.put_as(rt, hub, Profile::Printed, bytes, portals)
     }
@@ -314,15 +314,15 @@ impl<F: FabricName> Portal<F> {
         rt: &R,
         hub: &Hub<F>,
         profile: Profile,
-        bytes: Vec<u8>,
+        bytes: Bytes,
         portals: Vec<Portal<F>>,
     ) -> Result<u64, PortalPutRefused<F>>
-        ensures number { IfOk result (IsPut profile F.table self.now.node self.now.end bytes.items (ends_of portals.items)) }
-        ensures fits { OnOk result (parcel_refusal profile self.now.end bytes.items (ends_of portals.items) ≡ None) }
-        ensures why { IfErr result (λ e. IsPutRefusal profile self.now.end bytes.items (ends_of portals.items) e.why) }
+        ensures number { IfOk result (IsPut profile F.table self.now.node self.now.end bytes (ends_of portals.items)) }
+        ensures fits { OnOk result (parcel_refusal profile self.now.end bytes (ends_of portals.items) ≡ None) }
+        ensures why { IfErr result (λ e. IsPutRefusal profile self.now.end bytes (ends_of portals.items) e.why) }
         ensures refused { IfErr result
-            (λ e. IsRefusedPut profile F.table self.now.node self.now.end bytes.items (ends_of portals.items) e.why) }
-        ensures back { IfErr result (λ e. (e.bytes.items ≡ bytes.items) × (e.portals.items ≡ portals.items)) }
+            (λ e. IsRefusedPut profile F.table self.now.node self.now.end bytes (ends_of portals.items) e.why) }
+        ensures back { IfErr result (λ e. (e.bytes ≡ bytes) × (e.portals.items ≡ portals.items)) }
     {
         hub.caller().put_as(rt, hub, self, profile, bytes, portals)
     }
@@ -336,7 +336,7 @@ impl<F: FabricName> Portal<F> {
     ///
     /// Where the first parcel has come, `portal.get(rt, hub)` is `Ok(got)`, and `got.n` is 0.
     pub fn get<R: Wait>(&self, rt: &R, hub: &Hub<F>) -> Result<Got<F>, Refusal>
-        ensures got { IfOk result (λ g. IsGot F.table self.now.node self.now.end g.n g.bytes.items g.portals.items) }
+        ensures got { IfOk result (λ g. IsGot F.table self.now.node self.now.end g.n g.bytes g.portals.items) }
         ensures here { IfOk result (λ g. All (λ p. p.node ≡ self.now.node) g.portals.items) }
         ensures few { IfOk result (λ g. vec_len g.portals ≤ 8) }
         ensures why { IfErr result IsGetRefusal }
@@ -359,7 +359,7 @@ impl<F: FabricName> Portal<F> {
         hub: &Hub<F>,
         limit: Duration,
     ) -> Result<Arrival<F>, Refusal>
-        ensures got { IfOk result (λ a. IsGot F.table self.now.node self.now.end a.n a.bytes.items a.portals) }
+        ensures got { IfOk result (λ a. IsGot F.table self.now.node self.now.end a.n a.bytes a.portals) }
         ensures here { IfOk result (λ a. All (λ p. p.node ≡ self.now.node) a.portals) }
         ensures few { IfOk result (λ a. length a.portals ≤ 8) }
         ensures why { IfErr result IsTakeRefusal }

@@ -3,7 +3,7 @@ ghost use Rattle.std.specs.Prelude.{◌≡◌, ◌<◌, ◌++◌, ◌∷◌, [],
 ghost use Rattle.ipcz_fabric.specs.Portals.{portals_at};
 
 use crate::portal::{MOST_PORTALS, Portal, add_portals};
-use ipcz_base::{End, Parcel};
+use ipcz_base::{Bytes, End, Parcel};
 use ipcz_cell::FabricName;
 use std::alloc::Global;
 use std::marker::{Model, PhantomData};
@@ -36,7 +36,7 @@ impl<F: FabricName> Model for Portals<F> {
 #[derive(Drop)]
 pub struct Arrival<F: FabricName> {
     pub n: u64,
-    pub bytes: Vec<u8>,
+    pub bytes: Bytes,
     pub portals: Portals<F>,
 }
 
@@ -44,14 +44,14 @@ pub struct Arrival<F: FabricName> {
 pub(crate) fn arrival_of<F: FabricName>(node: u8, n: u64, parcel: Parcel) -> Arrival<F>
     requires { node < F.table.count }
     ensures number { result.n ≡ n }
-    ensures bytes { result.bytes.items ≡ parcel.bytes }
+    ensures bytes { result.bytes ≡ parcel.bytes }
     ensures portals { result.portals ≡ portals_at node (take 8 parcel.ends) }
 {
     let mut ends = parcel.ends.into_vec();
     ends.truncate(MOST_PORTALS);
     Arrival {
         n,
-        bytes: parcel.bytes.into_vec(),
+        bytes: parcel.bytes,
         portals: Portals {
             node,
             ends,

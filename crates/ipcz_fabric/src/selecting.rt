@@ -37,10 +37,10 @@ impl<F: FabricName> Caller<F> {
         portals: &[Portal<F>],
     ) -> Result<(usize, Arrival<F>), NoneGot>
         ensures got { IfOk result
-            (λ a. IsFirst F.table portals.now a.0 (λ p. IsGot F.table p.node p.end a.1.n a.1.bytes.items a.1.portals)) }
+            (λ a. IsFirst F.table portals.now a.0 (λ p. IsGot F.table p.node p.end a.1.n a.1.bytes a.1.portals)) }
         ensures refused { IfErr result (λ e. IsNoneGot F.table portals.now e.place e.why) }
         ensures extends { MatchResult result
-            (λ a. LooksOnce F.table portals.now a.0 (GivesParcel a.1.n a.1.bytes.items a.1.portals) self.old self.new)
+            (λ a. LooksOnce F.table portals.now a.0 (GivesParcel a.1.n a.1.bytes a.1.portals) self.old self.new)
             (λ e. LooksOnceInVain F.table portals.now e.place e.why self.old self.new) }
     {
         for (place, portal) in portals.iter().enumerate() {
@@ -72,11 +72,11 @@ impl<F: FabricName> Caller<F> {
         patience: &P,
     ) -> Result<(usize, Arrival<F>), NoneGot>
         ensures got { IfOk result
-            (λ a. IsFirst F.table portals.now a.0 (λ p. IsGot F.table p.node p.end a.1.n a.1.bytes.items a.1.portals)) }
+            (λ a. IsFirst F.table portals.now a.0 (λ p. IsGot F.table p.node p.end a.1.n a.1.bytes a.1.portals)) }
         ensures refused { IfErr result (λ e. IsNoneGot F.table portals.now e.place e.why) }
         ensures over { IfErr result (λ e. e.place ≡ None → P.over) }
         ensures extends { MatchResult result
-            (λ a. LooksUntil F.table portals.now a.0 (GivesParcel a.1.n a.1.bytes.items a.1.portals) self.old self.new)
+            (λ a. LooksUntil F.table portals.now a.0 (GivesParcel a.1.n a.1.bytes a.1.portals) self.old self.new)
             (λ e. LooksInVain F.table portals.now e.place e.why self.old self.new) }
     {
         let news = hub.fabric().news();
@@ -106,10 +106,10 @@ impl<F: FabricName> Caller<F> {
         limit: Duration,
     ) -> Result<(usize, Arrival<F>), NoneGot>
         ensures got { IfOk result
-            (λ a. IsFirst F.table portals.now a.0 (λ p. IsGot F.table p.node p.end a.1.n a.1.bytes.items a.1.portals)) }
+            (λ a. IsFirst F.table portals.now a.0 (λ p. IsGot F.table p.node p.end a.1.n a.1.bytes a.1.portals)) }
         ensures refused { IfErr result (λ e. IsNoneGot F.table portals.now e.place e.why) }
         ensures extends { MatchResult result
-            (λ a. LooksUntil F.table portals.now a.0 (GivesParcel a.1.n a.1.bytes.items a.1.portals) self.old self.new)
+            (λ a. LooksUntil F.table portals.now a.0 (GivesParcel a.1.n a.1.bytes a.1.portals) self.old self.new)
             (λ e. LooksInVain F.table portals.now e.place e.why self.old self.new) }
     {
         let first = self.take_first(rt, hub, portals);
@@ -140,7 +140,7 @@ impl<F: FabricName> Hub<F> {
         limit: Duration,
     ) -> Result<(usize, Arrival<F>), NoneGot>
         ensures got { IfOk result
-            (λ a. IsFirst F.table portals.now a.0 (λ p. IsGot F.table p.node p.end a.1.n a.1.bytes.items a.1.portals)) }
+            (λ a. IsFirst F.table portals.now a.0 (λ p. IsGot F.table p.node p.end a.1.n a.1.bytes a.1.portals)) }
         ensures refused { IfErr result (λ e. IsNoneGot F.table portals.now e.place e.why) }
     {
         self.caller().get_any(rt, self, portals, limit)

@@ -1,7 +1,7 @@
 //! Tables and parcels: what the tests of cells begin and end with, and what they put.
 ghost use Rattle.std.specs.Prelude.{◌≡◌};
 
-use ipcz_base::{End, Ends, Sequence};
+use ipcz_base::{Bytes, End, Ends};
 use ipcz_cell::{Blank, Fabric, FabricName, NodeCell, finish};
 use ipcz_world::World;
 use std::alloc::{AllocError, Global};
@@ -38,10 +38,10 @@ pub(crate) fn routers_of<F: FabricName>(table: Table<F>) -> Option<[Option<usize
 }
 
 // A parcel of these bytes and ends, as two lists.
-fn lists(alloc: Global, data: &[u8], ends: &[End]) -> Result<(Sequence<u8>, Ends), AllocError> {
-    let bytes = Vec::from_slice(alloc, data)?;
+fn lists(alloc: Global, data: &[u8], ends: &[End]) -> Result<(Bytes, Ends), AllocError> {
+    let bytes = Bytes::from_slice(alloc, data)?;
     let list = Vec::from_slice(alloc, ends)?;
-    Ok((Sequence::from_vec(bytes), Sequence::from_vec(list)))
+    Ok((bytes, Ends::from_vec(list)))
 }
 
 /// Puts these bytes and ends at an end; the parcel's number, if it isn't refused.

@@ -1,6 +1,7 @@
 //! Hubs and worlds of a table: what the tests of hubs and portals begin and end with.
 ghost use Rattle.std.specs.Prelude.{◌≡◌};
 
+use ipcz_base::Bytes;
 use ipcz_fabric::{Blank, FabricName, Hub, Portal, finish};
 use ipcz_world::World;
 use std::alloc::Global;
@@ -28,7 +29,7 @@ pub(crate) fn sends<F: FabricName, R: Wait>(
     if portals.push(moved).is_err() {
         return false;
     }
-    at.put(rt, hub, Vec::new(alloc), portals).is_ok()
+    at.put(rt, hub, Bytes::new(), portals).is_ok()
 }
 
 /// The world that the cells of a hub show.

@@ -2,7 +2,7 @@
 ghost use Rattle.std.specs.Prelude.{◌≡◌};
 
 use crate::hub_tables::{both, hub_of};
-use ipcz_base::Refusal;
+use ipcz_base::{Bytes, Refusal};
 use ipcz_fabric::{Blank, FabricName, Gate, Hub, Portal, start, work_waiting};
 use std::alloc::Global;
 use std::marker::Brand;
@@ -75,9 +75,7 @@ fn portal_puts<F: FabricName, R: Wait>(
     alloc: Global,
     portal: &Portal<F>,
 ) -> bool {
-    portal
-        .put(rt, hub, Vec::new(alloc), Vec::new(alloc))
-        .is_ok()
+    portal.put(rt, hub, Bytes::new(), Vec::new(alloc)).is_ok()
 }
 
 fn portal_gets<F: FabricName, R: Wait + Clock>(rt: &R, hub: &Hub<F>, portal: &Portal<F>) -> bool {

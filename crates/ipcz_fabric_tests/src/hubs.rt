@@ -2,7 +2,7 @@
 ghost use Rattle.std.specs.Prelude.{◌≡◌};
 
 use crate::hub_tables::{both, hub_of, routers_of, sends, world_of};
-use ipcz_base::{End, Side};
+use ipcz_base::{Bytes, End, Side};
 use ipcz_fabric::{Blank, FabricName, Gate, Got, Hub, Portal, start, work};
 use ipcz_world::{Reply, Step, World};
 use std::alloc::Global;
@@ -199,9 +199,9 @@ impl<'a> Gate for Until<'a> {
 }
 
 // A number, as text.
-fn text_of(alloc: Global, n: u64) -> Option<Vec<u8>> {
+fn text_of(alloc: Global, n: u64) -> Option<Bytes> {
     let text = format!(in alloc; "{n}").ok()?;
-    Vec::from_slice(alloc, text.as_bytes()).ok()
+    Bytes::from_slice(alloc, text.as_bytes()).ok()
 }
 
 // Puts a number, as text.
@@ -540,7 +540,7 @@ fn puts_last<F: FabricName, R: Wait>(
     alloc: Global,
     a0: Portal<F>,
 ) -> Option<bool> {
-    let last = Vec::from_slice(alloc, b"last").ok()?;
+    let last = Bytes::from_slice(alloc, b"last").ok()?;
     let put = a0.put(rt, hub, last, Vec::new(alloc));
     let is_put = matches!(put, Ok(1000));
     Some(is_put && matches!(a0.close(rt, hub), Ok(1001)))

@@ -2,7 +2,7 @@
 ghost use Rattle.std.specs.Prelude.{◌≡◌};
 
 use crate::hub_tables::{hub_of, sends};
-use ipcz_base::{End, Refusal};
+use ipcz_base::{Bytes, End, Refusal};
 use ipcz_fabric::{Blank, FabricName, Gate, Hub, Portal, start, work};
 use std::alloc::Global;
 use std::marker::Brand;
@@ -49,7 +49,7 @@ fn why_not<F: FabricName, R: Wait>(
 ) -> Option<Refusal> {
     let mut portals = Vec::new(alloc);
     portals.push(moved).ok()?;
-    match at.put(rt, hub, Vec::new(alloc), portals) {
+    match at.put(rt, hub, Bytes::new(), portals) {
         Err(refused) if refused.portals.len() == 1 => Some(refused.why),
         _ => None,
     }
@@ -80,7 +80,7 @@ fn is_attached<F: FabricName, R: Wait>(rt: &R, hub: &Hub<F>, alloc: Global) -> O
 // other with the fourth turn.
 fn is_at_one<F: FabricName, R: Wait>(rt: &R, hub: &Hub<F>, alloc: Global) -> Option<bool> {
     let (a, b) = hub.open_pair(rt, 1).ok()?;
-    let put = a.put(rt, hub, Vec::new(alloc), Vec::new(alloc));
+    let put = a.put(rt, hub, Bytes::new(), Vec::new(alloc));
     act(rt, hub, 1, 3);
     let early = b.get(rt, hub).is_ok();
     act(rt, hub, 1, 1);
@@ -149,10 +149,10 @@ fn goes_wide<F: FabricName, R: Wait>(
     count: usize,
 ) -> Option<bool> {
     let bytes = vec![in alloc; 7u8; count].ok()?;
-    let put = at.put_wide(rt, hub, bytes, Vec::new(alloc));
+    let put = at.put_wide(rt, hub, Bytes::from_vec(bytes), Vec::new(alloc));
     hub.acts(rt, 0, 100).ok()?;
     let got = peer.get(rt, hub).ok()?;
-    let same = got.bytes.len() == count && got.bytes.iter().all(|byte| *byte == 7);
+    let same = got.bytes.len() == count && got.bytes.as_slice().iter().all(|byte| *byte == 7);
     Some(matches!(put, Ok(n) if n == got.n) && same)
 }
 
@@ -165,7 +165,7 @@ fn why_not_wide<F: FabricName, R: Wait>(
     count: usize,
 ) -> Option<Refusal> {
     let bytes = vec![in alloc; 7u8; count].ok()?;
-    match at.put_wide(rt, hub, bytes, Vec::new(alloc)) {
+    match at.put_wide(rt, hub, Bytes::from_vec(bytes), Vec::new(alloc)) {
         Ok(_) => None,
         Err(refused) => Some(refused.why),
     }

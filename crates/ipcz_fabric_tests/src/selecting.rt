@@ -2,7 +2,7 @@
 ghost use Rattle.std.specs.Prelude.{◌≡◌};
 
 use crate::hub_tables::{both, hub_of};
-use ipcz_base::Refusal;
+use ipcz_base::{Bytes, Refusal};
 use ipcz_fabric::{Blank, FabricName, Hub, Portal, start};
 use std::alloc::Global;
 use std::marker::Brand;
@@ -48,7 +48,7 @@ fn sends<F: FabricName, R: Wait>(
     at: &Portal<F>,
     node: u8,
 ) -> bool {
-    let put = at.put(rt, hub, Vec::new(alloc), Vec::new(alloc)).is_ok();
+    let put = at.put(rt, hub, Bytes::new(), Vec::new(alloc)).is_ok();
     put && hub.acts(rt, node, 100).is_ok()
 }
 

@@ -3,7 +3,7 @@ ghost use Rattle.std.specs.Prelude.{◌≡◌};
 
 use crate::hub_tables::{both, hub_of};
 use crate::selecting::list_of;
-use ipcz_base::{Profile, Refusal};
+use ipcz_base::{Bytes, Profile, Refusal};
 use ipcz_fabric::{Blank, Caller, FabricName, Gate, Hub, Portal, Retry, start};
 use ipcz_node::Happened;
 use std::alloc::Global;
@@ -35,9 +35,9 @@ enum Case {
 fn puts_in_order<F: FabricName, R: Wait>(rt: &R, hub: &Hub<F>, alloc: Global) -> Option<bool> {
     let mut caller = hub.caller();
     let (a, _b) = caller.open_pair(rt, hub, 0).ok()?;
-    let wide = caller.put_wide(rt, hub, &a, Vec::new(alloc), Vec::new(alloc));
-    let printed = caller.put(rt, hub, &a, Vec::new(alloc), Vec::new(alloc));
-    let of_profile = caller.put_as(rt, hub, &a, Profile::Wide, Vec::new(alloc), Vec::new(alloc));
+    let wide = caller.put_wide(rt, hub, &a, Bytes::new(), Vec::new(alloc));
+    let printed = caller.put(rt, hub, &a, Bytes::new(), Vec::new(alloc));
+    let of_profile = caller.put_as(rt, hub, &a, Profile::Wide, Bytes::new(), Vec::new(alloc));
     Some(matches!(wide, Ok(0)) && matches!(printed, Ok(1)) && matches!(of_profile, Ok(2)))
 }
 
@@ -46,9 +46,7 @@ fn gets_what_was_put<F: FabricName, R: Wait>(rt: &R, hub: &Hub<F>, alloc: Global
     let mut caller = hub.caller();
     let (a, b) = caller.open_pair(rt, hub, 0).ok()?;
     let early = matches!(caller.get(rt, hub, &b), Err(Refusal::Empty));
-    caller
-        .put(rt, hub, &a, Vec::new(alloc), Vec::new(alloc))
-        .ok()?;
+    caller.put(rt, hub, &a, Bytes::new(), Vec::new(alloc)).ok()?;
     let taken = caller.acts(rt, hub, 0, 100).ok()?;
     let idle = matches!(caller.turn(rt, hub, 0), Ok(Happened::Idle));
     let got = caller.get(rt, hub, &b).ok()?;
@@ -68,9 +66,7 @@ fn waits_for_it<F: FabricName, R: Wait + Clock>(
         caller.get_timeout(rt, hub, &b, Duration::ZERO),
         Err(Refusal::Empty)
     );
-    caller
-        .put(rt, hub, &a, Vec::new(alloc), Vec::new(alloc))
-        .ok()?;
+    caller.put(rt, hub, &a, Bytes::new(), Vec::new(alloc)).ok()?;
     caller.acts(rt, hub, 0, 100).ok()?;
     let got = caller.get_timeout(rt, hub, &b, Duration::ZERO).ok()?;
     Some(early && got.n == 0 && got.portals.is_empty())
@@ -83,9 +79,7 @@ fn selects_it<F: FabricName, R: Wait + Clock>(rt: &R, hub: &Hub<F>, alloc: Globa
     let (c, d) = caller.open_pair(rt, hub, 1).ok()?;
     let list = list_of(alloc, b, d)?;
     let early = caller.get_any(rt, hub, &list, Duration::ZERO);
-    caller
-        .put(rt, hub, &c, Vec::new(alloc), Vec::new(alloc))
-        .ok()?;
+    caller.put(rt, hub, &c, Bytes::new(), Vec::new(alloc)).ok()?;
     caller.acts(rt, hub, 1, 100).ok()?;
     let got = caller.get_any(rt, hub, &list, Duration::ZERO);
     let late = caller.get_any(rt, hub, &list, Duration::ZERO);
@@ -100,9 +94,7 @@ fn selects_it<F: FabricName, R: Wait + Clock>(rt: &R, hub: &Hub<F>, alloc: Globa
 fn closes_behind_one<F: FabricName, R: Wait>(rt: &R, hub: &Hub<F>, alloc: Global) -> Option<bool> {
     let mut caller = hub.caller();
     let (a, b) = caller.open_pair(rt, hub, 0).ok()?;
-    caller
-        .put(rt, hub, &a, Vec::new(alloc), Vec::new(alloc))
-        .ok()?;
+    caller.put(rt, hub, &a, Bytes::new(), Vec::new(alloc)).ok()?;
     let closed = caller.close(rt, hub, a);
     caller.acts(rt, hub, 0, 100).ok()?;
     let got = caller.get(rt, hub, &b).is_ok();
@@ -126,9 +118,7 @@ impl Gate for OpenFor {
 fn works_for_it<F: FabricName, R: Wait>(rt: &R, hub: &Hub<F>, alloc: Global) -> Option<bool> {
     let mut caller = hub.caller();
     let (a, b) = caller.open_pair(rt, hub, 0).ok()?;
-    caller
-        .put(rt, hub, &a, Vec::new(alloc), Vec::new(alloc))
-        .ok()?;
+    caller.put(rt, hub, &a, Bytes::new(), Vec::new(alloc)).ok()?;
     let mut gate = OpenFor { turns: 50 };
     let as_gated = caller.work(rt, hub, 0, &mut gate, 100);
     let as_limited = caller.work_waiting(rt, hub, 0, &mut gate, 3, Duration::ZERO);
@@ -177,7 +167,7 @@ fn talks<F: FabricName, R: Wait>(
     let mut caller = hub.caller();
     let mut good = true;
     for number in 0..PARCELS {
-        let put = caller.put(rt, hub, at, Vec::new(alloc), Vec::new(alloc));
+        let put = caller.put(rt, hub, at, Bytes::new(), Vec::new(alloc));
         good = good
             && matches!(put, Ok(n) if n == number)
             && gets_next(rt, hub, &mut caller, at, number);

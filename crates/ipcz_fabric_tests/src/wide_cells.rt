@@ -2,7 +2,7 @@
 ghost use Rattle.std.specs.Prelude.{◌≡◌};
 
 use crate::cell_tables::named;
-use ipcz_base::{End, Refusal, Sequence, Side};
+use ipcz_base::{Bytes, End, Refusal, Sequence, Side};
 use ipcz_cell::{Blank, Fabric, FabricName, NodeCell, start};
 use std::alloc::Global;
 use std::marker::Brand;
@@ -23,7 +23,7 @@ fn puts<F: FabricName>(
 ) -> Result<u64, Refusal> {
     let bytes = vec![in alloc; 7u8; count]?;
     let ends = Sequence::from_vec(Vec::new(alloc));
-    match cell.put_wide(fabric, LEFT, Sequence::from_vec(bytes), ends) {
+    match cell.put_wide(fabric, LEFT, Bytes::from_vec(bytes), ends) {
         Ok(number) => Ok(number),
         Err(refused) => Err(refused.why),
     }

@@ -1,14 +1,14 @@
 //! What is asked is made into the steps of a world, with lists of their own.
 use crate::moves::Ask;
-use ipcz_base::{Bytes, End, Ends, Sequence};
+use ipcz_base::{Bytes, End, Ends};
 use ipcz_world::Step;
 use std::alloc::{AllocError, Global};
 
 /// The lists of a put.
 pub fn lists(alloc: Global, data: &[u8], attached: &[End]) -> Result<(Bytes, Ends), AllocError> {
-    let bytes = Vec::from_slice(alloc, data)?;
+    let bytes = Bytes::from_slice(alloc, data)?;
     let ends = Vec::from_slice(alloc, attached)?;
-    Ok((Sequence::from_vec(bytes), Sequence::from_vec(ends)))
+    Ok((bytes, Ends::from_vec(ends)))
 }
 
 /// The step that is asked for.

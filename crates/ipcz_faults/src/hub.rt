@@ -65,7 +65,7 @@ fn put<F: FabricName, R: Wait>(
     rt: &R,
     hub: &Hub<F>,
     at: &Portal<F>,
-    bytes: Vec<u8>,
+    bytes: Bytes,
     portals: Vec<Portal<F>>,
     met: &mut Met,
 ) -> Result<(), Wrong> {
@@ -165,12 +165,12 @@ fn act<F: FabricName, R: Wait>(rt: &R, hub: &Hub<F>, met: &mut Met) -> Result<()
 }
 
 // A byte and a list with these portals, made a second time if no memory was found.
-fn byte(alloc: Global, met: &mut Met) -> Result<Vec<u8>, Wrong> {
-    match Vec::from_slice(alloc, b"m") {
+fn byte(alloc: Global, met: &mut Met) -> Result<Bytes, Wrong> {
+    match Bytes::from_slice(alloc, b"m") {
         Ok(bytes) => Ok(bytes),
         Err(AllocError) => {
             met.add_beside();
-            Vec::from_slice(alloc, b"m").map_err(|_| Wrong::RefusedAgain)
+            Bytes::from_slice(alloc, b"m").map_err(|_| Wrong::RefusedAgain)
         }
     }
 }

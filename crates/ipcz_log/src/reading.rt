@@ -85,7 +85,7 @@ fn put_in(alloc: Global, node: u8, value: &Value) -> Result<Option<Line>, AllocE
         return Ok(None);
     };
     let at = Text::copy_of(alloc, at)?;
-    let bytes = Bytes::from_vec(Vec::from_slice(alloc, text.as_bytes())?);
+    let bytes = Bytes::from_slice(alloc, text.as_bytes())?;
     match answer {
         Answer::Number(number) => Ok(Some(Line::Put {
             node,
@@ -123,7 +123,7 @@ fn got_in(
     Ok(Some(Line::Got {
         node,
         at: Text::copy_of(alloc, at)?,
-        bytes: Bytes::from_vec(Vec::from_slice(alloc, text.as_bytes())?),
+        bytes: Bytes::from_slice(alloc, text.as_bytes())?,
         portals,
         number,
     }))

@@ -1,5 +1,5 @@
-//! What refusals, ends and links are called, and sequences as lists.
-use ipcz_base::{End, LinkId, Refusal, Sequence, Side};
+//! What refusals, ends and links are called, and sequences and bytes as lists.
+use ipcz_base::{Bytes, End, LinkId, Refusal, Sequence, Side};
 use std::alloc::{AllocError, Global};
 use std::test::Fail;
 
@@ -77,5 +77,33 @@ fn is_given_back(bytes: Vec<u8>) -> bool {
 fn a_sequence_is_made_from_a_vec_and_given_back(rt: HostRuntime) -> Result<(), Fail> {
     assert!(rt; Sequence::from_vec(Vec::<u8>::new(rt.alloc())).is_empty());
     assert!(rt; is_given_back(Vec::from_slice(rt.alloc(), b"hi")?));
+    Ok(())
+}
+
+// Whether a copy of bytes has them, and gives them back.
+fn are_kept(alloc: Global, data: &[u8]) -> Result<bool, AllocError> {
+    let bytes = Bytes::from_slice(alloc, data)?;
+    let has_them = bytes.as_slice() == data && bytes.len() == data.len();
+    let is_empty = bytes.is_empty() == data.is_empty();
+    let Ok(list) = bytes.into_vec(alloc) else {
+        return Ok(false);
+    };
+    Ok(has_them && is_empty && Bytes::from_vec(list).as_slice() == data)
+}
+
+#[test]
+fn bytes_are_kept_in_the_value_and_beside_it(rt: HostRuntime) -> Result<(), Fail> {
+    let data = b"abcdefghijklmnopqr".as_slice();
+    for count in [0, 1, 15, 16, 17, 18] {
+        assert!(rt; are_kept(rt.alloc(), &data[..count])?);
+    }
+    assert!(rt; Bytes::new().is_empty());
+    Ok(())
+}
+
+#[test]
+fn bytes_print_as_numbers(rt: HostRuntime) -> Result<(), Fail> {
+    let bytes = Bytes::from_slice(rt.alloc(), b"hi")?;
+    assert_eq!(rt; format!(in rt.alloc(); "{bytes:?}")?.as_str(), "[104, 105]");
     Ok(())
 }

@@ -29,7 +29,7 @@ const FOURTH: End = End {
 };
 
 fn bytes(alloc: Global, data: &[u8]) -> Result<Bytes, AllocError> {
-    Ok(Sequence::from_vec(Vec::from_slice(alloc, data)?))
+    Bytes::from_slice(alloc, data)
 }
 
 fn ends(alloc: Global, portals: &[End]) -> Result<Ends, AllocError> {

@@ -1,5 +1,5 @@
 //! The recipes of docs/RECIPES.md, on one thread.
-use ipcz_base::{End, Refusal, Sequence, Side};
+use ipcz_base::{Bytes, End, Refusal, Sequence, Side};
 use ipcz_promise::{close, get, new_world, open, put, settle};
 use ipcz_world::{Reply, Settled, World};
 use std::alloc::Global;
@@ -38,16 +38,10 @@ fn send(
     text: &[u8],
     portals: &[End],
 ) -> Result<(), Refusal> {
-    let bytes = Vec::from_slice(alloc, text)?;
+    let bytes = Bytes::from_slice(alloc, text)?;
     let mut ends = Vec::new(alloc);
     ends.extend_from_slice(portals)?;
-    match put(
-        world,
-        node,
-        at,
-        Sequence::from_vec(bytes),
-        Sequence::from_vec(ends),
-    ) {
+    match put(world, node, at, bytes, Sequence::from_vec(ends)) {
         Ok(_number) => Ok(()),
         Err(refused) => Err(refused.why),
     }

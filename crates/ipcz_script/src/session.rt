@@ -110,7 +110,7 @@ impl Session {
         let Some(node) = self.world.holder_of(end) else {
             return Ok(Said::Away);
         };
-        let bytes = Bytes::from_vec(Vec::from_slice(self.alloc, text.as_bytes())?);
+        let bytes = Bytes::from_slice(self.alloc, text.as_bytes())?;
         let reply = self.step(Step::Put {
             node,
             at: end,

@@ -90,7 +90,7 @@ impl<'a, F: FabricName, G> Session<'a, F, G> {
         let Some(ends) = self.labels.ends_of(attached)? else {
             return Ok(Said::UnknownName);
         };
-        let bytes = Bytes::from_vec(Vec::from_slice(self.alloc, text.as_bytes())?);
+        let bytes = Bytes::from_slice(self.alloc, text.as_bytes())?;
         self.call(
             end,
             Call::Put {

@@ -18,7 +18,7 @@ mod two_nodes;
 
 use self::deeds::Deed;
 use self::letters::{Letter, listed};
-use ipcz_base::{End, LinkId, Message, Parcel, Profile, Refusal, Sequence, Side};
+use ipcz_base::{Bytes, End, LinkId, Message, Parcel, Profile, Refusal, Side};
 use ipcz_node::{Act, Happened, MailSeen, NodeState};
 use std::alloc::Global;
 use std::process::Abort;
@@ -234,7 +234,7 @@ impl Trial {
         let copies = listed(self.alloc, ends).ok()?;
         match self
             .node
-            .put_as(profile, at, Sequence::from_vec(bytes), copies)
+            .put_as(profile, at, Bytes::from_vec(bytes), copies)
         {
             Ok(number) => Some(Ok(number)),
             Err(refused) => {

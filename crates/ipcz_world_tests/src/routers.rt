@@ -10,7 +10,9 @@ mod sights;
 
 use self::deeds::{Deed, Given};
 use self::sights::Sight;
-use ipcz_base::{Descriptor, End, Item, LinkEnd, LinkId, Message, Parcel, Refusal, Sequence, Side};
+use ipcz_base::{
+    Bytes, Descriptor, End, Item, LinkEnd, LinkId, Message, Parcel, Refusal, Sequence, Side,
+};
 use ipcz_router::{Router, Sending};
 use std::alloc::{AllocError, Global};
 use std::process::Abort;
@@ -70,7 +72,7 @@ struct Trial {
 // A parcel of one byte and no ends.
 fn letter(alloc: Global, byte: u8) -> Result<Parcel, AllocError> {
     Ok(Parcel {
-        bytes: Sequence::from_vec(vec![in alloc; byte]?),
+        bytes: Bytes::from_slice(alloc, &[byte])?,
         ends: Sequence::from_vec(Vec::new(alloc)),
     })
 }

@@ -11,7 +11,7 @@ mod words;
 ghost use Rattle.ipcz_world.specs.Lawful.{IsWithinLimits};
 
 use self::calls::{Call, first_wrong};
-use ipcz_base::{End, Refusal, Sequence, Side, Sizes};
+use ipcz_base::{Bytes, End, Refusal, Sequence, Side, Sizes};
 use ipcz_world::{Reply, Step, World};
 use std::alloc::{AllocError, Global};
 use std::process::Abort;
@@ -71,14 +71,13 @@ fn put(
     data: &[u8],
     attached: &[End],
 ) -> Result<Step, AllocError> {
-    let mut bytes = Vec::new(alloc);
-    bytes.extend_from_slice(data)?;
+    let bytes = Bytes::from_slice(alloc, data)?;
     let mut ends = Vec::new(alloc);
     ends.extend_from_slice(attached)?;
     Ok(Step::Put {
         node,
         at,
-        bytes: Sequence::from_vec(bytes),
+        bytes,
         ends: Sequence::from_vec(ends),
     })
 }

@@ -73,7 +73,7 @@ impl State {
         requires node { n < self.old.count }
         ensures { PutGives self.old n (put_step profile self.old n at (record { bytes = bytes.now; ends = ends.now })) result self.new }
     {
-        let Ok(bytes) = copy_bytes(self.alloc, bytes) else {
+        let Ok(bytes) = Bytes::from_slice(self.alloc, bytes.as_slice()) else {
             return Reply::Refused(Refusal::OutOfMemory);
         };
         let Ok(ends) = copy_ends(self.alloc, ends) else {
@@ -165,15 +165,6 @@ impl State {
             Err(why) => Reply::Refused(why),
         }
     }
-}
-
-// A copy of bytes.
-fn copy_bytes(alloc: Global, bytes: &Bytes) -> Result<Bytes, AllocError>
-    ensures { IfOk result (λ copy. copy ≡ bytes.now) }
-{
-    let mut copy = Vec::new(alloc);
-    copy.extend_from_slice(bytes.as_slice())?;
-    Ok(Bytes::from_vec(copy))
 }
 
 // A copy of a list of ends.

@@ -1,6 +1,6 @@
 //! Messages that are written down before they are made.
 
-use ipcz_base::{Descriptor, End, Item, LinkId, Message, Parcel, Sequence, Side};
+use ipcz_base::{Bytes, Descriptor, End, Item, LinkId, Message, Parcel, Sequence, Side};
 use std::alloc::{AllocError, Global};
 
 /// A message; a parcel in it has the one byte of each put. The fields are in the order of the
@@ -30,7 +30,7 @@ pub(super) fn listed<T: Copy + Clone + Drop>(
 // A parcel of one byte with these ends.
 fn parcel(alloc: Global, ends: &[End]) -> Result<Item, AllocError> {
     Ok(Item::Parcel(Parcel {
-        bytes: listed(alloc, b"a")?,
+        bytes: Bytes::from_slice(alloc, b"a")?,
         ends: listed(alloc, ends)?,
     }))
 }

@@ -1,7 +1,7 @@
 //! Acts that are asked for by name: another order than that of turns, and acts that aren't possible.
 
 use super::{A0, B0};
-use ipcz_base::{Refusal, Sequence};
+use ipcz_base::{Bytes, Refusal, Sequence};
 use ipcz_node::Act;
 use ipcz_router::act::RouterAct;
 use ipcz_world::{NotTaken, Reply, World};
@@ -36,7 +36,7 @@ fn takes(world: &mut World, node: u8, act: Act) -> bool {
 
 // Whether a parcel is put at node 0.
 fn puts(alloc: Global, world: &mut World) -> Result<bool, AllocError> {
-    let bytes = Sequence::from_vec(Vec::from_slice(alloc, b"a")?);
+    let bytes = Bytes::from_slice(alloc, b"a")?;
     let ends = Sequence::from_vec(Vec::new(alloc));
     Ok(world.put(0, A0, bytes, ends).is_ok())
 }

@@ -3,7 +3,7 @@
 //! Nothing is promised of what stands here: a test's own proof would else work out the world at each call. So a test is a list of calls.
 
 use super::{get, is_got, is_put, is_refused, put};
-use ipcz_base::{End, Refusal, Sequence, Sizes};
+use ipcz_base::{Bytes, End, Refusal, Sequence, Sizes};
 use ipcz_world::{Reply, Settled, Step, World};
 use std::alloc::{AllocError, Global};
 
@@ -125,8 +125,8 @@ pub fn puts(
 }
 
 // A list of so many bytes of a value.
-fn bytes_of(alloc: Global, value: u8, count: usize) -> Result<Sequence<u8>, AllocError> {
-    Ok(Sequence::from_vec(vec![in alloc; value; count]?))
+fn bytes_of(alloc: Global, value: u8, count: usize) -> Result<Bytes, AllocError> {
+    Ok(Bytes::from_vec(vec![in alloc; value; count]?))
 }
 
 // Whether a put of a wide parcel has this number.

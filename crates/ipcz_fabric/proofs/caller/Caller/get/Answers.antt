@@ -38,8 +38,8 @@ returns-clause-extends g c =
     let at = c.args.portal.now.end in
     let is = lent t _ _ _ _ c.place.ensures.node c.deref_mut.ensures.value c.lock.ensures in
     subst
-    (λ (x : CallerView). MatchResult c.get_here.result (λ r. GetsParcel t here here at r.n r.bytes.items r.portals.items x c.get_here.new.me)
+    (λ (x : CallerView). MatchResult c.get_here.result (λ r. GetsParcel t here here at r.n r.bytes r.portals.items x c.get_here.new.me)
     (λ why. Extends t here (calls.Got at (Err why)) x c.get_here.new.me)) c.self.view_is
     (subst
-    (λ (n : ℕ). MatchResult c.get_here.result (λ r. GetsParcel t n here at r.n r.bytes.items r.portals.items c.self.inside.seat c.get_here.new.me)
+    (λ (n : ℕ). MatchResult c.get_here.result (λ r. GetsParcel t n here at r.n r.bytes r.portals.items c.self.inside.seat c.get_here.new.me)
     (λ why. Extends t n (calls.Got at (Err why)) c.self.inside.seat c.get_here.new.me)) is.node_is c.get_here.ensures.extends)

@@ -7,5 +7,5 @@ returns-clause-extends g c =
     let t = g.F.FabricName.table in
     let look = looked_in_vain (λ e. e.place) (λ e. e.why) t c.args.portals.now _ c.take_first-first.result c.are_empty.result c.args.self.now
     c.take_first-first.new.self c.are_empty.ensures c.if-not-are_empty.false c.take_first-first.ensures.extends in
-    looked_before (λ e. e.place) (λ e. e.why) (λ a. a.0) (λ a. GivesParcel a.1.n a.1.bytes.items a.1.portals) t c.args.portals.now c.args.self.now
+    looked_before (λ e. e.place) (λ e. e.why) (λ a. a.0) (λ a. GivesParcel a.1.n a.1.bytes a.1.portals) t c.args.portals.now c.args.self.now
     c.take_first-first.new.self c.take_any_patiently.new.self c.take_any_patiently.result look c.take_any_patiently.ensures.extends

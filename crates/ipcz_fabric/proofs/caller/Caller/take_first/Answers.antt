@@ -20,7 +20,7 @@ pub returns-in-Ok-clause-got : goal.returns-in-Ok-clause-got
 returns-in-Ok-clause-got g c =
     let t = g.F.FabricName.table in
     first_at t c.args.portals.now c.loop-place.place c.index-portals-place.result c.loop-place-test.true c.index-portals-place.is c.loop-place.invariant.0
-    (λ p. IsGot t p.node p.end c.arrival_of.result.n c.arrival_of.result.bytes.items c.arrival_of.result.portals)
+    (λ p. IsGot t p.node p.end c.arrival_of.result.n c.arrival_of.result.bytes c.arrival_of.result.portals)
     (got_by t _ _ _ _ _ _ _ _ c.in-Ok.ensures.taken c.arrival_of.ensures.number c.arrival_of.ensures.bytes c.arrival_of.ensures.portals c.node.ensures)
 
 pub returns-in-Ok-clause-extends : goal.returns-in-Ok-clause-extends
@@ -28,7 +28,7 @@ returns-in-Ok-clause-extends g c =
     let t = g.F.FabricName.table in
     looked_at t c.args.portals.now c.loop-place.place c.index-portals-place.result c.args.self.now c.loop-place.self c.take.new.self c.loop-place-test.true
     c.index-portals-place.is c.loop-place.invariant.1 (Ok (c.in-Ok.n, c.in-Ok.parcel)) c.in-Ok.ensures.extends
-    (GivesParcel c.arrival_of.result.n c.arrival_of.result.bytes.items c.arrival_of.result.portals) (
+    (GivesParcel c.arrival_of.result.n c.arrival_of.result.bytes c.arrival_of.result.portals) (
       c.in-Ok.parcel,
       ap (λ (k : ℕ). Ok (k, c.in-Ok.parcel)) (sym c.arrival_of.ensures.number),
       record {

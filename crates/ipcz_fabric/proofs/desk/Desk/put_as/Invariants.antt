@@ -3,4 +3,4 @@ use Rattle.ipcz_fabric.specs.Portals.{ends_of}
 use Rattle.ipcz_fabric.proofs.desk.Desk.put_as.Given as goal
 
 abbrev pub ghosts-put_noted : goal.ghosts-put_noted
-ghosts-put_noted g a = record { puts = calls.Put a.profile a.portal.now.end a.bytes.items (ends_of a.portals.items) }
+ghosts-put_noted g a = record { puts = calls.Put a.profile a.portal.now.end a.bytes (ends_of a.portals.items) }

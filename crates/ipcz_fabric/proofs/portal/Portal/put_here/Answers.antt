@@ -8,7 +8,7 @@ use Rattle.ipcz_fabric.proofs.portal.Portal.put_here.Goals as goal
 
 pub returns-in-Ok-put-clause-allowed : goal.returns-in-Ok-put-clause-allowed
 returns-in-Ok-put-clause-allowed g c =
-    sym (put_here _ _ _ _ _ _ _ _ (ap (λ (p : PortalValue). p.end) c.self.view_is) c.from_vec.ensures (c.in-Ok.ensures.ends ∙ ap ends_of c.as_slice.ensures.value))
+    sym (put_here _ _ _ _ _ _ _ (ap (λ (p : PortalValue). p.end) c.self.view_is) (c.in-Ok.ensures.ends ∙ ap ends_of c.as_slice.ensures.value))
     ∙ c.in-Ok-put.ensures.allowed
 
 pub returns-in-Ok-put-clause-number : goal.returns-in-Ok-put-clause-number
@@ -17,12 +17,12 @@ returns-in-Ok-put-clause-number g c = c.in-Ok-put.ensures.number
 
 pub returns-in-Ok-put-clause-ok : goal.returns-in-Ok-put-clause-ok
 returns-in-Ok-put-clause-ok g c = c.in-Ok-put.ensures.ok
-    ∙ part_here _ _ _ _ _ _ _ (ap (λ (p : PortalValue). p.end) c.self.view_is) c.from_vec.ensures (c.in-Ok.ensures.ends ∙ ap ends_of c.as_slice.ensures.value)
+    ∙ part_here _ _ _ _ _ _ (ap (λ (p : PortalValue). p.end) c.self.view_is) (c.in-Ok.ensures.ends ∙ ap ends_of c.as_slice.ensures.value)
 
 pub returns-in-Err-clause-why : goal.returns-in-Err-clause-why
 returns-in-Err-clause-why g c = inr (c.in-Err.ensures.why
     ∙ ap (λ o. unwrap_or o refusals.OutOfMemory)
-    (put_here _ _ _ _ _ _ _ _ (ap (λ (p : PortalValue). p.end) c.self.view_is) c.from_vec.ensures (c.in-Ok.ensures.ends ∙ ap ends_of c.as_slice.ensures.value)))
+    (put_here _ _ _ _ _ _ _ (ap (λ (p : PortalValue). p.end) c.self.view_is) (c.in-Ok.ensures.ends ∙ ap ends_of c.as_slice.ensures.value)))
 
 pub returns-in_default-clause-why : goal.returns-in_default-clause-why
 returns-in_default-clause-why g c = inl (wants_by c.args.portals.items (λ none. c.in_default.ensures.none (ap length c.as_slice.ensures.value ∙ none)), refl)

@@ -1,4 +1,4 @@
-use Rattle.std.proofs.Common.{◌≡◌, subst, sym}
+use Rattle.std.proofs.Common.{◌≡◌, ◌∙◌, subst, sym}
 use Rattle.ipcz_base.specs.declared.parcel.Parcel as parcels
 use Rattle.ipcz_world.specs.Steps.{PutGives, put_reply, put_step}
 use Rattle.ipcz_world.proofs.code.Calling.{put-gives}
@@ -8,7 +8,7 @@ pub returns : goal.returns
 returns c =
     let p : parcels.Parcel = record { bytes = c.in-Ok.bytes; ends = c.in-Ok-copy_ends.ends } in
     let same : p ≡ record { bytes = c.args.bytes.now; ends = c.args.ends.now } =
-    λ j. record { bytes = c.in-Ok.ensures j; ends = c.in-Ok-copy_ends.ensures j } in
+    λ j. record { bytes = (c.in-Ok.ensures.copy ∙ c.as_slice.ensures) j; ends = c.in-Ok-copy_ends.ensures j } in
     let gives = subst (λ q. PutGives c.args.self.now c.args.n
     (put_step c.args.profile c.args.self.now c.args.n c.args.at q) (put_reply c.put_here.result) c.put_here.new.self) same
     (put-gives c.args.self.now c.put_here.new.self c.args.n _ (put_reply c.put_here.result) c.requires.node c.put_here.ensures.step) in
