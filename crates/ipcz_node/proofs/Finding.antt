@@ -3,6 +3,8 @@ use Rattle.std.proofs.Common.{◌≡◌, ◌≢◌, ℕ, zero, suc, ◌+◌, ◌
 use Rattle.std.proofs.Common.{◌∙◌, ap, subst, get_or, take, drop, ◌-◌}
 use Rattle.std.proofs.lemmas.List.{take_all}
 use Rattle.std.proofs.Common.{arith, inl, inr, true≢false}
+use Rattle.std.specs.Prelude.{IfSome}
+use Rattle.std.proofs.lemmas.Bool.{cases_lt}
 use Rattle.std.specs.List.{AllWithin}
 use Rattle.std.specs.Ordering.{nat_cmp}
 use Rattle.std.specs.FinMap.{find, get, get-from_entries}
@@ -12,6 +14,7 @@ use Rattle.ipcz_seq.proofs.Pairs.{one_or_two, find-same, find-other}
 use Rattle.ipcz_router.specs.Router.{Router}
 use Rattle.ipcz_node.specs.Serials.{entries_by, map_by, AreRising}
 use Rattle.ipcz_node.specs.Finding.{IsNext}
+use Rattle.ipcz_node.proofs.Serials.{find_above}
 
 module _ {X : Type 0} (g : X → Router) where
   -- what is found stands from the first serial on
@@ -110,3 +113,12 @@ module _ {X : Type 0} (g : X → Router) where
     end_is = next.end_is;
     first = λ s r le e fits. next.first s r le (sym (get-from_entries nat_cmp_total (entries_by g es) s) ∙ e) fits;
   }
+
+  -- what is found stands below the next serial
+  pub next_below : (test : Router → Bool) (from f n : ℕ) (es : List (ℕ × X)) (o : Option (ℕ × End)) → AreRising f n es →
+      IsNext (λ s. find nat_cmp s (entries_by g es)) test from o → IfSome o (λ x. x.0 < n)
+  next_below test from f n es None rising next = tt
+  next_below test from f n es (Some y) rising next = elim (cases_lt y.0 n) [
+    | inl t ↦ t
+    | inr t ↦ let no : None ≡ Some next.router = sym (find_above g f n y.0 es rising t) ∙ next.here in absurd (cc)
+  ]

@@ -26,3 +26,4 @@ pub mod Telling
 pub mod Turns
 pub mod Written
 pub mod Dryness
+pub mod Asking

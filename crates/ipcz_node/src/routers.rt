@@ -148,11 +148,14 @@ impl Routers {
         first_in(&entries[place..], from, ends)
     }
 
-    /// The dry router of the lowest serial: its serial and its end.
-    pub fn first_dry(&self) -> Option<(u64, End)>
-        ensures { IsNext (get self.now.routers) (λ r. r.dry) 0 result }
+    /// The first dry router from a serial on: its serial and its end.
+    pub fn next_dry(&self, from: u64) -> Option<(u64, End)>
+        ensures found { IsNext (get self.now.routers) (λ r. r.dry) from result }
+        ensures below { IfSome result (λ x. x.0 < self.now.next) }
     {
-        dry_in(self.entries.as_slice())
+        let entries = self.entries.as_slice();
+        let place = lower_in(entries, from);
+        dry_in(&entries[place..], from)
     }
 
     /// How many routers there are.
@@ -271,18 +274,18 @@ fn first_in(entries: &[(u64, Router)], from: u64, ends: &HeldEnds) -> Option<(u6
     }
 }
 
-// The first entry whose router is dry: its serial and its end.
-fn dry_in(entries: &[(u64, Router)]) -> Option<(u64, End)>
+// The first entry from a serial on whose router is dry: its serial and its end.
+fn dry_in(entries: &[(u64, Router)], from: u64) -> Option<(u64, End)>
     requires { (first : ℕ) × (next : ℕ) × AreRising first next entries.now }
-    ensures { IsNext (λ s. find nat_cmp s (entries_by (λ x. x.router) entries.now)) (λ r. r.dry) 0 result }
+    ensures { IsNext (λ s. find nat_cmp s (entries_by (λ x. x.router) entries.now)) (λ r. r.dry) from result }
 {
     match entries {
         [] => None,
         [entry, rest @ ..] => {
-            if entry.1.is_dry() {
+            if from <= entry.0 && entry.1.is_dry() {
                 Some((entry.0, entry.1.end()))
             } else {
-                dry_in(rest)
+                dry_in(rest, from)
             }
         }
     }

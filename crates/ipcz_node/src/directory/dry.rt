@@ -1,6 +1,6 @@
 //! Routers that were told that no word is left for their bypass.
 
-ghost use Rattle.std.specs.Prelude.{◌≡◌, Some, true, is_some};
+ghost use Rattle.std.specs.Prelude.{◌≡◌, ◌<◌, Some, true, is_some, IfSome};
 ghost use Rattle.std.specs.FinMap.{get};
 ghost use Rattle.ipcz_router.specs.Router.{Router as RouterRecord};
 ghost use Rattle.ipcz_router.specs.ActEffects.{rewet};
@@ -12,17 +12,20 @@ use super::filing::follow;
 use ipcz_base::End;
 
 impl Directory {
-    /// The dry router of the lowest serial: its serial and its end. It looks at the routers only if some may be dry.
-    pub fn first_dry(&mut self) -> Option<(u64, End)>
-        ensures found { IsNext (get self.old.filed.routers) (λ r. r.dry) 0 result }
+    /// The first dry router from a serial on: its serial and its end. It looks at the routers only if some may be dry.
+    pub fn next_dry(&mut self, from: u64) -> Option<(u64, End)>
+        ensures found { IsNext (get self.old.filed.routers) (λ r. r.dry) from result }
+        ensures below { IfSome result (λ x. x.0 < self.old.filed.next) }
         ensures stays { self.new ≡ self.old }
     {
         if !self.some_dry {
             return None;
         }
-        let first = self.routers.first_dry();
-        self.some_dry = first.is_some();
-        first
+        let next = self.routers.next_dry(from);
+        if from == 0 {
+            self.some_dry = next.is_some();
+        }
+        next
     }
 
     /// Lets the router of the serial ask for a word again, as `Router::rewet`.

@@ -1,15 +1,19 @@
 use Rattle.std.proofs.Common.{sym, ◌∙◌, arith}
 use Rattle.ipcz_node.proofs.Finding.{walk_takes, walk_goes_on}
 use Rattle.ipcz_node.proofs.routers.+dry_in.Goals as goal
+use Rattle.ipcz_node.proofs.routers.+dry_in.Goals.{else-from-entry-via-then-from-entry+else-is_dry, else-from-entry-via-else-from-entry}
 
 pub returns-then-is_dry : goal.returns-then-is_dry
 returns-then-is_dry t c =
-    walk_takes (λ x. x.router) (λ r. r.dry) 0 _ _ c.args.entries.now c.entry-item.result _
+    walk_takes (λ x. x.router) (λ r. r.dry) c.args.from _ _ c.args.entries.now c.entry-item.result _
     c.requires.2 c.in-len1-up.len_at_least c.entry-item.is
-    (sym c.end.ensures) (omega arith) (sym c.is_dry.ensures ∙ c.if-is_dry.true)
+    (sym c.end.ensures) c.if-from-entry.true (sym c.is_dry.ensures ∙ c.if-is_dry.true)
 
-pub returns-else-is_dry : goal.returns-else-is_dry
-returns-else-is_dry t c =
-    walk_goes_on (λ x. x.router) (λ r. r.dry) 0 _ _ c.args.entries.now c.entry-item.result _
+pub returns-else-from-entry : goal.returns-else-from-entry
+returns-else-from-entry t c =
+    walk_goes_on (λ x. x.router) (λ r. r.dry) c.args.from _ _ c.args.entries.now c.entry-item.result _
     c.requires.2 c.in-len1-up.len_at_least c.entry-item.is
-    (λ le. sym c.is_dry.ensures ∙ c.if-is_dry.false) c.dry_in.ensures
+    (λ le. elim c.else-from-entry.branch [
+      | else-from-entry-via-then-from-entry+else-is_dry w ↦ sym w.is_dry.ensures ∙ w.if-is_dry.false
+      | else-from-entry-via-else-from-entry w ↦ absurd (omega (arith, le, w.if-from-entry.false))
+    ]) c.dry_in.ensures
