@@ -28,3 +28,4 @@ pub mod Visiting
 pub mod WordNumbers
 pub mod WordSources
 pub mod Wordless
+pub mod Retrying

@@ -25,6 +25,7 @@ pub mod PutBounds
 pub mod Ranks
 pub mod Records
 pub mod Remembering
+pub mod Retries
 pub mod Routes
 pub mod SettleBounds
 pub mod SettleLimit

@@ -5,6 +5,8 @@ ghost use Rattle.ipcz_world.specs.HeldEnds.{grown};
 ghost use Rattle.ipcz_world.specs.Holding.{holder_of, routers_at};
 ghost use Rattle.ipcz_world.specs.Lawful.{IsWithinLimits};
 ghost use Rattle.ipcz_world.specs.Parts.{world_of_parts};
+ghost use Rattle.ipcz_world.specs.Owed.{IsWet};
+ghost use Rattle.ipcz_world.specs.Retries.{LetAskAt, LetAskTold};
 ghost use Rattle.ipcz_world.specs.Steps.{StepFirst};
 ghost use Rattle.ipcz_world.specs.Taking.{IsRegular, node_of};
 ghost use Rattle.ipcz_world.specs.World.{new_world};
@@ -130,6 +132,27 @@ impl State {
             Ok(()) => Ok(()),
             Err(_) => Err(Refusal::OutOfMemory),
         }
+    }
+
+    /// Lets the dry routers of each node ask for a word again, and answers how many there were, or 2^64 - 1 if there were more.
+    pub(crate) fn retry(&mut self) -> u64
+        requires { length self.old.nodes ≡ self.old.count }
+        ensures asked { LetAskTold self.old result self.new }
+        ensures wet { IsWet self.new }
+    {
+        let mut told: u64 = 0;
+        for n in 0..self.count {
+            told = told.saturating_add(self.retry_at(n));
+        }
+        told
+    }
+
+    // Lets those of one node.
+    fn retry_at(&mut self, n: u8) -> u64
+        requires { n < length self.old.nodes }
+        ensures { LetAskAt self.old n result self.new }
+    {
+        self.nodes.node_mut(n).let_all_ask()
     }
 
     /// The number of a claimed word.

@@ -9,8 +9,10 @@ ghost use Rattle.ipcz_world.specs.HeldEnds.{grown};
 ghost use Rattle.ipcz_world.specs.Holding.{holder_of, routers_at, shown_word};
 ghost use Rattle.ipcz_world.specs.Lawful.{IsWithinLimits, Lawful};
 ghost use Rattle.ipcz_world.specs.Lawfulness.{IsLawful};
+ghost use Rattle.ipcz_world.specs.Owed.{IsWet};
 ghost use Rattle.ipcz_world.specs.Parts.{world_of_parts};
 ghost use Rattle.ipcz_world.specs.Plain.{Plain};
+ghost use Rattle.ipcz_world.specs.Retries.{AllMayAsk, LetAskTold};
 ghost use Rattle.ipcz_world.specs.Routes.{Routes, first_routes, routes_after};
 ghost use Rattle.ipcz_world.specs.Steps.{GivesOrNoMemory, StepAny, StepFirst, next_sizes, put_of, put_reply, put_step};
 ghost use Rattle.ipcz_world.specs.FirstRuns.{AreSteps, KeepsLaw};
@@ -108,7 +110,7 @@ impl World {
     }
 
     /// How many link words are left: those that no open and no bypass has claimed. If it is 0, an open is refused `NoWord`, and a proxy that
-    /// finds no word stays.
+    /// finds no word stays until [`World::retry`].
     ///
     /// `World::new(alloc, 2, 8)` has one first pair, whose word is claimed: it has 7 left, and 6 after an open.
     pub fn words_left(&self) -> u64
@@ -119,7 +121,7 @@ impl World {
 
     /// Makes so many link words more, none of them claimed: what a world that lasts takes from time to time, in place of all its words at once.
     /// The numbers of the new words follow those that there are, and nothing else of the world changes. A proxy that has found no word
-    /// before stays as it is.
+    /// before stays as it is until [`World::retry`].
     ///
     /// For each word that isn't claimed yet 8 bytes are reserved. Where there is no room for the new ones the list of all words is moved into
     /// one that has, so to add many words at a time is cheaper than few. Refused `OutOfMemory`, also if there would be more than 2^64 - 1 words;
@@ -135,6 +137,25 @@ impl World {
         ensures why { IfErr result (λ e. e ≡ Refusal.OutOfMemory) }
     {
         self.state.add_words(count)
+    }
+
+    /// Lets each proxy ask again that was told that no word is left for its bypass, and answers how many there were, of all nodes; if there
+    /// were more than 2^64 - 1, it answers 2^64 - 1. A proxy that was told so doesn't ask again by itself, and stays where it is, in the way of
+    /// its pair's parcels. So who adds words calls this behind it, and then settles: those that find a word are bypassed and leave.
+    ///
+    /// It looks at each node once, and at the routers only of a node of which some may wait. It takes no memory, and is never refused. It may be
+    /// called at any time: where no word is left those that ask are told so again, each at the cost of two turns. It is no step of a script, and
+    /// no step calls it.
+    ///
+    /// In a new world `world.retry()` is 0. Where three proxies have found no word, `world.add_words(3)?` and then `world.retry()`, which is 3,
+    /// let all three go at the next settle.
+    pub fn retry(&mut self) -> u64
+        ensures each { AllMayAsk self.old self.new }
+        ensures asked { LetAskTold self.old result self.new }
+        ensures wet { IsWet self.new }
+        ensures lawful { (b : Books) → (g : Routes) → Lawful self.old b g → Lawful self.new b g }
+    {
+        self.state.retry()
     }
 
     /// Whether nothing waits: no message is in an outbox, a mailbox or a hand, no close is pending and no router is flagged. Then each node's
