@@ -14,6 +14,7 @@ mod PendingSteps
 mod Promised
 mod Refusals
 pub mod Resting
+mod Retrying
 mod Start
 mod Tests
 pub mod TurnRuns

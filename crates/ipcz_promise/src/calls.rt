@@ -3,6 +3,8 @@
 
 ghost use Rattle.std.specs.Prelude.{◌≡◌, ◌+◌, ℕ, true, false, Ok, IfOk, IfErr, IsOk, OnOk};
 ghost use Rattle.ipcz_world.specs.Lawful.{IsWithinLimits};
+ghost use Rattle.ipcz_world.specs.Owed.{IsWet};
+ghost use Rattle.ipcz_world.specs.Retries.{LetAskTold};
 ghost use Rattle.ipcz_world.specs.Settling.{IsQuiet};
 ghost use Rattle.ipcz_world.specs.Steps.{put_reply};
 ghost use Rattle.ipcz_promise.specs.Promise.{Account, HasClosedDropped, IsDelivered, IsInOrder, May, MayRun, MaySettle, more_words, start};
@@ -198,6 +200,23 @@ pub fn add_words(world: &mut World, count: u64) -> Result<(), Refusal>
     ensures kept { IfErr result (λ e. (e ≡ Refusal.OutOfMemory) × (world.new ≡ world.old)) }
 {
     world.add_words(count)
+}
+
+/// Lets each proxy ask again that was told that no word is left for it, and answers how many there were, of all nodes; if there were more than
+/// 2^64 - 1, it answers 2^64 - 1. The accounts stay as they are, and no word is taken before a node's next turns. If one was let ask something waits,
+/// so a settle is due; if none was, nothing has changed.
+///
+/// It is never refused, and takes no memory. A proxy asks once by itself, so who adds words calls this behind it.
+///
+/// In the world `new_world(alloc, 2, 8)` `retry(&mut world)` is 0; where one proxy has found no word, it is 1 after `add_words(&mut world, 1)?`.
+pub fn retry(world: &mut World) -> u64
+    ensures promise { (a : Account) → Keeps world.old a → Keeps world.new a }
+    ensures asked { LetAskTold world.old result world.new }
+    ensures wet { IsWet world.new }
+    ensures claimed { world.new.claimed ≡ world.old.claimed }
+    ensures still { result ≡ 0 → world.new ≡ world.old }
+{
+    world.retry()
 }
 
 /// Makes a world, as [`new_world`] does, takes these steps in it, as [`run`] does, and gives their replies and the world. Nothing else has to be believed
