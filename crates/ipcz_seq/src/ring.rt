@@ -46,6 +46,32 @@ pub(crate) fn current_of<T>(pairs: &VecDeque<(u64, T)>, current: u64) -> Option<
     }
 }
 
+// The item of a number, if a pair has it. If no number is missing before it, its pair stands as far behind the first as it is from the
+// current one.
+#[inline(always)]
+pub(crate) fn item_of<T>(pairs: &VecDeque<(u64, T)>, current: u64, n: u64) -> Option<&T>
+    requires waiting { AreWaiting current pairs.now.items }
+    requires from { current ≤ n }
+    ensures { option_copied result ≡ find nat_cmp n pairs.now.items }
+{
+    match pairs.get((n - current) as usize) {
+        Some(pair) if pair.0 == n => Some(&pair.1),
+        _ => searched_item(pairs, n),
+    }
+}
+
+// The same by halving.
+#[inline(never)]
+fn searched_item<T>(pairs: &VecDeque<(u64, T)>, n: u64) -> Option<&T>
+    requires { AreWaiting 0 pairs.now.items }
+    ensures { option_copied result ≡ find nat_cmp n pairs.now.items }
+{
+    match searched_place(pairs, n) {
+        Ok(place) => Some(&pairs[place].1),
+        Err(_) => None,
+    }
+}
+
 // The first number, from the current one on, that no pair has.
 pub(crate) fn reach_of<T>(pairs: &VecDeque<(u64, T)>, current: u64) -> u64
     requires { AreWaiting current pairs.now.items }
