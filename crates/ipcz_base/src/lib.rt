@@ -15,6 +15,7 @@ mod profile;
 mod refusal;
 mod sequence;
 mod side;
+mod status;
 
 pub use bytes::Bytes;
 pub use descriptor::Descriptor;
@@ -30,3 +31,4 @@ pub use profile::Profile;
 pub use refusal::Refusal;
 pub use sequence::{Ends, Moves, Sequence};
 pub use side::Side;
+pub use status::PortalStatus;

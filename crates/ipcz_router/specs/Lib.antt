@@ -12,4 +12,5 @@ pub mod Numbers
 pub mod RoomyRouters
 pub mod Outlooks
 pub mod Router
+pub mod Status
 pub mod Filings

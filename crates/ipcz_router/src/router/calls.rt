@@ -1,15 +1,16 @@
-ghost use Rattle.std.specs.Prelude.{◌≡◌, ◌<◌, ◌≤◌, ◌||◌, ◌&&◌, Some, None, true, false, IsOk, IfOk, IfErr, OnOk, OnErr, unwrap_or};
+ghost use Rattle.std.specs.Prelude.{◌≡◌, ◌<◌, ◌≤◌, ◌-◌, ◌||◌, ◌&&◌, Some, None, true, false, is_some, is_none, IsOk, IfOk, IfErr, OnOk, OnErr, unwrap_or};
 ghost use Rattle.ipcz_base.specs.Limits.{last_number, no_number};
-ghost use Rattle.ipcz_seq.specs.Queue.{current_item, has_place, push_refusal};
+ghost use Rattle.ipcz_seq.specs.Queue.{current_item, item_at, has_place, push_refusal};
 ghost use Rattle.ipcz_router.specs.Router.{IsOpenTerminal, is_terminal, outward_has, router_has, rouse};
 ghost use Rattle.ipcz_seq.specs.Last.{goes_behind};
 ghost use Rattle.ipcz_router.specs.RoomyRouters.{room_for, KeepsRoom, LeavesRoom, LeavesRoomBut};
 ghost use Rattle.ipcz_router.specs.Closing.{close_router};
-ghost use Rattle.ipcz_router.specs.Calls.{next_number, put_item, router_put_refusal, router_get_refusal, take_item, sizes_found, has_place_for};
+ghost use Rattle.ipcz_router.specs.Calls.{next_number, put_item, router_put_refusal, router_get_refusal, item_refusal, take_item, sizes_found, has_place_for};
+ghost use Rattle.ipcz_router.specs.Status.{HasParcels, IsStatus};
 ghost use Rattle.ipcz_router.specs.Calls.{accept, accept_from_outward, accept_from_inward, accept_refusal, extend, descriptor_of};
 
 use super::Router;
-use ipcz_base::{Descriptor, Item, LAST, LinkEnd, LinkId, Parcel, Refusal, Side, Sizes};
+use ipcz_base::{Descriptor, Item, LAST, LinkEnd, LinkId, Parcel, PortalStatus, Refusal, Side, Sizes};
 use ipcz_edge::Edge;
 use std::mem;
 
@@ -97,6 +98,50 @@ impl Router {
         match self.in_queue.next() {
             Some(item) => item.sizes(),
             None => None,
+        }
+    }
+
+    /// What gets would answer, one after the other. It looks at each parcel that waits.
+    pub fn look(&self) -> PortalStatus
+        ensures { IsStatus self.now.router.in_queue result }
+    {
+        let next = self.in_queue.current();
+        let behind = self.behind_parcels();
+        PortalStatus {
+            next,
+            sizes: self.next_sizes(),
+            waiting: behind - next,
+            peer_closed: self.in_queue.item_at(behind).is_some(),
+        }
+    }
+
+    // The first number, from the in queue's current one on, that no parcel stands under.
+    fn behind_parcels(&self) -> u64
+        ensures from { self.now.router.in_queue.current ≤ result }
+        ensures parcels { let q = self.now.router.in_queue in HasParcels q (result - q.current) (is_some (item_at q result)) }
+    {
+        let reach = self.in_queue.reach();
+        let mut n = self.in_queue.current();
+        while n < reach {
+            if !self.has_parcel(n) {
+                return n;
+            }
+            n += 1;
+        }
+        reach
+    }
+
+    // Whether a parcel stands in the in queue under a number.
+    #[inline(always)]
+    #[tactic(auto, unfolding(crate::specs::Calls::item_refusal))]
+    fn has_parcel(&self, n: u64) -> bool
+        ensures { result ≡ is_none (item_refusal (item_at self.now.router.in_queue n)) }
+    {
+        match self.in_queue.item_at(n) {
+            Some(Item::Parcel(_)) => true,
+            Some(Item::Mark) => false,
+            Some(Item::Gone) => false,
+            None => false,
         }
     }
 
