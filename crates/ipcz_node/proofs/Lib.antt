@@ -13,6 +13,7 @@ pub mod Holding
 pub mod Indexes
 pub mod Leaving
 pub mod LinkPlaces
+pub mod Looking
 pub mod LoneNodes
 pub mod Mailing
 pub mod Preparing

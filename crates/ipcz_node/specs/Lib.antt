@@ -11,6 +11,7 @@ pub mod Indexes
 pub mod Lending
 pub mod LinkPlaces
 pub mod Lone
+pub mod Looking
 pub mod Node
 pub mod Preparing
 pub mod Rooms

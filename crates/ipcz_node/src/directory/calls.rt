@@ -5,6 +5,7 @@ ghost use Rattle.ipcz_base.specs.declared.item.Item.{Item};
 ghost use Rattle.ipcz_seq.specs.Queue.{current_item};
 ghost use Rattle.ipcz_router.specs.Router.{Router as RouterRecord, IsOpenTerminal};
 ghost use Rattle.ipcz_router.specs.Calls.{next_number, put_item, router_put_refusal, router_get_refusal, take_item, sizes_found};
+ghost use Rattle.ipcz_router.specs.Status.{IsStatus};
 ghost use Rattle.ipcz_node.specs.Rooms.{put_filed, hold_filed, release_filed, HasQueueRoom};
 ghost use Rattle.std.specs.FinSet as sets;
 ghost use Rattle.std.specs.Prelude.{IsOk};
@@ -14,7 +15,7 @@ ghost use Rattle.ipcz_node.specs.Calls.{got_from, ends_found};
 
 use super::Directory;
 use super::filing::follow;
-use ipcz_base::{End, Parcel, Refusal, Side, Sizes};
+use ipcz_base::{End, Parcel, PortalStatus, Refusal, Side, Sizes};
 
 impl Directory {
     /// Puts a parcel into the router of the serial, as `Router::put`.
@@ -73,6 +74,17 @@ impl Directory {
         match self.routers.router(serial) {
             Some(router) => router.next_sizes(),
             None => None,
+        }
+    }
+
+    /// What gets at the router of the serial would answer, as `Router::status`.
+    pub fn status(&self, serial: u64) -> PortalStatus
+        requires { is_some (get self.now.filed.routers serial) ≡ true }
+        ensures { (r : RouterRecord) → get self.now.filed.routers serial ≡ Some r → IsStatus r.in_queue result }
+    {
+        match self.routers.router(serial) {
+            Some(router) => router.status(),
+            None => unreachable!(),
         }
     }
 

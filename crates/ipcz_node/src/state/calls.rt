@@ -8,6 +8,7 @@ ghost use Rattle.ipcz_router.specs.Calls.{router_put_refusal};
 ghost use Rattle.ipcz_node.specs.Node.{router_in, terminal_of, found, holds_end, source_in, word_side};
 ghost use Rattle.ipcz_node.specs.Calls.{serials_refusal, open_node, are_held_once, refusal_at, are_too_many, put_refusal, put_node};
 ghost use Rattle.ipcz_node.specs.Calls.{put_number, get_refusal, got_at, next_sizes, get_node, close_refusal, close_node, close_end};
+ghost use Rattle.ipcz_node.specs.Looking.{IsLook};
 ghost use Rattle.ipcz_node.specs.Acts.{is_quiet, rest_of};
 ghost use Rattle.ipcz_node.specs.Finding.{IsNextHeld};
 ghost use Rattle.ipcz_node.specs.RoomyNodes.{CanOpen, RoomIsKept, IsReadyFor, TakesMore};
@@ -17,7 +18,7 @@ use super::NodeState;
 use crate::directory::Directory;
 use crate::outboxes::Outboxes;
 use crate::spare::Spare;
-use ipcz_base::{Bytes, End, Ends, Message, Parcel, Profile, Refusal, Side, Sizes};
+use ipcz_base::{Bytes, End, Ends, Message, Parcel, PortalStatus, Profile, Refusal, Side, Sizes};
 use std::alloc::{AllocError, Global};
 
 /// A put that was refused: why, and what was to be put.
@@ -345,6 +346,20 @@ impl NodeState {
         }
         match self.terminal_serial(at) {
             Some(serial) => self.routers.next_sizes(serial),
+            None => None,
+        }
+    }
+
+    /// What gets at this end would answer, one after the other; none if they would be refused as a stranger's, since the end isn't held
+    /// here. It takes no parcel and no memory. It looks at each parcel that waits.
+    pub fn status(&self, at: End) -> Option<PortalStatus>
+        ensures { IsLook self.now.node at result }
+    {
+        if !self.holds(at) {
+            return None;
+        }
+        match self.terminal_serial(at) {
+            Some(serial) => Some(self.routers.status(serial)),
             None => None,
         }
     }

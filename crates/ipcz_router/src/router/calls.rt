@@ -102,7 +102,7 @@ impl Router {
     }
 
     /// What gets would answer, one after the other. It looks at each parcel that waits.
-    pub fn look(&self) -> PortalStatus
+    pub fn status(&self) -> PortalStatus
         ensures { IsStatus self.now.router.in_queue result }
     {
         let next = self.in_queue.current();

@@ -2,7 +2,7 @@ use Rattle.std.proofs.Common.{◌≡◌, ◌-◌, Bor, Bool, Option, None, Some,
 use Rattle.std.specs.Prelude.{option_copied}
 use Rattle.ipcz_seq.specs.Queue.{item_at}
 use Rattle.ipcz_router.specs.Status.{HasParcels}
-use Rattle.ipcz_router.proofs.router.Router.look.Goals as goal
+use Rattle.ipcz_router.proofs.router.Router.status.Goals as goal
 
 -- a reference to an item is there if the item is
 alike : {X : Type 0} (o : Option (Bor X)) (f : Option X) → option_copied o ≡ f → is_some o ≡ is_some f
