@@ -80,6 +80,15 @@ typedef struct ipcz_portal {
     bool side_b;
 } ipcz_portal;
 
+/* What a look at a portal tells: what gets there would answer, one after the other. */
+typedef struct ipcz_portal_status {
+    uint64_t next;    /* the number that the next parcel has, whether it has come or not */
+    uint64_t waiting; /* how many gets would give a parcel each. A parcel before which another one lacks isn't counted */
+    size_t size;      /* how many bytes the next parcel has; 0 if none waits */
+    size_t count;     /* how many portals it has; 0 if none waits */
+    bool peer_closed; /* whether the get after these would be IPCZ_PEER_CLOSED; if not, it would be IPCZ_EMPTY */
+} ipcz_portal_status;
+
 /* What a call came to. A call that isn't IPCZ_OK changes nothing, and writes nothing, unless the call says otherwise. (A settle that is
  * refused has taken the turns before the one that is.) */
 typedef uint32_t ipcz_status;
@@ -145,6 +154,11 @@ ipcz_status ipcz_put_wide_parcel(ipcz_world *world, uint8_t node, ipcz_portal at
 
 /* Whether a get at a portal of a node would give a parcel; then how many bytes and portals it has is written. Nothing is taken. */
 bool ipcz_next_sizes(ipcz_world *world, uint8_t node, ipcz_portal at, size_t *size, size_t *count);
+
+/* Tells what gets at a portal of a node would answer. Nothing is taken. It looks at each parcel that waits.
+ *   status  where it is written
+ * IPCZ_STRANGER. */
+ipcz_status ipcz_look(ipcz_world *world, uint8_t node, ipcz_portal at, ipcz_portal_status *status);
 
 /* Gets a parcel, with pointers that are not null: what ipcz_get calls, and what other languages may call. */
 ipcz_status ipcz_get_parcel(ipcz_world *world, uint8_t node, ipcz_portal at, uint8_t *bytes, size_t room, size_t *size,
@@ -231,6 +245,12 @@ ipcz_status ipcz_cell_put_wide_parcel(ipcz_cell *cell, ipcz_portal at, const uin
 
 /* Whether a get at a portal of the node would give a parcel; then how many bytes and portals it has is written. Nothing is taken. */
 bool ipcz_cell_next_sizes(ipcz_cell *cell, ipcz_portal at, size_t *size, size_t *count);
+
+/* Tells what gets at a portal of the node would answer. Nothing is taken. It looks at each parcel that waits. What another node has sent is
+ * told once it has come, which it does in ipcz_cell_acts.
+ *   status  where it is written
+ * IPCZ_STRANGER. */
+ipcz_status ipcz_cell_look(ipcz_cell *cell, ipcz_portal at, ipcz_portal_status *status);
 
 /* Gets a parcel, with pointers that are not null: what ipcz_cell_get calls, and what other languages may call. */
 ipcz_status ipcz_cell_get_parcel(ipcz_cell *cell, ipcz_portal at, uint8_t *bytes, size_t room, size_t *size,

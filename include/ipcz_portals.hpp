@@ -26,6 +26,9 @@ namespace ipcz {
 
 using Portal = ::ipcz_portal;
 
+// What a look at a portal tells.
+using Status = ::ipcz_portal_status;
+
 // A call that was refused: its status, and the status's name as the text.
 class Refused : public std::runtime_error {
   public:
@@ -129,6 +132,13 @@ class World {
         });
     }
 
+    // What gets at the portal would answer, one after the other. Nothing is taken.
+    Status look(std::uint8_t node, Portal at) const {
+        Status status{};
+        check(::ipcz_look(&world_, node, at, &status));
+        return status;
+    }
+
     void close(std::uint8_t node, Portal at) { check(::ipcz_close(&world_, node, at)); }
 
     // Takes the node's first act that is possible, and tells whether it had one.
@@ -227,6 +237,13 @@ class Cell {
         return got_by(parcel, [&](std::uint8_t *bytes, std::size_t room, std::size_t *size, Portal *portals, std::size_t *count, std::uint64_t *number) {
             return ::ipcz_cell_get(&cell_, at, bytes, room, size, portals, IPCZ_MAX_PORTALS, count, number);
         });
+    }
+
+    // What gets at the portal would answer, one after the other. Nothing is taken.
+    Status look(Portal at) const {
+        Status status{};
+        check(::ipcz_cell_look(&cell_, at, &status));
+        return status;
     }
 
     void close(Portal at) { check(::ipcz_cell_close(&cell_, at)); }

@@ -21,6 +21,8 @@ int main(void) {
     uint8_t bytes[IPCZ_MAX_BYTES], node = 9;
     uint64_t number, acts, word;
     size_t size, count;
+    ipcz_portal_status seen;
+    print("look on a fresh handle", ipcz_cell_look(&fresh, left, &seen));
     print("open on a fresh handle", ipcz_cell_open(&fresh, &a, &b));
     printf("a fresh handle: quiet %d, claimed %" PRIu64 ", word %d, holds %d, node %d\n", ipcz_cell_quiet(&fresh), ipcz_cell_claimed(&fresh),
            ipcz_cell_word(&fresh, 0, &word), ipcz_cell_holds(&fresh, left), ipcz_cell_node(&fresh, &node));
@@ -42,6 +44,9 @@ int main(void) {
     print("one act", ipcz_cell_acts(&cells[0], 1, &acts));
     printf("taken %u\n", (unsigned)acts);
     print("acts", settle(cells));
+    print("look by a stranger", ipcz_cell_look(&cells[0], right, &seen));
+    print("look", ipcz_cell_look(&cells[1], right, &seen));
+    printf("next is %" PRIu64 ", %" PRIu64 " wait, %zu bytes and %zu portals, closed %d\n", seen.next, seen.waiting, seen.size, seen.count, seen.peer_closed);
     print("get", ipcz_cell_get(&cells[1], right, bytes, sizeof bytes, &size, portals, IPCZ_MAX_PORTALS, &count, &number));
     print("get with no room", ipcz_cell_get(&cells[1], right, bytes, 6, &size, portals, IPCZ_MAX_PORTALS, &count, &number));
     printf("it has %zu bytes and %zu portals\n", size, count);
@@ -51,6 +56,8 @@ int main(void) {
     print("close again", ipcz_cell_close(&cells[1], portals[0]));
     print("acts", settle(cells));
     print("put to a closed portal", ipcz_cell_put(&cells[0], a, "late", 4, NULL, 0, &number));
+    print("look at it", ipcz_cell_look(&cells[0], a, &seen));
+    printf("%" PRIu64 " wait, closed %d\n", seen.waiting, seen.peer_closed);
     print("get from it", ipcz_cell_get(&cells[0], a, bytes, sizeof bytes, &size, portals, IPCZ_MAX_PORTALS, &count, &number));
     printf("quiet %d, %d\n", ipcz_cell_quiet(&cells[0]), ipcz_cell_quiet(&cells[1]));
     print("create of another table", ipcz_cells_create(1, others, 2));

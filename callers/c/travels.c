@@ -214,6 +214,37 @@ static bool lasts(void) {
     return true;
 }
 
+/* A look tells what gets would answer, and takes nothing. */
+static bool looks(void) {
+    ipcz_world world = IPCZ_WORLD_INIT;
+    ipcz_portal left = ipcz_first(0, 1, 2), right = ipcz_first(1, 0, 2);
+    ipcz_portal_status status = { 7, 7, 7, 7, true };
+    parcel got;
+    EXPECT(ipcz_look(&world, 1, right, &status), IPCZ_NOT_CREATED);
+    EXPECT(ipcz_create(2, 1, &world), IPCZ_OK);
+    EXPECT(ipcz_look(&world, 0, right, &status), IPCZ_STRANGER);
+    EXPECT(ipcz_look(&world, 2, right, &status), IPCZ_STRANGER);
+    HOLDS(status.next == 7 && status.waiting == 7 && status.size == 7 && status.count == 7 && status.peer_closed);
+    EXPECT(put(&world, 0, left, "first"), IPCZ_OK);
+    EXPECT(put(&world, 0, left, "the second"), IPCZ_OK);
+    EXPECT(ipcz_look(&world, 1, right, &status), IPCZ_OK);
+    HOLDS(status.next == 0 && status.waiting == 0 && status.size == 0 && status.count == 0 && !status.peer_closed);
+    EXPECT(ipcz_settle(&world, 1000, NULL, NULL), IPCZ_OK);
+    EXPECT(ipcz_look(&world, 1, right, &status), IPCZ_OK);
+    HOLDS(status.next == 0 && status.waiting == 2 && status.size == 5 && status.count == 0 && !status.peer_closed);
+    EXPECT(ipcz_close(&world, 0, left), IPCZ_OK);
+    EXPECT(ipcz_settle(&world, 1000, NULL, NULL), IPCZ_OK);
+    EXPECT(get(&world, 1, right, &got), IPCZ_OK);
+    EXPECT(ipcz_look(&world, 1, right, &status), IPCZ_OK);
+    HOLDS(status.next == 1 && status.waiting == 1 && status.size == 10 && status.peer_closed);
+    EXPECT(get(&world, 1, right, &got), IPCZ_OK);
+    EXPECT(ipcz_look(&world, 1, right, &status), IPCZ_OK);
+    HOLDS(status.next == 2 && status.waiting == 0 && status.size == 0 && status.peer_closed);
+    EXPECT(get(&world, 1, right, &got), IPCZ_PEER_CLOSED);
+    ipcz_destroy(&world);
+    return true;
+}
+
 /* A handle of no world, and limits. */
 static bool handles(void) {
     ipcz_world world = IPCZ_WORLD_INIT;
@@ -242,7 +273,7 @@ static bool handles(void) {
 int main(void) {
     ipcz_world world = IPCZ_WORLD_INIT;
     if (ipcz_create(2, 8, &world)) return 1;
-    bool well = travels(&world) && small_rooms(&world) && parcels_of_any_bytes(&world) && unwanted_outputs(&world) && refusals(&world) && lasts() && handles();
+    bool well = travels(&world) && small_rooms(&world) && parcels_of_any_bytes(&world) && unwanted_outputs(&world) && refusals(&world) && looks() && lasts() && handles();
     printf("%" PRIu64 " words used\n", ipcz_claimed(&world));
     ipcz_destroy(&world);
     for (ipcz_status status = 0; status <= 14; status++) printf("%" PRIu32 " %s\n", status, ipcz_status_name(status));

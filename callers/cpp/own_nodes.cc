@@ -38,6 +38,8 @@ int main() {
     std::cout << get(cell, pair.first).bytes << '\n';
     ended = true;
     other.join();
+    const auto seen = cell.look(pair.first);
+    std::cout << "waiting: " << seen.waiting << ", closed: " << seen.peer_closed << '\n';
     std::cout << "held: " << cell.holds(pair.first) << cell.holds(pair.second) << '\n';
     try {
         cells.at(1).open();

@@ -84,6 +84,13 @@ func (c *Cell) Get(at Portal) (Parcel, error) {
 	})
 }
 
+// Look tells what gets at a portal of the node would answer, one after the other. Nothing is taken.
+func (c *Cell) Look(at Portal) (Look, error) {
+	var status C.ipcz_portal_status
+	err := answer(C.ipcz_cell_look(c.c(), at.c(), &status))
+	return seen(status), err
+}
+
 // Close closes a portal of the node.
 func (c *Cell) Close(at Portal) error {
 	return answer(C.ipcz_cell_close(c.c(), at.c()))

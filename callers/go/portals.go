@@ -85,6 +85,19 @@ func fromC(p C.ipcz_portal) Portal {
 	return Portal{Pair: uint64(p.pair), SideB: bool(p.side_b)}
 }
 
+// A Look is what a look at a portal tells: what gets there would answer, one after the other.
+type Look struct {
+	Next       uint64 // the number that the next parcel has, whether it has come or not
+	Waiting    uint64 // how many gets would give a parcel each; a parcel before which another one lacks isn't counted
+	Size       int    // how many bytes the next parcel has; 0 if none waits
+	Count      int    // how many portals it has; 0 if none waits
+	PeerClosed bool   // whether the get after these would be refused PeerClosed; if not, it would be refused Empty
+}
+
+func seen(s C.ipcz_portal_status) Look {
+	return Look{Next: uint64(s.next), Waiting: uint64(s.waiting), Size: int(s.size), Count: int(s.count), PeerClosed: bool(s.peer_closed)}
+}
+
 // First is the portal that a node has from the start of the pair that it shares with another; both are below nodes, and not the same.
 func First(node, other, nodes uint8) Portal {
 	return fromC(C.ipcz_first(C.uint8_t(node), C.uint8_t(other), C.uint8_t(nodes)))

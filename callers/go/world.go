@@ -55,6 +55,13 @@ func (w *World) Get(node uint8, at Portal) (Parcel, error) {
 	})
 }
 
+// Look tells what gets at a portal of the node would answer, one after the other. Nothing is taken.
+func (w *World) Look(node uint8, at Portal) (Look, error) {
+	var status C.ipcz_portal_status
+	err := answer(C.ipcz_look(w.c(), C.uint8_t(node), at.c(), &status))
+	return seen(status), err
+}
+
 // Close closes a portal of the node.
 func (w *World) Close(node uint8, at Portal) error {
 	return answer(C.ipcz_close(w.c(), C.uint8_t(node), at.c()))

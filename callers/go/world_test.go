@@ -62,6 +62,11 @@ func TestAPortalTravels(t *testing.T) {
 	_, err = world.Get(1, right)
 	refused(t, err, Empty)
 	settle(t, world)
+	seen, err := world.Look(1, right)
+	must(t, err)
+	if want := (Look{Next: 0, Waiting: 1, Size: 8, Count: 1}); seen != want {
+		t.Fatalf("a look tells %v, not %v", seen, want)
+	}
 	got, err := world.Get(1, right)
 	must(t, err)
 	wants(t, got, 0, "a portal")

@@ -1,7 +1,7 @@
 // SPDX-License-Identifier: BSD-3-Clause
 //! Nodes that each have a handle of their own.
 
-use crate::{answer, got_by, raw, Parcel, Portal, Refused, NOWHERE};
+use crate::{answer, got_by, raw, Parcel, Portal, Refused, Status, NOWHERE};
 
 /// A node's cell. Calls on different cells, also of one table, may come from different threads at once.
 #[repr(transparent)]
@@ -110,6 +110,13 @@ impl Cell {
                 number,
             )
         })
+    }
+
+    /// Tells what gets at a portal of the node would answer, one after the other. Nothing is taken. `Stranger`.
+    pub fn look(&mut self, at: Portal) -> Result<Status, Refused> {
+        let mut status = Status::default();
+        answer(unsafe { raw::ipcz_cell_look(&mut self.0, at, &mut status) })?;
+        Ok(status)
     }
 
     /// Closes a portal of the node. What was put at it still comes to the other one; what comes to it is discarded. `Stranger`, `OutOfMemory`.

@@ -18,7 +18,7 @@ mod table;
 use std::fmt;
 
 pub use cells::{cells, lasting_cells, Cell, Retry};
-pub use raw::Portal;
+pub use raw::{Portal, Status};
 
 const MAX_PRINTED_BYTES: usize = 256;
 const TOO_SMALL: u32 = 100;
@@ -234,6 +234,13 @@ impl World {
                 number,
             )
         })
+    }
+
+    /// Tells what gets at a portal of the node would answer, one after the other. Nothing is taken. `Stranger`.
+    pub fn look(&mut self, node: u8, at: Portal) -> Result<Status, Refused> {
+        let mut status = Status::default();
+        answer(unsafe { raw::ipcz_look(&mut self.0, node, at, &mut status) })?;
+        Ok(status)
     }
 
     /// Closes a portal of the node. What was put at it still comes to the other one; what comes to it is discarded. `Stranger`, `OutOfMemory`.

@@ -11,6 +11,22 @@ pub struct Portal {
     pub side_b: bool,
 }
 
+/// What a look at a portal tells: what gets there would answer, one after the other.
+#[repr(C)]
+#[derive(Clone, Copy, Debug, Default, PartialEq, Eq)]
+pub struct Status {
+    /// The number that the next parcel has, whether it has come or not.
+    pub next: u64,
+    /// How many gets would give a parcel each. A parcel before which another one lacks isn't counted.
+    pub waiting: u64,
+    /// How many bytes the next parcel has; 0 if none waits.
+    pub size: usize,
+    /// How many portals it has; 0 if none waits.
+    pub count: usize,
+    /// Whether the get after these would be refused `PeerClosed`; if not, it would be refused `Empty`.
+    pub peer_closed: bool,
+}
+
 #[repr(C)]
 pub struct Handle {
     at: *mut u8,
@@ -96,6 +112,7 @@ unsafe extern "C" {
         count: *mut usize,
         number: *mut u64,
     ) -> u32;
+    pub fn ipcz_look(world: *mut Handle, node: u8, at: Portal, status: *mut Status) -> u32;
     pub fn ipcz_close(world: *mut Handle, node: u8, at: Portal) -> u32;
     pub fn ipcz_act(world: *mut Handle, node: u8, acted: *mut bool) -> u32;
     pub fn ipcz_settle_counting(
@@ -143,6 +160,7 @@ unsafe extern "C" {
         count: *mut usize,
         number: *mut u64,
     ) -> u32;
+    pub fn ipcz_cell_look(cell: *mut CellHandle, at: Portal, status: *mut Status) -> u32;
     pub fn ipcz_cell_close(cell: *mut CellHandle, at: Portal) -> u32;
     pub fn ipcz_cell_acts_touching(
         cell: *mut CellHandle,

@@ -6,3 +6,4 @@ pub mod HeldCells
 pub mod Named
 pub mod Statuses
 pub mod Told
+pub mod Looks

@@ -8,13 +8,14 @@ ghost use Rattle.ipcz_world.specs.Holding.{shown_word, holder_of};
 ghost use Rattle.ipcz_c.specs.Named.{named};
 ghost use Rattle.ipcz_c.specs.Statuses.{not_created, already_created};
 ghost use Rattle.ipcz_c.specs.Told.{room_of, fits, TellsSizes};
+ghost use Rattle.ipcz_c.specs.Looks.{Looks};
 ghost use Rattle.ipcz_c.specs.Calls.{IsRefused, is_within, AddsWords, Creates, Opens, Puts, sizes_next, Gets, LacksRoom, Closes, TakesTurn, TellsTurn, Settles, read_off, written};
 
 use crate::handle::Handle;
 use crate::making::{are_within, boxed_world, lists_of};
-use crate::portal::Portal;
+use crate::portal::{Portal, Seen};
 use crate::status::{ALREADY_CREATED, NOT_CREATED, TOO_SMALL, refused, status};
-use crate::tell::{lacking, tell_acted, tell_got, tell_opened, tell_put, tell_settled, tell_sizes};
+use crate::tell::{lacking, tell_acted, tell_got, tell_opened, tell_put, tell_seen, tell_settled, tell_sizes};
 use ipcz_base::{Profile, Refusal};
 use ipcz_world::Step;
 use std::alloc::Global;
@@ -166,6 +167,26 @@ pub extern "C" fn ipcz_next_sizes(
     }
     let next = of.next_sizes(alloc, node, at.end());
     tell_sizes(next, size, count)
+}
+
+/// What gets at a portal of a node would answer, one after the other. Nothing is taken.
+#[unsafe(no_mangle)]
+pub extern "C" fn ipcz_look(
+    alloc: Global,
+    of: &mut Handle,
+    node: u8,
+    at: Portal,
+    seen: &mut Seen,
+) -> u32
+    ensures did { IsSome of.old.held.world → Looks of.old.held.world node at result seen.old seen.new }
+    ensures same { of.new.held.world ≡ of.old.held.world }
+    ensures none { IsNone of.old.held.world → (result ≡ not_created) × (seen.new ≡ seen.old) }
+{
+    if !of.has_world {
+        return NOT_CREATED;
+    }
+    let answer = of.look(alloc, node, at.end());
+    tell_seen(answer, seen)
 }
 
 /// Gets the next parcel at a portal of a node.

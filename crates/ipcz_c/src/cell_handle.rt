@@ -7,12 +7,13 @@ ghost use Rattle.ipcz_cell.specs.Opens.{OpensPair, FindsQuiet, ShowsWord};
 ghost use Rattle.ipcz_cell.specs.Retries.{Retries};
 ghost use Rattle.ipcz_cell.specs.TurnChains.{RunsTouching};
 ghost use Rattle.ipcz_c.specs.CellSteps.{PutsAt, GetsAt, ClosesAt, CountsClaimed};
+ghost use Rattle.ipcz_c.specs.Looks.{IsLookOf};
 ghost use Rattle.ipcz_c.specs.HeldCells.{HeldCell, IsOnly, table_of, Moves, cell_sizes};
 
 use crate::cell_pointer::CellPointer;
 use crate::member::Member;
 use crate::parts::Parts;
-use ipcz_base::{Bytes, End, Ends, Parcel, Profile, Refusal, Sizes};
+use ipcz_base::{Bytes, End, Ends, Parcel, PortalStatus, Profile, Refusal, Sizes};
 use ipcz_cell::{FabricName, NodeSet, Retry};
 use std::alloc::Global;
 use std::mem;
@@ -131,6 +132,20 @@ impl CellHandle {
         let sizes = member.next_sizes(at);
         self.give(member);
         sizes
+    }
+
+    // What gets would answer.
+    pub(crate) fn look<F: FabricName>(&mut self, alloc: Global, at: End) -> Option<PortalStatus>
+        requires held { IsSome self.old.held.cell }
+        requires named { table_of self.old.held.cell ≡ F.table }
+        requires only { IsOnly F }
+        ensures look { IsLookOf self.old.held.cell at result }
+        ensures same { self.new.held.cell ≡ self.old.held.cell }
+    {
+        let member = self.take::<F>(alloc);
+        let answer = member.look(at);
+        self.give(member);
+        answer
     }
 
     pub(crate) fn close<F: FabricName>(&mut self, alloc: Global, at: End) -> Result<u64, Refusal>

@@ -11,6 +11,7 @@ ghost use Rattle.ipcz_c.specs.Named.{named};
 ghost use Rattle.ipcz_c.specs.Statuses.{not_created, already_created};
 ghost use Rattle.ipcz_c.specs.Told.{room_of, fits, TellsSizes};
 ghost use Rattle.ipcz_c.specs.Calls.{IsRefused, is_within, has_slots, LacksRoom};
+ghost use Rattle.ipcz_c.specs.Looks.{CellLooks};
 ghost use Rattle.ipcz_c.specs.CellSteps.{CountsClaimed};
 ghost use Rattle.ipcz_c.specs.HeldCells.{HeldCell, Moves, cell_sizes};
 ghost use Rattle.ipcz_c.specs.CellCalls.{CellOpens, CellPuts, CellGets, CellCloses, CellActs, CellRetries, CellReads, are_vacant, CellsAreMade, CellsLast};
@@ -18,9 +19,9 @@ ghost use Rattle.ipcz_c.specs.CellCalls.{CellOpens, CellPuts, CellGets, CellClos
 use crate::cell_handle::CellHandle;
 use crate::cell_making::{are_vacant, seat};
 use crate::making::{are_within, have_slots, lists_of};
-use crate::portal::Portal;
+use crate::portal::{Portal, Seen};
 use crate::status::{ALREADY_CREATED, NOT_CREATED, TOO_SMALL, refused, status};
-use crate::tell::{got, lacking, outcome, retried, tell_ends, tell_got, tell_number, tell_sizes};
+use crate::tell::{got, lacking, outcome, retried, tell_ends, tell_got, tell_number, tell_seen, tell_sizes};
 use ipcz_base::{Profile, Refusal};
 use ipcz_cell::{NodeSet, start, start_lasting};
 use std::alloc::Global;
@@ -200,6 +201,26 @@ pub extern "C" fn ipcz_cell_next_sizes(
     }
     let next = of.next_sizes::<Brand>(alloc, at.end());
     tell_sizes(next, size, count)
+}
+
+/// What gets at a portal of the node would answer, one after the other. Nothing is taken.
+#[unsafe(no_mangle)]
+#[tactic(auto, using(crate::proofs::SameOwner::brand_only))]
+pub extern "C" fn ipcz_cell_look(
+    alloc: Global,
+    of: &mut CellHandle,
+    at: Portal,
+    seen: &mut Seen,
+) -> u32
+    ensures did { IsSome of.old.held.cell → CellLooks of.old.held.cell at result seen.old seen.new }
+    ensures same { of.new.held.cell ≡ of.old.held.cell }
+    ensures none { IsNone of.old.held.cell → (result ≡ not_created) × (seen.new ≡ seen.old) }
+{
+    if !of.has_cell {
+        return NOT_CREATED;
+    }
+    let answer = of.look::<Brand>(alloc, at.end());
+    tell_seen(answer, seen)
 }
 
 /// Gets the next parcel at a portal of the node.

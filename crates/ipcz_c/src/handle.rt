@@ -3,11 +3,12 @@ ghost use Rattle.std.specs.Prelude.{◌≡◌, Some, None, IsSome};
 ghost use Rattle.std.specs.Option.{is_some};
 ghost use Rattle.ipcz_world.specs.declared.step.Step.TheVariants as steps;
 ghost use Rattle.ipcz_world.specs.Steps.{put_of, sizes_given};
+ghost use Rattle.ipcz_c.specs.Looks.{IsLookIn};
 ghost use Rattle.ipcz_c.specs.Calls.{Steps, Keeps, RepliesPlainly, sizes_next, SettlesTo};
 
 use crate::parts::Parts;
 use crate::pointer::WorldPointer;
-use ipcz_base::{Bytes, End, Ends, Profile, Refusal, Sizes};
+use ipcz_base::{Bytes, End, Ends, PortalStatus, Profile, Refusal, Sizes};
 use ipcz_world::{Reply, Settled, Step, World};
 use std::alloc::Global;
 use std::mem;
@@ -114,6 +115,18 @@ impl Handle {
         let sizes = world.next_sizes(node, at);
         self.give(world);
         sizes
+    }
+
+    // What gets out of the world of a handle that has one would answer.
+    pub(crate) fn look(&mut self, alloc: Global, node: u8, at: End) -> Option<PortalStatus>
+        requires { IsSome self.old.held.world }
+        ensures look { IsLookIn self.old.held.world node at result }
+        ensures same { self.new.held.world ≡ self.old.held.world }
+    {
+        let world = self.take(alloc);
+        let answer = world.look(node, at);
+        self.give(world);
+        answer
     }
 
     // Lets the world of a handle that has one settle.

@@ -20,4 +20,4 @@ pub use cell_pointer::CellPointer;
 pub use handle::Handle;
 pub use member::Member;
 pub use pointer::WorldPointer;
-pub use portal::Portal;
+pub use portal::{Portal, Seen};

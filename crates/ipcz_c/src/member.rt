@@ -2,13 +2,14 @@
 ghost use Rattle.std.specs.Prelude.{◌≡◌, Some, IfOk};
 ghost use Rattle.ipcz_base.specs.Items.{sizes_of};
 ghost use Rattle.ipcz_node.specs.Calls.{next_sizes};
+ghost use Rattle.ipcz_node.specs.Looking.{IsLook};
 ghost use Rattle.ipcz_node.specs.Node.{holds_end};
 ghost use Rattle.ipcz_cell.specs.Opens.{OpensPair, FindsQuiet, ShowsWord};
 ghost use Rattle.ipcz_cell.specs.Retries.{Retries};
 ghost use Rattle.ipcz_cell.specs.TurnChains.{RunsTouching};
 ghost use Rattle.ipcz_c.specs.CellSteps.{PutsAt, GetsAt, ClosesAt, CountsClaimed};
 
-use ipcz_base::{Bytes, End, Ends, Parcel, Profile, Refusal, Sizes};
+use ipcz_base::{Bytes, End, Ends, Parcel, PortalStatus, Profile, Refusal, Sizes};
 use ipcz_cell::{Fabric, FabricName, NodeCell, NodeSet, Retry};
 use std::alloc::Global;
 use std::marker::Model;
@@ -67,6 +68,12 @@ impl<F: FabricName> Member<F> {
         ensures { result ≡ next_sizes self.now.part.state at }
     {
         self.cell.next_sizes(at)
+    }
+
+    pub(crate) fn look(&self, at: End) -> Option<PortalStatus>
+        ensures { IsLook self.now.part.state at result }
+    {
+        self.cell.look(at)
     }
 
     pub(crate) fn close(&mut self, at: End) -> Result<u64, Refusal>

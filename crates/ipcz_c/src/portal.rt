@@ -13,6 +13,18 @@ pub struct Portal {
     pub side_b: bool,
 }
 
+/// What a look at a portal tells: the number of the next parcel, how many parcels wait, how many bytes and portals the next one has (0 and 0
+/// if none waits), and whether the peer has closed behind them. `ipcz_portal_status` of the header.
+#[repr(C)]
+#[derive(Clone, Copy)]
+pub struct Seen {
+    pub next: u64,
+    pub waiting: u64,
+    pub size: usize,
+    pub count: usize,
+    pub peer_closed: bool,
+}
+
 impl Portal {
     pub(crate) fn end(self) -> End
         ensures { result ≡ named self }

@@ -2,11 +2,12 @@
 ghost use Rattle.std.specs.Prelude.{◌≡◌, ◌≤◌, true, false, Some, IfSome, IfNone, length};
 ghost use Rattle.ipcz_world.specs.Steps.{sizes_given};
 ghost use Rattle.ipcz_c.specs.CellCalls.{outcome_of, IsNumbered, AreEnds, get_answer, retry_code};
+ghost use Rattle.ipcz_c.specs.Looks.{TellsSeen};
 ghost use Rattle.ipcz_c.specs.Told.{room_of, fits, AreOpened, IsPut, IsActed, TellsSizes, AreAtFront, AreNamedAtFront, IsGot, IsSettled};
 
-use crate::portal::{Portal, portal_of};
+use crate::portal::{Portal, Seen, portal_of};
 use crate::status::refused;
-use ipcz_base::{End, Parcel, Refusal, Sizes};
+use ipcz_base::{End, Parcel, PortalStatus, Refusal, Sizes};
 use ipcz_cell::Retry;
 use ipcz_node::Happened;
 use ipcz_world::{Reply, Settled};
@@ -56,6 +57,28 @@ pub(crate) fn tell_sizes(next: Option<Sizes>, size: &mut usize, count: &mut usiz
     *size = sizes.bytes;
     *count = sizes.ends;
     true
+}
+
+// What a look tells, and its status.
+#[tactic(auto, unfolding(crate::specs::Looks::TellsSeen, crate::specs::Looks::sizes_told))]
+pub(crate) fn tell_seen(answer: Option<PortalStatus>, seen: &mut Seen) -> u32
+    ensures { TellsSeen answer result seen.old seen.new }
+{
+    let Some(told) = answer else {
+        return refused(Refusal::Stranger);
+    };
+    let (size, count) = match told.sizes {
+        Some(sizes) => (sizes.bytes, sizes.ends),
+        None => (0, 0),
+    };
+    *seen = Seen {
+        next: told.next,
+        waiting: told.waiting,
+        size,
+        count,
+        peer_closed: told.peer_closed,
+    };
+    0
 }
 
 // Whether a turn was an act.

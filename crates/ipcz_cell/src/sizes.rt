@@ -1,10 +1,11 @@
-//! How large the parcel is that a get would give.
+//! How large the parcel is that a get would give, and how many wait.
 ghost use Rattle.std.specs.Prelude.{◌≡◌};
 ghost use Rattle.ipcz_node.specs.Calls.{next_sizes};
+ghost use Rattle.ipcz_node.specs.Looking.{IsLook};
 
 use crate::cell::NodeCell;
 use crate::fabric::FabricName;
-use ipcz_base::{End, Sizes};
+use ipcz_base::{End, PortalStatus, Sizes};
 
 impl<F: FabricName> NodeCell<F> {
     /// How many bytes and ends the parcel has that a get at this end would give; none if it would be refused. It takes no memory.
@@ -16,5 +17,17 @@ impl<F: FabricName> NodeCell<F> {
         ensures { result ≡ next_sizes self.now.part.state at }
     {
         self.state.next_sizes(at)
+    }
+
+    /// What gets at this end would answer, one after the other: the number and the sizes of the next parcel, how many parcels wait, and
+    /// whether the peer has closed behind them. None if the node's callers don't hold the end, where a get would be refused `Stranger`.
+    /// Nothing is taken. It is never refused, and takes no memory. It looks at each parcel that waits.
+    ///
+    /// Where two parcels of five bytes have come and been left there, `cell.look(at)` is
+    /// `Some(PortalStatus { next: 0, sizes: Some(Sizes { bytes: 5, ends: 0 }), waiting: 2, peer_closed: false })`.
+    pub fn look(&self, at: End) -> Option<PortalStatus>
+        ensures { IsLook self.now.part.state at result }
+    {
+        self.state.status(at)
     }
 }

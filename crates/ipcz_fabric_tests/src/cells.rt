@@ -10,7 +10,7 @@ ghost use Rattle.std.specs.Prelude.{◌≡◌};
 ghost use Rattle.ipcz_world.specs.Lawful.{IsWithinLimits};
 
 use crate::cell_tables::{self, named, put};
-use ipcz_base::{End, Refusal, Side};
+use ipcz_base::{End, PortalStatus, Refusal, Side};
 use ipcz_cell::{Blank, Fabric, FabricName, NodeCell, NodeSet, start};
 use std::alloc::Global;
 use std::marker::Brand;
@@ -55,6 +55,8 @@ enum Call {
     Touches(u64, u64, u64),
     /// Gets these bytes and ends at an end, under this number.
     Get(End, &'static [u8], &'static [End], u64),
+    /// What gets at an end would answer: the number of the next parcel, its sizes, how many wait, and whether the peer has closed.
+    Look(End, Option<PortalStatus>),
     /// Closes an end, whose mark has this number.
     Close(End, u64),
     /// Loads how many link words were claimed.
@@ -171,6 +173,7 @@ fn gives<F: FabricName>(
         Call::Acts(limit, number) => Ok(cell.acts(fabric, limit)? == number),
         Call::Touches(limit, number, nodes) => touches(fabric, cell, limit, number, nodes),
         Call::Get(at, data, ends, number) => gets(fabric, cell, at, (data, ends), number),
+        Call::Look(at, want) => Ok(cell.look(at) == want),
         Call::Close(at, number) => Ok(cell.close(fabric, at)? == number),
         Call::Claimed(count) => Ok(cell.claimed(fabric) == count),
         Call::Word(i, word) => Ok(cell.word(fabric, i) == Some(word)),

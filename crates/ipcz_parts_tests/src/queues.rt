@@ -11,6 +11,8 @@ enum Step {
     Push(u64, &'static str, Result<(), Refusal>),
     Pop(Option<&'static str>),
     Next(Option<&'static str>),
+    /// The word of a number.
+    ItemAt(u64, Option<&'static str>),
     /// The word of the highest number, with that number.
     Last(Option<(u64, &'static str)>),
     Reserve,
@@ -54,6 +56,7 @@ fn answers(queue: &mut GapQueue<&'static str>, step: Step) -> bool {
 fn is(queue: &GapQueue<&'static str>, step: Step) -> bool {
     match step {
         Step::Next(want) => queue.next() == want.as_ref(),
+        Step::ItemAt(n, want) => queue.item_at(n) == want.as_ref(),
         Step::Last(want) => queue.last() == want.as_ref(),
         Step::HasRoom(want) => queue.has_room() == want,
         Step::HasPlace(n, want) => queue.has_place(n) == want,
@@ -137,12 +140,18 @@ fn room_is_made_before_it_is_wanted(rt: HostRuntime) {
     all_answer(&rt, rt.alloc(), 0, &ROOM);
 }
 
-static GAPS: [Step; 16] = [
+static GAPS: [Step; 21] = [
     Step::Push(20, "a", Ok(())),
     Step::Push(23, "d", Ok(())),
     Step::Push(27, "h", Ok(())),
     Step::Push(21, "b", Ok(())),
     Step::Reach(22),
+    // What has come is found before a gap and behind one.
+    Step::ItemAt(19, None),
+    Step::ItemAt(21, Some("b")),
+    Step::ItemAt(22, None),
+    Step::ItemAt(27, Some("h")),
+    Step::ItemAt(u64::MAX, None),
     // 19 has passed, 23 is taken, and 22 is free.
     Step::HasPlace(19, false),
     Step::HasPlace(23, false),

@@ -1,4 +1,5 @@
-ghost use Rattle.std.specs.Prelude.{◌≡◌, ◌<◌, ◌≤◌, ◌+◌, ℕ, true, false, IfOk, IfErr, IfSome, IsOk, OnErr, OnOk, map};
+ghost use Rattle.std.specs.Prelude.{◌≡◌, ◌<◌, ◌≤◌, ◌+◌, ℕ, true, false, IfOk, IfErr, IfSome, IsOk, OnErr, OnOk, map, None};
+ghost use Rattle.ipcz_node.specs.Looking.{IsLook};
 ghost use Rattle.ipcz_base.specs.declared.link_end.LinkEnd.{LinkEnd};
 ghost use Rattle.ipcz_word.specs.Layout.{word_of_bits};
 ghost use Rattle.ipcz_world.specs.Asking.{can_act, hand_at, IsActed, WhyNotTaken};
@@ -17,7 +18,7 @@ ghost use Rattle.ipcz_world.specs.Routes.{Routes, first_routes, routes_after};
 ghost use Rattle.ipcz_world.specs.Steps.{GivesOrNoMemory, StepAny, StepFirst, next_sizes, put_of, put_reply, put_step};
 ghost use Rattle.ipcz_world.specs.FirstRuns.{AreSteps, KeepsLaw};
 ghost use Rattle.ipcz_world.specs.Turns.{next_at};
-ghost use Rattle.ipcz_world.specs.World.{new_world};
+ghost use Rattle.ipcz_world.specs.World.{new_world, node_at};
 ghost use Rattle.ipcz_world.specs.Settling.{IsQuiet, TakesTurn};
 ghost use Rattle.ipcz_world.specs.SettleBounds.{CarryNone, IsLawfulSettle, IsLawfulRefusal, plain_limit};
 ghost use Rattle.ipcz_world.specs.SettleLimit.{settle_limit};
@@ -27,7 +28,7 @@ ghost use Rattle.ipcz_world.specs.Visiting.{AreIdle, IsPlace, Walk};
 use crate::mail::Mail;
 use crate::state::State;
 use crate::step::{NotTaken, Reply, Settled, Step};
-use ipcz_base::{Bytes, End, Ends, Profile, Refusal, Sizes};
+use ipcz_base::{Bytes, End, Ends, PortalStatus, Profile, Refusal, Sizes};
 use ipcz_node::{Act, Happened, NodeState, PutRefused};
 use std::alloc::Global;
 use std::marker::Model;
@@ -370,6 +371,19 @@ impl World {
         ensures { result ≡ next_sizes self.now node at }
     {
         self.state.next_sizes(node, at)
+    }
+
+    /// What gets at this end of a node would answer, one after the other: the number and the sizes of the next parcel, how many parcels wait,
+    /// and whether the peer has closed behind them. None if the node isn't one of the world's, or its callers don't hold the end, where a get
+    /// would be refused `Stranger`. Nothing is taken. It is never refused, and takes no memory. It looks at each parcel that waits.
+    ///
+    /// Where two parcels of five bytes have come and been left there, and the peer has closed, `world.look(1, right)` is
+    /// `Some(PortalStatus { next: 0, sizes: Some(Sizes { bytes: 5, ends: 0 }), waiting: 2, peer_closed: true })`.
+    pub fn look(&self, node: u8, at: End) -> Option<PortalStatus>
+        ensures here { node < self.now.count → IsLook (node_at self.now node) at result }
+        ensures away { self.now.count ≤ node → result ≡ None }
+    {
+        self.state.status(node, at)
     }
 
     /// Takes each of these steps, in their order, and gives their replies. Refused `OutOfMemory` if there is no room for the replies:

@@ -11,7 +11,7 @@ mod words;
 ghost use Rattle.ipcz_world.specs.Lawful.{IsWithinLimits};
 
 use self::calls::{Call, first_wrong};
-use ipcz_base::{Bytes, End, Refusal, Sequence, Side, Sizes};
+use ipcz_base::{Bytes, End, PortalStatus, Refusal, Sequence, Side, Sizes};
 use ipcz_world::{Reply, Step, World};
 use std::alloc::{AllocError, Global};
 use std::process::Abort;
@@ -423,4 +423,57 @@ static WIDE: [Call; 10] = [
 #[test]
 fn a_wide_parcel_has_any_bytes(rt: HostRuntime) {
     all_go(&rt, rt.alloc(), 2, 1, &WIDE);
+}
+
+// What is told before a parcel has come to B0, and while the first is the next and while the second is.
+const NONE_YET: PortalStatus = PortalStatus {
+    next: 0,
+    sizes: None,
+    waiting: 0,
+    peer_closed: false,
+};
+
+const BOTH_WAIT: PortalStatus = PortalStatus {
+    next: 0,
+    sizes: Some(Sizes { bytes: 5, ends: 0 }),
+    waiting: 2,
+    peer_closed: true,
+};
+
+const ONE_WAITS: PortalStatus = PortalStatus {
+    next: 1,
+    sizes: Some(Sizes { bytes: 2, ends: 0 }),
+    waiting: 1,
+    peer_closed: true,
+};
+
+const ALL_GOT: PortalStatus = PortalStatus {
+    next: 2,
+    sizes: None,
+    waiting: 0,
+    peer_closed: true,
+};
+
+// Two parcels and the mark come, and are got one by one; no look takes anything.
+static LOOKS: [Call; 15] = [
+    Call::Look(0, B0, None),
+    Call::Look(2, B0, None),
+    Call::Look(1, B0, Some(NONE_YET)),
+    Call::Put(0, A0, b"first", &[], 0),
+    Call::Put(0, A0, b"it", &[], 1),
+    Call::Close(0, A0, 2),
+    Call::Look(1, B0, Some(NONE_YET)),
+    Call::SettleWithin(100),
+    Call::Look(1, B0, Some(BOTH_WAIT)),
+    Call::Look(1, B0, Some(BOTH_WAIT)),
+    Call::Get(1, B0, 0, b"first", &[]),
+    Call::Look(1, B0, Some(ONE_WAITS)),
+    Call::Get(1, B0, 1, b"it", &[]),
+    Call::Look(1, B0, Some(ALL_GOT)),
+    Call::GetRefused(1, B0, Refusal::PeerClosed),
+];
+
+#[test]
+fn a_look_tells_what_gets_would_answer(rt: HostRuntime) {
+    all_go(&rt, rt.alloc(), 2, 1, &LOOKS);
 }

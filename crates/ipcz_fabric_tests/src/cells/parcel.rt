@@ -1,7 +1,8 @@
 //! A parcel from one end of a pair to the other on one node, and what cells do by turns that aren't told.
 
-use super::Call::{Acts, Close, Get, Open, Put, Touches, Turns};
+use super::Call::{Acts, Close, Get, Look, Open, Put, Touches, Turns};
 use super::{A0, A1, B0, B1, Call, all_go};
+use ipcz_base::{PortalStatus, Sizes};
 
 static CALLS: [(usize, Call); 5] = [
     (0, Open(A1, B1)),
@@ -72,4 +73,39 @@ static TOUCHING: [(usize, Call); 10] = [
 #[test]
 fn turns_tell_which_nodes_they_touch(rt: HostRuntime) {
     all_go(&rt, rt.alloc(), 4, &TOUCHING);
+}
+
+// Parcels of one byte at B1: the first of two is the next, and then none is.
+const TWO_WAIT: PortalStatus = PortalStatus {
+    next: 0,
+    sizes: Some(Sizes { bytes: 1, ends: 0 }),
+    waiting: 2,
+    peer_closed: false,
+};
+
+const CLOSED: PortalStatus = PortalStatus {
+    next: 2,
+    sizes: None,
+    waiting: 0,
+    peer_closed: true,
+};
+
+// A look takes nothing, and tells of no end that the node doesn't hold.
+static LOOKS: [(usize, Call); 11] = [
+    (0, Open(A1, B1)),
+    (0, Put(A1, b"a", &[], 0)),
+    (0, Put(A1, b"b", &[], 1)),
+    (0, Acts(100, 10)),
+    (0, Look(B1, Some(TWO_WAIT))),
+    (1, Look(B1, None)),
+    (0, Get(B1, b"a", &[], 0)),
+    (0, Get(B1, b"b", &[], 1)),
+    (0, Close(A1, 2)),
+    (0, Acts(100, 6)),
+    (0, Look(B1, Some(CLOSED))),
+];
+
+#[test]
+fn a_look_at_a_cell_takes_nothing(rt: HostRuntime) {
+    all_go(&rt, rt.alloc(), 4, &LOOKS);
 }

@@ -1,6 +1,7 @@
 //! What callers do at a node of the world: open, put, get and close.
 
-ghost use Rattle.std.specs.Prelude.{◌≡◌, ◌<◌, None, IfOk, IfErr};
+ghost use Rattle.std.specs.Prelude.{◌≡◌, ◌<◌, ◌≤◌, None, IfOk, IfErr};
+ghost use Rattle.ipcz_node.specs.Looking.{IsLook};
 ghost use Rattle.ipcz_world.specs.World.{node_at};
 ghost use Rattle.ipcz_world.specs.Steps.{StepFirst};
 ghost use Rattle.ipcz_world.specs.Steps.{open_with, open_on, put_of, put_reply, put_step, get_step, next_sizes, close_step, Gives, GivesOrNoMemory, PutGives};
@@ -8,7 +9,7 @@ ghost use Rattle.ipcz_world.specs.Taking.{IsRegular};
 
 use crate::state::State;
 use crate::step::{Reply, Step};
-use ipcz_base::{Bytes, End, Ends, Profile, Refusal, Sizes};
+use ipcz_base::{Bytes, End, Ends, PortalStatus, Profile, Refusal, Sizes};
 use ipcz_node::PutRefused;
 use std::alloc::{AllocError, Global};
 
@@ -152,6 +153,18 @@ impl State {
             return None;
         }
         self.nodes.node(n).next_sizes(at)
+    }
+
+    /// What gets at an end would answer, one after the other; none at a node that isn't there.
+    pub(crate) fn status(&self, n: u8, at: End) -> Option<PortalStatus>
+        requires { IsRegular self.now }
+        ensures here { n < self.now.count → IsLook (node_at self.now n) at result }
+        ensures away { self.now.count ≤ n → result ≡ None }
+    {
+        if n >= self.count {
+            return None;
+        }
+        self.nodes.node(n).status(at)
     }
 
     /// Closes an end.

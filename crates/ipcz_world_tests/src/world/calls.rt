@@ -3,7 +3,7 @@
 //! Nothing is promised of what stands here: a test's own proof would else work out the world at each call. So a test is a list of calls.
 
 use super::{get, is_got, is_put, is_refused, put};
-use ipcz_base::{Bytes, End, Refusal, Sequence, Sizes};
+use ipcz_base::{Bytes, End, PortalStatus, Refusal, Sequence, Sizes};
 use ipcz_world::{Reply, Settled, Step, World};
 use std::alloc::{AllocError, Global};
 
@@ -20,6 +20,8 @@ pub enum Call {
     WideRefused(u8, End, usize, Refusal),
     /// How many bytes and ends the parcel has that a get at an end of a node would give, or none if it would be refused.
     NextSizes(u8, End, Option<Sizes>),
+    /// What gets at an end of a node would answer: the number of the next parcel, its sizes, how many wait, and whether the peer has closed.
+    Look(u8, End, Option<PortalStatus>),
     /// Gets these bytes and ends at an end of a node, under this number.
     Get(u8, End, u64, &'static [u8], &'static [End]),
     /// Gets a parcel of so many bytes of a value at an end of a node, under this number.
@@ -198,6 +200,7 @@ fn answers(world: &mut World, call: Call) -> bool {
 fn is(world: &World, call: Call) -> bool {
     match call {
         Call::NextSizes(node, at, want) => world.next_sizes(node, at) == want,
+        Call::Look(node, at, want) => world.look(node, at) == want,
         Call::Claimed(count) => world.claimed() == count,
         Call::Left(count) => world.words_left() == count,
         Call::Quiet(want) => world.is_quiet() == want,
