@@ -183,16 +183,23 @@ ipcz_status ipcz_settle_counting(ipcz_world *world, uint64_t limit, uint64_t *ac
 /* How many link words were used. */
 uint64_t ipcz_claimed(ipcz_world *world);
 
-/* How many link words are left: if it is 0, an open is IPCZ_NO_WORD, and a portal that travels leaves the node it came through in its way. */
+/* How many link words are left: if it is 0, an open is IPCZ_NO_WORD, and a portal that travels leaves the node it came through in its way
+ * until ipcz_retry. */
 uint64_t ipcz_words_left(ipcz_world *world);
 
 /* Makes so many link words more, none of them used yet: what a world that lasts is given from time to time. Nothing else of the world changes. A
  * word takes 8 bytes, which are kept until ipcz_destroy, used or not; to add many at a time is cheaper than few. Add them before they are used
- * up: a node that found none when a portal had moved on stays in its way. So a program that lasts says before each open
+ * up: a node that found none when a portal had moved on stays in its way until ipcz_retry. So a program that lasts says before each open
  * `if (ipcz_words_left(&world) < 64 && ipcz_add_words(&world, 1000)) return false;`.
  *   count  how many, 0 too. There is no limit but that of memory: IPCZ_MAX_WORDS says how many a world may begin with
  * IPCZ_OUT_OF_MEMORY, also if there would be more than 2^64 - 1 in all: there are as many as before. To add none is never refused. */
 ipcz_status ipcz_add_words(ipcz_world *world, uint64_t count);
+
+/* Lets each node that found no link word when a portal had moved on ask for one again, and tells in how many places one stood in a portal's way; if
+ * they were more than 2^64 - 1, it tells 2^64 - 1. A node asks once by itself, and then stays in the way, also when there are words again. So say
+ * this behind ipcz_add_words, and have the nodes settle: who finds a word gets out of the way. If it tells 0, nothing has changed. Where no word is
+ * left, those that ask are told so again, and stay. It takes no memory and no word by itself, and is 0 for a handle of no world. */
+uint64_t ipcz_retry(ipcz_world *world);
 
 /* Whether link word i was used; then its number is written. For tools: the repository's docs/PROTOCOL.md, "Link words", reads it. */
 bool ipcz_word(ipcz_world *world, uint64_t i, uint64_t *word);

@@ -163,6 +163,9 @@ class World {
     // Makes so many link words more: what a world that lasts is given before they are used up.
     void add_words(std::uint64_t count) { check(::ipcz_add_words(&world_, count)); }
 
+    // Lets each node that found no link word when a portal had moved on ask for one again, behind add_words: how many there were.
+    std::uint64_t retry() { return ::ipcz_retry(&world_); }
+
     // Whether a link word was used; then its number is written.
     bool word(std::uint64_t i, std::uint64_t &word) const { return ::ipcz_word(&world_, i, &word); }
 

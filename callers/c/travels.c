@@ -245,6 +245,31 @@ static bool looks(void) {
     return true;
 }
 
+/* A node that found no word stays in the way of a portal that moved on, until words were added and it may ask again. */
+static bool asks_again(void) {
+    ipcz_world world = IPCZ_WORLD_INIT;
+    ipcz_portal left = ipcz_first(0, 1, 2), right = ipcz_first(1, 0, 2), kept, sent;
+    parcel got;
+    EXPECT(ipcz_create(2, 2, &world), IPCZ_OK);
+    HOLDS(ipcz_retry(&world) == 0);
+    EXPECT(ipcz_open(&world, 0, &kept, &sent), IPCZ_OK);
+    EXPECT(ipcz_put(&world, 0, left, "m", 1, &sent, 1, NULL), IPCZ_OK);
+    EXPECT(ipcz_settle(&world, 1000, NULL, NULL), IPCZ_OK);
+    EXPECT(get(&world, 1, right, &got), IPCZ_OK);
+    EXPECT(ipcz_add_words(&world, 1), IPCZ_OK);
+    EXPECT(ipcz_settle(&world, 1000, NULL, NULL), IPCZ_OK);
+    HOLDS(ipcz_claimed(&world) == 2);
+    HOLDS(ipcz_retry(&world) == 1);
+    HOLDS(ipcz_retry(&world) == 0);
+    EXPECT(ipcz_settle(&world, 1000, NULL, NULL), IPCZ_OK);
+    HOLDS(ipcz_claimed(&world) == 3);
+    EXPECT(put(&world, 0, kept, "p"), IPCZ_OK);
+    EXPECT(ipcz_settle(&world, 1000, NULL, NULL), IPCZ_OK);
+    EXPECT(get(&world, 1, sent, &got), IPCZ_OK);
+    ipcz_destroy(&world);
+    return true;
+}
+
 /* A handle of no world, and limits. */
 static bool handles(void) {
     ipcz_world world = IPCZ_WORLD_INIT;
@@ -253,7 +278,7 @@ static bool handles(void) {
     uint8_t node;
     EXPECT(put(&world, 0, left, "x"), IPCZ_NOT_CREATED);
     EXPECT(ipcz_add_words(&world, 1), IPCZ_NOT_CREATED);
-    HOLDS(ipcz_claimed(&world) == 0 && ipcz_words_left(&world) == 0 && !ipcz_word(&world, 0, &number) && !ipcz_holder(&world, left, &node));
+    HOLDS(ipcz_claimed(&world) == 0 && ipcz_words_left(&world) == 0 && ipcz_retry(&world) == 0 && !ipcz_word(&world, 0, &number) && !ipcz_holder(&world, left, &node));
     ipcz_destroy(&world);
     EXPECT(ipcz_create(0, 8, &world), IPCZ_TOO_MANY);
     EXPECT(ipcz_create(65, 4096, &world), IPCZ_TOO_MANY);
@@ -273,7 +298,7 @@ static bool handles(void) {
 int main(void) {
     ipcz_world world = IPCZ_WORLD_INIT;
     if (ipcz_create(2, 8, &world)) return 1;
-    bool well = travels(&world) && small_rooms(&world) && parcels_of_any_bytes(&world) && unwanted_outputs(&world) && refusals(&world) && looks() && lasts() && handles();
+    bool well = travels(&world) && small_rooms(&world) && parcels_of_any_bytes(&world) && unwanted_outputs(&world) && refusals(&world) && looks() && lasts() && asks_again() && handles();
     printf("%" PRIu64 " words used\n", ipcz_claimed(&world));
     ipcz_destroy(&world);
     for (ipcz_status status = 0; status <= 14; status++) printf("%" PRIu32 " %s\n", status, ipcz_status_name(status));

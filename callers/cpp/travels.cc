@@ -54,6 +54,7 @@ int main() {
     std::cout << (seen.holder(sent, node) ? int(node) : -1) << ", first word " << (seen.word(0, word) ? word : 0) << '\n';
     other.add_words(1000);
     std::cout << "left: " << seen.words_left() << " words\n";
+    if (other.retry() != 0) return 1;
     try {
         other.add_words(UINT64_MAX);
     } catch (const ipcz::Refused &why) {

@@ -98,6 +98,12 @@ func (w *World) AddWords(count uint64) error {
 	return answer(C.ipcz_add_words(w.c(), C.uint64_t(count)))
 }
 
+// Retry lets each node that found no link word when a portal had moved on ask for one again, and tells how many there were. A node asks once by
+// itself, and then stays in the portal's way; so call Retry behind AddWords, and then Settle. If it tells 0, nothing has changed.
+func (w *World) Retry() uint64 {
+	return uint64(C.ipcz_retry(w.c()))
+}
+
 // Word tells the number of a link word, and whether it was used.
 func (w *World) Word(i uint64) (word uint64, used bool) {
 	var number C.uint64_t

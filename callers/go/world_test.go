@@ -137,6 +137,25 @@ func TestWordsAreAdded(t *testing.T) {
 	refused(t, err, NoWord)
 }
 
+func TestANodeWithoutAWordAsksAgain(t *testing.T) {
+	world := newWorld(t, 2, 2)
+	_, sent, err := world.Open(0)
+	must(t, err)
+	_, err = world.Put(0, First(0, 1, 2), []byte("m"), sent)
+	must(t, err)
+	_, _, err = world.Settle(1000)
+	must(t, err)
+	must(t, world.AddWords(1))
+	if asked, again := world.Retry(), world.Retry(); asked != 1 || again != 0 {
+		t.Fatalf("%d nodes ask, and then %d", asked, again)
+	}
+	_, _, err = world.Settle(1000)
+	must(t, err)
+	if claimed := world.Claimed(); claimed != 3 {
+		t.Fatalf("%d words are claimed, not 3", claimed)
+	}
+}
+
 func TestParcelsHaveAnyBytes(t *testing.T) {
 	world := newWorld(t, 2, 1)
 	wide := make([]byte, 65_536)

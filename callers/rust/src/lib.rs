@@ -280,6 +280,12 @@ impl World {
         answer(unsafe { raw::ipcz_add_words(&mut self.0, count) })
     }
 
+    /// Lets each node that found no link word when a portal had moved on ask for one again, and tells how many there were. A node asks once by
+    /// itself, and then stays in the portal's way; so call it behind [`World::add_words`], and then settle. If it tells 0, nothing has changed.
+    pub fn retry(&mut self) -> u64 {
+        unsafe { raw::ipcz_retry(&mut self.0) }
+    }
+
     /// The number of link word `i`, if it was used; docs/PROTOCOL.md, "Link words", reads it.
     pub fn word(&mut self, i: u64) -> Option<u64> {
         let mut word = 0;

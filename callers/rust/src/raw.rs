@@ -124,6 +124,7 @@ unsafe extern "C" {
     pub fn ipcz_claimed(world: *mut Handle) -> u64;
     pub fn ipcz_words_left(world: *mut Handle) -> u64;
     pub fn ipcz_add_words(world: *mut Handle, count: u64) -> u32;
+    pub fn ipcz_retry(world: *mut Handle) -> u64;
     pub fn ipcz_word(world: *mut Handle, i: u64, word: *mut u64) -> bool;
     pub fn ipcz_holder(world: *mut Handle, portal: Portal, node: *mut u8) -> bool;
 

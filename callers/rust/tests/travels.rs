@@ -94,6 +94,20 @@ fn words_are_added() -> Result<(), Refused> {
 }
 
 #[test]
+fn a_node_without_a_word_asks_again() -> Result<(), Refused> {
+    let mut world = World::new(2, 2)?;
+    let (_kept, sent) = world.open(0)?;
+    world.put(0, left(), b"m", &[sent])?;
+    world.settle(1000)?;
+    world.add_words(1)?;
+    world.settle(1000)?;
+    assert_eq!((world.claimed(), world.retry(), world.retry()), (2, 1, 0));
+    world.settle(1000)?;
+    assert_eq!((world.claimed(), world.retry()), (3, 0));
+    Ok(())
+}
+
+#[test]
 fn parcels_have_any_bytes() -> Result<(), Refused> {
     let mut world = World::new(2, 1)?;
     let bytes: Vec<u8> = (0..65_536_u32).map(|i| (i % 256) as u8).collect();

@@ -13,7 +13,9 @@ use Rattle.ipcz_world.specs.Books.{Books, advance}
 use Rattle.ipcz_world.specs.Routes.{Routes, routes_after}
 use Rattle.ipcz_world.specs.HeldEnds.{grown}
 use Rattle.ipcz_world.specs.Lawful.{Lawful}
+use Rattle.ipcz_world.specs.Owed.{IsWet}
 use Rattle.ipcz_world.specs.Plain.{Plain}
+use Rattle.ipcz_world.specs.Retries.{LetAskTold}
 use Rattle.ipcz_world.specs.SettleBounds.{IsLawfulSettle, IsLawfulRefusal}
 use Rattle.ipcz_world.specs.declared.step.Step.{Step}
 use Rattle.ipcz_world.specs.declared.step.Step.TheVariants as steps
@@ -80,6 +82,10 @@ Creates nodes words status new =
 abbrev pub AddsWords : Option World → ℕ → ℕ → Option World → Type 0
 AddsWords old count status new =
     ((status ≡ 0) × (new ≡ option_map (λ w. grown w count) old)) ⊎ ((count ≢ 0) × IsRefused (code_of OutOfMemory) old status new)
+
+-- the routers of the world of a handle that found no word may ask again: so many as are told, and then none is left that may not
+abbrev pub Retries : Option World → ℕ → Option World → Type 0
+Retries old told new = (w : World) → old ≡ Some w → IsSomeAnd new (λ v. LetAskTold w told v × IsWet v)
 
 -- an open
 abbrev pub Opens : Option World → ℕ → ℕ → Portal → Portal → Portal → Portal → Option World → Type 0

@@ -9,7 +9,7 @@ ghost use Rattle.ipcz_c.specs.Named.{named};
 ghost use Rattle.ipcz_c.specs.Statuses.{not_created, already_created};
 ghost use Rattle.ipcz_c.specs.Told.{room_of, fits, TellsSizes};
 ghost use Rattle.ipcz_c.specs.Looks.{Looks};
-ghost use Rattle.ipcz_c.specs.Calls.{IsRefused, is_within, AddsWords, Creates, Opens, Puts, sizes_next, Gets, LacksRoom, Closes, TakesTurn, TellsTurn, Settles, read_off, written};
+ghost use Rattle.ipcz_c.specs.Calls.{IsRefused, is_within, AddsWords, Retries, Creates, Opens, Puts, sizes_next, Gets, LacksRoom, Closes, TakesTurn, TellsTurn, Settles, read_off, written};
 
 use crate::handle::Handle;
 use crate::making::{are_within, boxed_world, lists_of};
@@ -337,6 +337,21 @@ pub extern "C" fn ipcz_add_words(alloc: Global, of: &mut Handle, count: u64) -> 
         Ok(()) => 0,
         Err(why) => refused(why),
     }
+}
+
+/// Lets each proxy that found no link word ask again, and tells how many there were.
+#[unsafe(no_mangle)]
+pub extern "C" fn ipcz_retry(alloc: Global, of: &mut Handle) -> u64
+    ensures did { Retries of.old.held.world result of.new.held.world }
+    ensures none { IsNone of.old.held.world → (result ≡ 0) × (of.new.held.world ≡ of.old.held.world) }
+{
+    if !of.has_world {
+        return 0;
+    }
+    let mut world = of.take(alloc);
+    let asked = world.retry();
+    of.give(world);
+    asked
 }
 
 /// Whether a link word was claimed; then its number is written.

@@ -1,8 +1,8 @@
 use ipcz_base::{Bytes, End, Ends, Refusal, Sequence, Side};
 use ipcz_node::Happened;
 use ipcz_promise::{
-    add_words, close, get, holder_of, is_quiet, new_world, open, play, put, put_wide, run, settle,
-    step, turn, words_left,
+    add_words, close, get, holder_of, is_quiet, new_world, open, play, put, put_wide, retry, run,
+    settle, step, turn, words_left,
 };
 use ipcz_world::{Reply, Settled, Step, World};
 use std::alloc::{AllocError, Global};
@@ -101,6 +101,39 @@ fn grows(alloc: Global) -> Result<bool, Refusal> {
     )
 }
 
+// Whether a portal that moved where no word was left is let out of the way of its parcels once there is one: only then is the word taken. What is
+// held stays so.
+fn asks_again(alloc: Global) -> Result<bool, Refusal> {
+    let mut world = new_world(alloc, 2, 2)?;
+    open(&mut world, 0);
+    put(
+        &mut world,
+        0,
+        LEFT,
+        bytes(alloc, b"m")?,
+        ends(alloc, &[FOURTH])?,
+    )?;
+    settle(&mut world, 100)?;
+    let got = get(&mut world, 1, RIGHT);
+    add_words(&mut world, 1)?;
+    let quiet = is_quiet(&world);
+    let asked = retry(&mut world);
+    let again = retry(&mut world);
+    let waits = !is_quiet(&world);
+    let kept = words_left(&world);
+    settle(&mut world, 100)?;
+    Ok(
+        is_got(&got, 0, b"m", &[FOURTH])
+            && quiet
+            && asked == 1
+            && again == 0
+            && waits
+            && kept == 1
+            && words_left(&world) == 0
+            && holder_of(&world, FOURTH) == Some(1),
+    )
+}
+
 // Whether a portal is held by who gets the parcel that it was put into.
 fn moves(alloc: Global) -> Result<bool, Refusal> {
     let mut world = new_world(alloc, 2, 8)?;
@@ -194,6 +227,11 @@ fn a_parcel_is_got_at_the_peer(rt: HostRuntime) {
 #[test]
 fn words_are_added(rt: HostRuntime) {
     assert_eq!(rt; grows(rt.alloc()), Ok(true));
+}
+
+#[test]
+fn a_portal_that_found_no_word_asks_again(rt: HostRuntime) {
+    assert_eq!(rt; asks_again(rt.alloc()), Ok(true));
 }
 
 #[test]

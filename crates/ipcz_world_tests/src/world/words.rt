@@ -1,7 +1,7 @@
 //! Link words that are used up: what an open and a proxy are answered once each word is claimed.
 
 use super::calls::{Call, first_wrong};
-use super::{A0, B0, a, b, is_refused};
+use super::{A0, A1, B0, B1, a, b, is_refused};
 use ipcz_base::{End, Refusal, Side};
 use ipcz_world::{Reply, Step, World};
 use std::alloc::Global;
@@ -100,4 +100,54 @@ fn gets_words(alloc: Global) -> Result<bool, Refusal> {
 #[test]
 fn words_that_are_added_are_claimed_behind_the_others(rt: HostRuntime) {
     assert_eq!(rt; gets_words(rt.alloc()), Ok(true));
+}
+
+// The portal of side B of pair 1 moves from node 0 to node 1, and no word is left for the proxy that it leaves at node 0, by which it is
+// reached.
+static MOVES: [Call; 6] = [
+    Call::Left(0),
+    Call::Put(0, A0, b"m", &[B1], 0),
+    Call::SettleWithin(1000),
+    Call::Get(1, B0, 0, b"m", &[B1]),
+    Call::Left(0),
+    Call::Routers(0, Some(3)),
+];
+
+// Words alone don't make it go.
+static STAYS: [Call; 4] = [
+    Call::Quiet(true),
+    Call::SettleWithin(1000),
+    Call::Left(2),
+    Call::Routers(0, Some(3)),
+];
+
+// It asks again, and goes; what is put behind it still comes.
+static GOES: [Call; 8] = [
+    Call::Quiet(false),
+    Call::Left(2),
+    Call::Routers(0, Some(3)),
+    Call::SettleWithin(1000),
+    Call::Left(1),
+    Call::Routers(0, Some(2)),
+    Call::Put(0, A1, b"p", &[], 0),
+    Call::SettleWithin(1000),
+];
+
+// Whether a proxy that found no word stays after words were added, and goes once it was let ask again; and whether nothing changes where none
+// waits.
+fn leaves_in_time(alloc: Global) -> Result<bool, Refusal> {
+    let mut world = World::new(alloc, 2, 2)?;
+    let new = world.retry() == 0 && world.is_quiet() && opens(&mut world, 1);
+    let moved = first_wrong(&mut world, alloc, &MOVES)?.is_none();
+    world.add_words(2)?;
+    let stays = first_wrong(&mut world, alloc, &STAYS)?.is_none();
+    let asks = world.retry() == 1 && world.retry() == 0;
+    let goes = first_wrong(&mut world, alloc, &GOES)?.is_none();
+    let last = world.retry() == 0 && world.is_quiet();
+    Ok(new && moved && stays && asks && goes && last)
+}
+
+#[test]
+fn a_proxy_that_found_no_word_goes_once_it_may_ask_again(rt: HostRuntime) {
+    assert_eq!(rt; leaves_in_time(rt.alloc()), Ok(true));
 }
