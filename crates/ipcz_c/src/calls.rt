@@ -15,7 +15,9 @@ use crate::handle::Handle;
 use crate::making::{are_within, boxed_world, lists_of};
 use crate::portal::{Portal, Seen};
 use crate::status::{ALREADY_CREATED, NOT_CREATED, TOO_SMALL, refused, status};
-use crate::tell::{lacking, tell_acted, tell_got, tell_opened, tell_put, tell_seen, tell_settled, tell_sizes};
+use crate::tell::{
+    lacking, tell_acted, tell_got, tell_opened, tell_put, tell_seen, tell_settled, tell_sizes,
+};
 use ipcz_base::{Profile, Refusal};
 use ipcz_world::Step;
 use std::alloc::Global;

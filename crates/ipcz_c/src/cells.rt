@@ -21,7 +21,9 @@ use crate::cell_making::{are_vacant, seat};
 use crate::making::{are_within, have_slots, lists_of};
 use crate::portal::{Portal, Seen};
 use crate::status::{ALREADY_CREATED, NOT_CREATED, TOO_SMALL, refused, status};
-use crate::tell::{got, lacking, outcome, retried, tell_ends, tell_got, tell_number, tell_seen, tell_sizes};
+use crate::tell::{
+    got, lacking, outcome, retried, tell_ends, tell_got, tell_number, tell_seen, tell_sizes,
+};
 use ipcz_base::{Profile, Refusal};
 use ipcz_cell::{NodeSet, start, start_lasting};
 use std::alloc::Global;

@@ -1,15 +1,12 @@
 -- What gets at an end answer, one after the other, by the in queue of its terminal.
-use Rattle.std.proofs.Common.{◌≡◌, ◌≢◌, ℕ, zero, suc, ◌+◌, ◌<◌, ◌≤◌, ◌||◌, Bool, true, false, not, cond, if◌then◌else◌, Option, Some, None}
+use Rattle.std.proofs.Common.{◌≡◌, ℕ, zero, suc, ◌+◌, ◌<◌, ◌≤◌, ◌||◌, Bool, true, false, not, cond, if◌then◌else◌, Option, Some, None}
 use Rattle.std.proofs.Common.{refl, sym, ◌∙◌, ap, subst, arith, inl, inr}
 use Rattle.std.specs.Prelude.{option_map}
-use Rattle.std.specs.Ordering.{nat_cmp, eq_by_cmp}
 use Rattle.std.specs.Cmp.{nat_cmp_total}
-use Rattle.std.specs.FinMap.{get, remove, get-remove, entries}
+use Rattle.std.specs.FinMap.{get, get-remove}
 use Rattle.ipcz_base.specs.declared.end.End.{End}
 use Rattle.ipcz_base.specs.declared.item.Item.{Item}
 use Rattle.ipcz_base.specs.declared.item.Item.TheVariants.{Parcel, Mark, Gone}
-use Rattle.ipcz_base.specs.declared.parcel.Sizes.{Sizes}
-use Rattle.ipcz_base.specs.declared.refusal.Refusal.{Refusal}
 use Rattle.ipcz_base.specs.declared.refusal.Refusal.TheVariants.{Stranger}
 use Rattle.ipcz_base.specs.declared.status.PortalStatus.{PortalStatus}
 use Rattle.ipcz_base.specs.Items.{sizes_in, sizes_of}
@@ -17,10 +14,10 @@ use Rattle.ipcz_seq.specs.Queue.{Queue, current_item, item_at, pop_front}
 use Rattle.ipcz_seq.proofs.Pairs.{one_or_two}
 use Rattle.ipcz_router.specs.Router.{Router}
 use Rattle.ipcz_router.specs.Calls.{item_refusal, router_get_refusal, sizes_found, take_item}
-use Rattle.ipcz_router.specs.Status.{IsStatus, refusal_behind}
+use Rattle.ipcz_router.specs.Status.{IsStatus}
 use Rattle.ipcz_node.specs.Node.{Node, found, holds_end, is_terminal_of, on_found, router_in, terminal_of}
 use Rattle.ipcz_node.specs.Calls.{ends_found, get_at_router, get_node, get_refusal, got_at_found, item_got, next_sizes, number_at, refusal_at}
-use Rattle.ipcz_node.specs.Looking.{after_gets, get_number, IsStatusOf, IsLook}
+use Rattle.ipcz_node.specs.Looking.{after_gets, get_number, IsStatusOf}
 use Rattle.ipcz_node.proofs.Directories.{still_found}
 use Rattle.ipcz_node.proofs.Held.{contains-with_ends}
 use Rattle.ipcz_node.proofs.Written.{insert_here}

@@ -10,7 +10,9 @@ ghost use Rattle.ipcz_router.specs.Status.{HasParcels, IsStatus};
 ghost use Rattle.ipcz_router.specs.Calls.{accept, accept_from_outward, accept_from_inward, accept_refusal, extend, descriptor_of};
 
 use super::Router;
-use ipcz_base::{Descriptor, Item, LAST, LinkEnd, LinkId, Parcel, PortalStatus, Refusal, Side, Sizes};
+use ipcz_base::{
+    Descriptor, Item, LAST, LinkEnd, LinkId, Parcel, PortalStatus, Refusal, Side, Sizes,
+};
 use ipcz_edge::Edge;
 use std::mem;
 

@@ -1,4 +1,4 @@
-use Rattle.std.proofs.Common.{◌≡◌, ◌-◌, Bor, Bool, Option, None, Some, is_some, ap, sym, refl, ◌∙◌}
+use Rattle.std.proofs.Common.{◌≡◌, ◌-◌, Bor, Option, None, Some, is_some, ap, refl, ◌∙◌}
 use Rattle.std.specs.Prelude.{option_copied}
 use Rattle.ipcz_seq.specs.Queue.{item_at}
 use Rattle.ipcz_router.specs.Status.{HasParcels}

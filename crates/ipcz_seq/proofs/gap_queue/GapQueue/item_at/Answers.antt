@@ -5,12 +5,12 @@ use Rattle.ipcz_seq.specs.Queue.{item_at}
 use Rattle.ipcz_seq.proofs.Pairs.{none_below}
 use Rattle.ipcz_seq.proofs.gap_queue.GapQueue.item_at.Goals as goal
 
-pub returns-then-n-self : goal.returns-then-n-self
-returns-then-n-self g c =
-    sym (none_below c.self.inside.current c.args.n c.self.inside.pairs.items c.self.invariant c.if-n-self.true)
+pub returns-else-self-n : goal.returns-else-self-n
+returns-else-self-n g c =
+    sym (none_below c.self.inside.current c.args.n c.self.inside.pairs.items c.self.invariant c.if-self-n.false)
     ∙ sym (get-from_entries nat_cmp_total c.self.inside.pairs.items c.args.n)
     ∙ ap (λ q. item_at q.queue c.args.n) c.self.view_is
 
-pub returns : goal.returns
-returns g c = c.item_of.ensures ∙ sym (get-from_entries nat_cmp_total c.self.inside.pairs.items c.args.n) ∙
+pub returns-then-self-n : goal.returns-then-self-n
+returns-then-self-n g c = c.item_of.ensures ∙ sym (get-from_entries nat_cmp_total c.self.inside.pairs.items c.args.n) ∙
     ap (λ q. item_at q.queue c.args.n) c.self.view_is

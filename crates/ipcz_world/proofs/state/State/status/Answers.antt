@@ -1,4 +1,4 @@
-use Rattle.std.proofs.Common.{◌≡◌, ◌<◌, ap, arith, subst, ◌∙◌}
+use Rattle.std.proofs.Common.{◌≡◌, ap, arith, subst, ◌∙◌}
 use Rattle.ipcz_world.proofs.Vocabulary.{place_at, bare_node, World, node_at}
 use Rattle.ipcz_node.specs.Looking.{IsLook}
 use Rattle.ipcz_world.proofs.state.State.status.Goals as goal
