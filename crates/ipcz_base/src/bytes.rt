@@ -1,6 +1,6 @@
 //! The bytes of a parcel. A few stand in the value itself, and take no memory.
-ghost use Rattle.std.specs.Prelude.{◌≡◌, ◌==◌, ◌<◌, ◌≤◌, [], length, IfOk, IfErr, IsOk, IsErr};
-ghost use Rattle.ipcz_base.specs.Bytes.{most_short, WantsMemory};
+ghost use Rattle.std.specs.Prelude.{◌≡◌, ◌==◌, ◌≤◌, [], length, IfOk, IfErr, IsOk, IsErr};
+ghost use Rattle.ipcz_base.specs.Bytes.{WantsMemory};
 
 use std::alloc::{AllocError, Global};
 use std::fmt;

@@ -1,13 +1,12 @@
 -- A world in which routers ask for a word again stands at the same accounts.
-use Rattle.std.specs.Prelude.{◌≡◌, ◌<◌, ◌-◌, ◌^◌, ℕ, zero, suc, min}
+use Rattle.std.specs.Prelude.{◌≡◌, ◌<◌, ℕ, zero, suc}
 use Rattle.std.proofs.Common.{ap, subst, sym, ◌∙◌, inl, inr, arith}
 use Rattle.std.specs.FinSet as sets
 use Rattle.ipcz_base.specs.Ends.{has_end}
 use Rattle.ipcz_world.specs.Retries.{AllMayAsk, LetAskTold}
-use Rattle.ipcz_world.specs.World.{node_at}
 use Rattle.ipcz_world.proofs.Vocabulary.{World}
 use Rattle.ipcz_promise.specs.Promise.{Account}
-use Rattle.ipcz_promise.specs.Accounting.{Keeps, PendingFits, Stands}
+use Rattle.ipcz_promise.specs.Accounting.{Keeps, Stands}
 use Rattle.ipcz_promise.proofs.Growing.{StaysLawful}
 
 module _ (w v : World) (each : AllMayAsk w v) (lawful : StaysLawful w v) where

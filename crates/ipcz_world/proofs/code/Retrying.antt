@@ -1,5 +1,5 @@
 -- A walk over the nodes of a world that lets each dry router ask again.
-use Rattle.std.specs.Prelude.{◌≡◌, ◌⊎◌, ◌≤◌, ◌<◌, ◌+◌, ◌-◌, ◌^◌, ℕ, zero, suc, min, Bool, true, false, cond, Option, Some, None, length, nat_eq, option_map, refl, List, [], ◌∷◌}
+use Rattle.std.specs.Prelude.{◌≡◌, ◌⊎◌, ◌≤◌, ◌<◌, ◌+◌, ◌-◌, ◌^◌, ℕ, zero, suc, min, true, false, cond, Option, Some, None, length, nat_eq, option_map, refl, List, [], ◌∷◌}
 use Rattle.std.specs.Ordering.{nat_cmp}
 use Rattle.std.specs.FinMap.{FinMap, insert, get-empty}
 use Rattle.std.proofs.Common.{arith, ap, sym, subst, ◌∙◌, inl, inr, true≢false}
@@ -8,9 +8,9 @@ use Rattle.std.proofs.lemmas.Bool.{cases_lt}
 use Rattle.std.proofs.lemmas.Bool.Decides.{nat_tests}
 use Rattle.ipcz_router.specs.ActEffects.{rewet}
 use Rattle.ipcz_node.specs.Node.{router_in, with_router, on_router}
-use Rattle.ipcz_node.specs.Finding.{rewet_node, HasNoDry}
+use Rattle.ipcz_node.specs.Finding.{rewet_node}
 use Rattle.ipcz_node.specs.Finding as nodes
-use Rattle.ipcz_world.proofs.Vocabulary.{Router, Node, World, Key, same_key, Books, bare_node, place_at, node_at, router_at, set_node, set_router}
+use Rattle.ipcz_world.proofs.Vocabulary.{Router, Node, World, Key, same_key, Books, bare_node, place_at, node_at, router_at, set_node}
 use Rattle.ipcz_world.specs.Routes.{Routes}
 use Rattle.ipcz_world.specs.Lawful.{Lawful}
 use Rattle.ipcz_world.specs.Lawfulness.{IsLawful}

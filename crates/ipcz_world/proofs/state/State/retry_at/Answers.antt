@@ -1,4 +1,4 @@
-use Rattle.std.proofs.Common.{ap, sym, subst, ◌∙◌, refl}
+use Rattle.std.proofs.Common.{subst, refl}
 use Rattle.ipcz_node.specs.Finding as nodes
 use Rattle.ipcz_world.proofs.Vocabulary.{Node, World, node_at, set_node}
 use Rattle.ipcz_world.specs.Retries.{LetAskAt}
