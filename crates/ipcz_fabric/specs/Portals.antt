@@ -9,6 +9,8 @@ use Rattle.ipcz_base.specs.declared.refusal.Refusal.{Refusal}
 use Rattle.ipcz_base.specs.declared.refusal.Refusal.TheVariants as refusals
 use Rattle.ipcz_base.specs.Ends.{opposite_end, has_end}
 use Rattle.ipcz_base.specs.Limits.{takes_bytes}
+use Rattle.ipcz_base.specs.declared.status.PortalStatus.{PortalStatus}
+use Rattle.ipcz_node.specs.Looking.{IsLook}
 use Rattle.ipcz_node.specs.Calls.{are_too_many, put_refusal, put_number, get_refusal, got_at, next_sizes, close_refusal}
 use Rattle.ipcz_cell.specs.CellStates.{CellState}
 use Rattle.ipcz_cell.specs.TableNames.{TableName}
@@ -117,3 +119,7 @@ IsClosed t node at number = CellWhere t node (λ c. (close_refusal c.part.state 
 -- a close of an end of a node is refused so: as the node refuses it, and else for want of memory
 abbrev pub IsRefusedClose : TableName → ℕ → End → Refusal → Type 0
 IsRefusedClose t node at why = CellWhere t node (λ c. why ≡ unwrap_or (close_refusal c.part.state at) refusals.OutOfMemory)
+
+-- a look at an end of a node answers so
+abbrev pub IsSeen : TableName → ℕ → End → Option PortalStatus → Type 0
+IsSeen t node at answer = CellWhere t node (λ c. IsLook c.part.state at answer)

@@ -1,6 +1,7 @@
 //! Desks: what lies behind a node's lock. It is the node's cell, whose history tells how its state was reached.
 ghost use Rattle.std.specs.Prelude.{◌≡◌, ◌<◌, ℕ, Result, Ok, Err, true, MatchResult, None, Some, unwrap_or, OnOk, IfOk, IfErr};
 ghost use Rattle.ipcz_node.specs.Calls.{put_refusal, put_number, get_refusal, got_at, close_refusal, next_sizes};
+ghost use Rattle.ipcz_node.specs.Looking.{IsLook};
 ghost use Rattle.ipcz_rule.specs.declared.history.Call.TheVariants as calls;
 ghost use Rattle.ipcz_rule.specs.Histories.{entry_of, noted};
 ghost use Rattle.ipcz_rule.specs.Steps.{put_part, close_part};
@@ -18,7 +19,7 @@ ghost use Rattle.ipcz_fabric.specs.Replays.{Extends, IsNotedCell, Leaves, Leaves
 
 use crate::hub::Hub;
 use crate::portal::{Portal, PortalPutRefused};
-use ipcz_base::{Bytes, End, Parcel, Profile, Refusal, Sizes};
+use ipcz_base::{Bytes, End, Parcel, PortalStatus, Profile, Refusal, Sizes};
 use ipcz_cell::{CallName, CallerSeat, Fabric, FabricName, NodeCell, Retry};
 use ipcz_node::Happened;
 use std::marker::{Brand, Model};
@@ -150,6 +151,13 @@ impl<F: FabricName> Desk<F> {
         ensures { result ≡ next_sizes self.now.part.state at }
     {
         self.cell.next_sizes(at)
+    }
+
+    // What gets at this end would answer.
+    pub(crate) fn look(&self, at: End) -> Option<PortalStatus>
+        ensures { IsLook self.now.part.state at result }
+    {
+        self.cell.look(at)
     }
 
     // Takes one turn of the node.

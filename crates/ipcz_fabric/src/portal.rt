@@ -7,13 +7,14 @@ ghost use Rattle.ipcz_fabric.specs.Places.{IsRefusedInOrder};
 ghost use Rattle.ipcz_fabric.specs.Portals.{ends_of, portals_at, parcel_refusal, wants_list};
 ghost use Rattle.ipcz_fabric.specs.Portals.{IsPut, IsPutRefusal, IsRefusedPut, IsGot, IsGotHere, IsGetRefusal, IsRefusedGetHere, IsRefusedGet};
 ghost use Rattle.ipcz_fabric.specs.Portals.{IsTakeRefusal, IsRefusedTake};
+ghost use Rattle.ipcz_fabric.specs.Portals.{IsSeen};
 ghost use Rattle.ipcz_fabric.specs.Portals.{IsClosed, IsCloseRefusal, IsRefusedClose};
 ghost use Rattle.ipcz_fabric.specs.Replays.{Extends, GetsParcel, LeavesParcel, LeavesPart};
 
 use crate::desk::Desk;
 use crate::hub::Hub;
 use crate::portals::Arrival;
-use ipcz_base::{Bytes, End, Ends, Parcel, Profile, Refusal};
+use ipcz_base::{Bytes, End, Ends, Parcel, PortalStatus, Profile, Refusal};
 use ipcz_cell::{CallerSeat, FabricName, NodeCell};
 use std::alloc::{AllocError, Global};
 use std::marker::{Model, PhantomData};
@@ -325,6 +326,20 @@ impl<F: FabricName> Portal<F> {
         ensures back { IfErr result (λ e. (e.bytes ≡ bytes) × (e.portals.items ≡ portals.items)) }
     {
         hub.caller().put_as(rt, hub, self, profile, bytes, portals)
+    }
+
+    /// What gets at this portal would answer, one after the other, under the lock of the portal's node: the number and the sizes of the next
+    /// parcel, how many parcels wait, and whether the peer has closed behind them. None if the node's callers don't hold the portal's end,
+    /// where a get would be refused `Stranger`. Nothing is taken, and it is no call in the node's history. It is never refused, and takes no
+    /// memory. It looks at each parcel that waits.
+    ///
+    /// Where two parcels of five bytes have come and been left there, `portal.look(rt, &hub)` is
+    /// `Some(PortalStatus { next: 0, sizes: Some(Sizes { bytes: 5, ends: 0 }), waiting: 2, peer_closed: false })`.
+    pub fn look<R: Wait>(&self, rt: &R, hub: &Hub<F>) -> Option<PortalStatus>
+        ensures { IsSeen F.table self.now.node self.now.end result }
+    {
+        let desk = hub.lock(rt, self.place());
+        desk.look(self.end)
     }
 
     /// Takes the next parcel, under the lock of the portal's node. What else holds of it is what `NodeCell::get` says, of the cell as the

@@ -16,6 +16,7 @@ enum Case {
     Stranger,
     PeerAttach,
     OpenAtOne,
+    Seen,
     EarlyEnd,
     DroppedPortal,
     Arrival,
@@ -86,6 +87,27 @@ fn is_at_one<F: FabricName, R: Wait>(rt: &R, hub: &Hub<F>, alloc: Global) -> Opt
     act(rt, hub, 1, 1);
     let got = b.get(rt, hub).ok()?;
     Some(a.node() == 1 && matches!(put, Ok(0)) && !early && got.n == 0)
+}
+
+// Whether a look tells of a parcel once it has come, and of the peer's close behind it, and takes nothing.
+fn is_seen<F: FabricName, R: Wait>(rt: &R, hub: &Hub<F>, alloc: Global) -> Option<bool> {
+    let (a, b) = hub.open_pair(rt, 0).ok()?;
+    let early = b.look(rt, hub)?;
+    let _ = a.put(rt, hub, Vec::new(alloc), Vec::new(alloc));
+    let _ = a.close(rt, hub);
+    act(rt, hub, 0, 20);
+    let late = b.look(rt, hub)?;
+    let got = b.get(rt, hub).ok()?;
+    let over = b.look(rt, hub)?;
+    Some(
+        early.waiting == 0
+            && !early.peer_closed
+            && late.waiting == 1
+            && late.peer_closed
+            && got.n == late.next
+            && over.next == 1
+            && over.sizes.is_none(),
+    )
 }
 
 // Whether a portal whose peer was dropped unclosed waits on.
@@ -218,6 +240,7 @@ fn looks<F: FabricName, R: Wait + Clock>(
         Case::Stranger => is_stranger(rt, hub, alloc),
         Case::PeerAttach => is_attached(rt, hub, alloc),
         Case::OpenAtOne => is_at_one(rt, hub, alloc),
+        Case::Seen => is_seen(rt, hub, alloc),
         Case::EarlyEnd => Some(work(rt, hub, 0, &mut Twice, 10) == 2),
         Case::DroppedPortal => is_open(rt, hub),
         Case::Arrival => arrives(rt, hub, alloc),
@@ -262,6 +285,11 @@ fn a_portal_does_not_take_its_peer_along(rt: HostRuntime) {
 #[test]
 fn a_pair_is_opened_at_the_node_that_was_asked(rt: HostRuntime) {
     assert_eq!(rt; holds(&rt, rt.alloc(), Case::OpenAtOne), Some(true));
+}
+
+#[test]
+fn a_look_at_a_portal_takes_nothing(rt: HostRuntime) {
+    assert_eq!(rt; holds(&rt, rt.alloc(), Case::Seen), Some(true));
 }
 
 #[test]
