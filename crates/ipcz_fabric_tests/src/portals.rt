@@ -93,7 +93,7 @@ fn is_at_one<F: FabricName, R: Wait>(rt: &R, hub: &Hub<F>, alloc: Global) -> Opt
 fn is_seen<F: FabricName, R: Wait>(rt: &R, hub: &Hub<F>, alloc: Global) -> Option<bool> {
     let (a, b) = hub.open_pair(rt, 0).ok()?;
     let early = b.look(rt, hub)?;
-    let _ = a.put(rt, hub, Vec::new(alloc), Vec::new(alloc));
+    let _ = a.put(rt, hub, Bytes::new(), Vec::new(alloc));
     let _ = a.close(rt, hub);
     act(rt, hub, 0, 20);
     let late = b.look(rt, hub)?;
