@@ -101,37 +101,37 @@ fn grows(alloc: Global) -> Result<bool, Refusal> {
     )
 }
 
-// Whether a portal that moved where no word was left is let out of the way of its parcels once there is one: only then is the word taken. What is
-// held stays so.
+// Moves a portal in a world without a word to spare, and gets it on the other node. Its proxy stays.
+fn moves_without_a_word(alloc: Global, world: &mut World) -> Result<Reply, Refusal> {
+    open(world, 0);
+    put(world, 0, LEFT, bytes(alloc, b"m")?, ends(alloc, &[FOURTH])?)?;
+    settle(world, 100)?;
+    Ok(get(world, 1, RIGHT))
+}
+
+// Whether one proxy is let ask again, once: then something waits.
+fn one_is_let_ask(world: &mut World) -> bool {
+    let quiet = is_quiet(world);
+    let asked = retry(world);
+    let again = retry(world);
+    quiet && asked == 1 && again == 0 && !is_quiet(world)
+}
+
+// Whether the proxy takes a word that was added, only once it was let ask again. What is held stays so.
+fn takes_an_added_word(world: &mut World) -> Result<bool, Refusal> {
+    add_words(world, 1)?;
+    let asks = one_is_let_ask(world);
+    let kept = words_left(world);
+    settle(world, 100)?;
+    Ok(asks && kept == 1 && words_left(world) == 0 && holder_of(world, FOURTH) == Some(1))
+}
+
+// Whether a portal that moved where no word was left is let out of the way of its parcels once there is one.
 fn asks_again(alloc: Global) -> Result<bool, Refusal> {
     let mut world = new_world(alloc, 2, 2)?;
-    open(&mut world, 0);
-    put(
-        &mut world,
-        0,
-        LEFT,
-        bytes(alloc, b"m")?,
-        ends(alloc, &[FOURTH])?,
-    )?;
-    settle(&mut world, 100)?;
-    let got = get(&mut world, 1, RIGHT);
-    add_words(&mut world, 1)?;
-    let quiet = is_quiet(&world);
-    let asked = retry(&mut world);
-    let again = retry(&mut world);
-    let waits = !is_quiet(&world);
-    let kept = words_left(&world);
-    settle(&mut world, 100)?;
-    Ok(
-        is_got(&got, 0, b"m", &[FOURTH])
-            && quiet
-            && asked == 1
-            && again == 0
-            && waits
-            && kept == 1
-            && words_left(&world) == 0
-            && holder_of(&world, FOURTH) == Some(1),
-    )
+    let got = moves_without_a_word(alloc, &mut world)?;
+    let takes = takes_an_added_word(&mut world)?;
+    Ok(takes && is_got(&got, 0, b"m", &[FOURTH]))
 }
 
 // Whether a portal is held by who gets the parcel that it was put into.
