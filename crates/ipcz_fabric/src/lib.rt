@@ -8,8 +8,10 @@ mod desk;
 mod hub;
 mod portal;
 mod portals;
+mod scoped;
 mod selecting;
 mod sorting;
+mod users;
 mod workers;
 
 pub use caller::Caller;
@@ -19,5 +21,7 @@ pub use ipcz_cell::{
 };
 pub use portal::{Got, Portal, PortalPutRefused};
 pub use portals::{Arrival, Portals};
+pub use scoped::ScopedPortal;
 pub use selecting::NoneGot;
+pub use users::{CellsUser, HubUser, with_cells, with_hub};
 pub use workers::{Gate, Worker, run_worker, work, work_waiting};

@@ -12,7 +12,7 @@ ghost use Rattle.std.specs.FinMap.{entries};
 ghost use Rattle.std.specs.Prelude.{is_none, IsOk};
 ghost use Rattle.std.specs.Prelude.{[], ◌∷◌};
 ghost use Rattle.ipcz_base.specs.Ends.{end_at};
-ghost use Rattle.ipcz_node.specs.Finding.{IsFound, IsNext, is_terminal_in};
+ghost use Rattle.ipcz_node.specs.Finding.{IsFound, IsNext, is_ready_in, is_terminal_in};
 ghost use Rattle.ipcz_node.specs.Rooms.{put_filed, link_filed, add_filed, drop_filed, hold_filed, HasQueueRoom, rooms_for};
 ghost use Rattle.ipcz_node.specs.Directories.{ends_brought, ends_taken};
 ghost use Rattle.ipcz_node.specs.Directories.{keeps_links};
@@ -478,6 +478,13 @@ impl Directory {
         ensures { IsNext (get self.now.filed.routers) (is_terminal_in self.now.filed.held) serial result }
     {
         self.routers.first_held(serial, &self.held)
+    }
+
+    /// The first router from a serial on that is the open terminal of an end which callers hold, and where a get isn't `Empty`: its serial and that end.
+    pub fn ready_from(&self, serial: u64) -> Option<(u64, End)>
+        ensures { IsNext (get self.now.filed.routers) (is_ready_in self.now.filed.held) serial result }
+    {
+        self.routers.first_ready(serial, &self.held)
     }
 }
 

@@ -4,7 +4,7 @@ ghost use Rattle.std.specs.List.{AllWithin};
 ghost use Rattle.std.specs.Borrow.{sem};
 ghost use Rattle.std.specs.Ordering.{nat_cmp};
 ghost use Rattle.std.specs.FinMap.{find, get, remove, empty, len};
-ghost use Rattle.ipcz_node.specs.Finding.{IsNext, is_terminal_in};
+ghost use Rattle.ipcz_node.specs.Finding.{IsNext, is_ready_in, is_terminal_in};
 ghost use Rattle.ipcz_node.specs.Rooms.{RoutersValue, routers_with};
 ghost use Rattle.ipcz_node.specs.Serials.{key_at, entries_by, map_by, AreRising};
 
@@ -148,6 +148,15 @@ impl Routers {
         first_in(&entries[place..], from, ends)
     }
 
+    /// The first router from a serial on that is the open terminal of one of these ends, and where a get isn't `Empty`: its serial and its end.
+    pub fn first_ready(&self, from: u64, ends: &HeldEnds) -> Option<(u64, End)>
+        ensures { IsNext (get self.now.routers) (is_ready_in ends.now.ends) from result }
+    {
+        let entries = self.entries.as_slice();
+        let place = lower_in(entries, from);
+        ready_in(&entries[place..], from, ends)
+    }
+
     /// The first dry router from a serial on: its serial and its end.
     pub fn next_dry(&self, from: u64) -> Option<(u64, End)>
         ensures found { IsNext (get self.now.routers) (λ r. r.dry) from result }
@@ -269,6 +278,30 @@ fn first_in(entries: &[(u64, Router)], from: u64, ends: &HeldEnds) -> Option<(u6
                 Some((entry.0, end))
             } else {
                 first_in(rest, from, ends)
+            }
+        }
+    }
+}
+
+// Whether a router is the open terminal of one of these ends, and a get there isn't `Empty`.
+fn is_ready_in(router: &Router, ends: &HeldEnds) -> bool
+    ensures { result ≡ is_ready_in ends.now.ends router.now.router }
+{
+    router.is_open_terminal() && ends.has(router.end()) && router.has_come()
+}
+
+// The first entry from a serial on whose router is the open terminal of one of these ends, and where a get isn't `Empty`: its serial and that end.
+fn ready_in(entries: &[(u64, Router)], from: u64, ends: &HeldEnds) -> Option<(u64, End)>
+    requires { (first : ℕ) × (next : ℕ) × AreRising first next entries.now }
+    ensures { IsNext (λ s. find nat_cmp s (entries_by (λ x. x.router) entries.now)) (is_ready_in ends.now.ends) from result }
+{
+    match entries {
+        [] => None,
+        [entry, rest @ ..] => {
+            if from <= entry.0 && is_ready_in(&entry.1, ends) {
+                Some((entry.0, entry.1.end()))
+            } else {
+                ready_in(rest, from, ends)
             }
         }
     }

@@ -1,6 +1,6 @@
 -- What put, get, an item's coming and a move do to a router, and why they are refused.
 -- (ipcz: put and get of a portal; a parcel's coming at a router, inbound or outbound; the making of a new router's descriptor.)
-use Rattle.std.specs.Prelude.{ℕ, Bool, true, false, ◌&&◌, ◌||◌, nat_le, nat_lt, if◌then◌else◌, Option, Some, None}
+use Rattle.std.specs.Prelude.{ℕ, Bool, true, false, ◌&&◌, ◌||◌, nat_le, nat_lt, if◌then◌else◌, Option, Some, None, is_some}
 use Rattle.ipcz_base.specs.declared.side.Side.{Side}
 use Rattle.ipcz_base.specs.declared.link_id.LinkId.{LinkId}
 use Rattle.ipcz_base.specs.declared.link_end.LinkEnd.{LinkEnd}
@@ -38,6 +38,10 @@ item_refusal (Some Gone) = Some PeerClosed
 -- why a get at a terminal is refused
 abbrev pub router_get_refusal : Router → Option Refusal
 router_get_refusal r = item_refusal (current_item r.in_queue)
+
+-- whether a get at a terminal isn't Empty: a parcel has come, or the peer's mark
+abbrev pub has_come : Router → Bool
+has_come r = is_some (current_item r.in_queue)
 
 -- the sizes of the parcel of an item, if there is one and it is a parcel
 unfoldable pub sizes_found : Option Item → Option Sizes

@@ -10,7 +10,7 @@ ghost use Rattle.ipcz_node.specs.Calls.{serials_refusal, open_node, are_held_onc
 ghost use Rattle.ipcz_node.specs.Calls.{put_number, get_refusal, got_at, next_sizes, get_node, close_refusal, close_node, close_end};
 ghost use Rattle.ipcz_node.specs.Looking.{IsLook};
 ghost use Rattle.ipcz_node.specs.Acts.{is_quiet, rest_of};
-ghost use Rattle.ipcz_node.specs.Finding.{IsNextHeld};
+ghost use Rattle.ipcz_node.specs.Finding.{IsNextHeld, IsNextReady};
 ghost use Rattle.ipcz_node.specs.RoomyNodes.{CanOpen, RoomIsKept, IsReadyFor, TakesMore};
 ghost use Rattle.ipcz_node.specs.declared.act.Act.{Act};
 
@@ -427,6 +427,15 @@ impl NodeState {
         ensures { IsNextHeld self.now.node serial result }
     {
         self.routers.held_from(serial)
+    }
+
+    /// The first held end from a router's serial on where a get isn't `Empty`, as [`NodeState::held_from`]: a parcel has come there, or the peer's
+    /// mark. From 0 on, and then each time from the serial after the last one, it gives all of them by rising serials. It looks at each router
+    /// from there on, and takes no memory.
+    pub fn ready_from(&self, serial: u64) -> Option<(u64, End)>
+        ensures { IsNextReady self.now.node serial result }
+    {
+        self.routers.ready_from(serial)
     }
 
     /// The messages that didn't fit, in the order in which they came. It takes no memory.

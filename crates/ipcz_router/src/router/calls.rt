@@ -5,7 +5,7 @@ ghost use Rattle.ipcz_router.specs.Router.{IsOpenTerminal, is_terminal, outward_
 ghost use Rattle.ipcz_seq.specs.Last.{goes_behind};
 ghost use Rattle.ipcz_router.specs.RoomyRouters.{room_for, KeepsRoom, LeavesRoom, LeavesRoomBut};
 ghost use Rattle.ipcz_router.specs.Closing.{close_router};
-ghost use Rattle.ipcz_router.specs.Calls.{next_number, put_item, router_put_refusal, router_get_refusal, item_refusal, take_item, sizes_found, has_place_for};
+ghost use Rattle.ipcz_router.specs.Calls.{next_number, put_item, router_put_refusal, router_get_refusal, item_refusal, take_item, sizes_found, has_place_for, has_come};
 ghost use Rattle.ipcz_router.specs.Status.{HasParcels, IsStatus};
 ghost use Rattle.ipcz_router.specs.Calls.{accept, accept_from_outward, accept_from_inward, accept_refusal, extend, descriptor_of};
 
@@ -101,6 +101,13 @@ impl Router {
             Some(item) => item.sizes(),
             None => None,
         }
+    }
+
+    /// Whether something has come that a get would answer by: a parcel, or the peer's mark. Else a get is `Empty`.
+    pub fn has_come(&self) -> bool
+        ensures { result ≡ has_come self.now.router }
+    {
+        self.in_queue.next().is_some()
     }
 
     /// What gets would answer, one after the other. It looks at each parcel that waits.
