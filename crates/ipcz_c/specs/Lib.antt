@@ -7,3 +7,4 @@ pub mod Named
 pub mod Statuses
 pub mod Told
 pub mod Looks
+pub mod Ready

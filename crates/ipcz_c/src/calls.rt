@@ -9,6 +9,7 @@ ghost use Rattle.ipcz_c.specs.Named.{named};
 ghost use Rattle.ipcz_c.specs.Statuses.{not_created, already_created};
 ghost use Rattle.ipcz_c.specs.Told.{room_of, fits, TellsSizes};
 ghost use Rattle.ipcz_c.specs.Looks.{Looks};
+ghost use Rattle.ipcz_c.specs.Ready.{FindsReady};
 ghost use Rattle.ipcz_c.specs.Calls.{IsRefused, is_within, AddsWords, Retries, Creates, Opens, Puts, sizes_next, Gets, LacksRoom, Closes, TakesTurn, TellsTurn, Settles, read_off, written};
 
 use crate::handle::Handle;
@@ -16,7 +17,7 @@ use crate::making::{are_within, boxed_world, lists_of};
 use crate::portal::{Portal, Seen};
 use crate::status::{ALREADY_CREATED, NOT_CREATED, TOO_SMALL, refused, status};
 use crate::tell::{
-    lacking, tell_acted, tell_got, tell_opened, tell_put, tell_seen, tell_settled, tell_sizes,
+    lacking, tell_acted, tell_got, tell_opened, tell_put, tell_ready, tell_seen, tell_settled, tell_sizes,
 };
 use ipcz_base::{Profile, Refusal};
 use ipcz_world::Step;
@@ -189,6 +190,26 @@ pub extern "C" fn ipcz_look(
     }
     let answer = of.look(alloc, node, at.end());
     tell_seen(answer, seen)
+}
+
+/// The next portal of a node, from a serial on, at which a get wouldn't be `Empty`, and from which serial to ask for the one behind it.
+#[unsafe(no_mangle)]
+pub extern "C" fn ipcz_next_ready(
+    alloc: Global,
+    of: &mut Handle,
+    node: u8,
+    from: &mut u64,
+    at: &mut Portal,
+) -> u32
+    ensures did { IsSome of.old.held.world → FindsReady of.old.held.world node result from.old from.new at.old at.new }
+    ensures same { of.new.held.world ≡ of.old.held.world }
+    ensures none { IsNone of.old.held.world → (result ≡ not_created) × (from.new ≡ from.old) × (at.new ≡ at.old) }
+{
+    if !of.has_world {
+        return NOT_CREATED;
+    }
+    let answer = of.ready_from(alloc, node, *from);
+    tell_ready(answer, from, at)
 }
 
 /// Gets the next parcel at a portal of a node.

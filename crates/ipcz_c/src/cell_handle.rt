@@ -8,6 +8,7 @@ ghost use Rattle.ipcz_cell.specs.Retries.{Retries};
 ghost use Rattle.ipcz_cell.specs.TurnChains.{RunsTouching};
 ghost use Rattle.ipcz_c.specs.CellSteps.{PutsAt, GetsAt, ClosesAt, CountsClaimed};
 ghost use Rattle.ipcz_c.specs.Looks.{IsLookOf};
+ghost use Rattle.ipcz_c.specs.Ready.{IsReadyOf};
 ghost use Rattle.ipcz_c.specs.HeldCells.{HeldCell, IsOnly, table_of, Moves, cell_sizes};
 
 use crate::cell_pointer::CellPointer;
@@ -144,6 +145,24 @@ impl CellHandle {
     {
         let member = self.take::<F>(alloc);
         let answer = member.look(at);
+        self.give(member);
+        answer
+    }
+
+    // The next end at which something has come.
+    pub(crate) fn ready_from<F: FabricName>(
+        &mut self,
+        alloc: Global,
+        serial: u64,
+    ) -> Option<(u64, End)>
+        requires held { IsSome self.old.held.cell }
+        requires named { table_of self.old.held.cell ≡ F.table }
+        requires only { IsOnly F }
+        ensures ready { IsReadyOf self.old.held.cell serial result }
+        ensures same { self.new.held.cell ≡ self.old.held.cell }
+    {
+        let member = self.take::<F>(alloc);
+        let answer = member.ready_from(serial);
         self.give(member);
         answer
     }

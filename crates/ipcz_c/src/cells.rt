@@ -12,6 +12,7 @@ ghost use Rattle.ipcz_c.specs.Statuses.{not_created, already_created};
 ghost use Rattle.ipcz_c.specs.Told.{room_of, fits, TellsSizes};
 ghost use Rattle.ipcz_c.specs.Calls.{IsRefused, is_within, has_slots, LacksRoom};
 ghost use Rattle.ipcz_c.specs.Looks.{CellLooks};
+ghost use Rattle.ipcz_c.specs.Ready.{CellFindsReady};
 ghost use Rattle.ipcz_c.specs.CellSteps.{CountsClaimed};
 ghost use Rattle.ipcz_c.specs.HeldCells.{HeldCell, Moves, cell_sizes};
 ghost use Rattle.ipcz_c.specs.CellCalls.{CellOpens, CellPuts, CellGets, CellCloses, CellActs, CellRetries, CellReads, are_vacant, CellsAreMade, CellsLast};
@@ -22,7 +23,7 @@ use crate::making::{are_within, have_slots, lists_of};
 use crate::portal::{Portal, Seen};
 use crate::status::{ALREADY_CREATED, NOT_CREATED, TOO_SMALL, refused, status};
 use crate::tell::{
-    got, lacking, outcome, retried, tell_ends, tell_got, tell_number, tell_seen, tell_sizes,
+    got, lacking, outcome, retried, tell_ends, tell_got, tell_number, tell_ready, tell_seen, tell_sizes,
 };
 use ipcz_base::{Profile, Refusal};
 use ipcz_cell::{NodeSet, start, start_lasting};
@@ -223,6 +224,26 @@ pub extern "C" fn ipcz_cell_look(
     }
     let answer = of.look::<Brand>(alloc, at.end());
     tell_seen(answer, seen)
+}
+
+/// The next portal of the node, from a serial on, at which a get wouldn't be `Empty`, and from which serial to ask for the one behind it.
+#[unsafe(no_mangle)]
+#[tactic(auto, using(crate::proofs::SameOwner::brand_only))]
+pub extern "C" fn ipcz_cell_next_ready(
+    alloc: Global,
+    of: &mut CellHandle,
+    from: &mut u64,
+    at: &mut Portal,
+) -> u32
+    ensures did { IsSome of.old.held.cell → CellFindsReady of.old.held.cell result from.old from.new at.old at.new }
+    ensures same { of.new.held.cell ≡ of.old.held.cell }
+    ensures none { IsNone of.old.held.cell → (result ≡ not_created) × (from.new ≡ from.old) × (at.new ≡ at.old) }
+{
+    if !of.has_cell {
+        return NOT_CREATED;
+    }
+    let answer = of.ready_from::<Brand>(alloc, *from);
+    tell_ready(answer, from, at)
 }
 
 /// Gets the next parcel at a portal of the node.

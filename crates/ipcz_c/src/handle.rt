@@ -4,6 +4,7 @@ ghost use Rattle.std.specs.Option.{is_some};
 ghost use Rattle.ipcz_world.specs.declared.step.Step.TheVariants as steps;
 ghost use Rattle.ipcz_world.specs.Steps.{put_of, sizes_given};
 ghost use Rattle.ipcz_c.specs.Looks.{IsLookIn};
+ghost use Rattle.ipcz_c.specs.Ready.{IsReadyIn};
 ghost use Rattle.ipcz_c.specs.Calls.{Steps, Keeps, RepliesPlainly, sizes_next, SettlesTo};
 
 use crate::parts::Parts;
@@ -125,6 +126,18 @@ impl Handle {
     {
         let world = self.take(alloc);
         let answer = world.look(node, at);
+        self.give(world);
+        answer
+    }
+
+    // The next end of a node, out of the world of a handle that has one, at which something has come.
+    pub(crate) fn ready_from(&mut self, alloc: Global, node: u8, serial: u64) -> Option<(u64, End)>
+        requires { IsSome self.old.held.world }
+        ensures ready { IsReadyIn self.old.held.world node serial result }
+        ensures same { self.new.held.world ≡ self.old.held.world }
+    {
+        let world = self.take(alloc);
+        let answer = world.ready_from(node, serial);
         self.give(world);
         answer
     }

@@ -2,6 +2,7 @@
 ghost use Rattle.std.specs.Prelude.{◌≡◌, Some, IfOk};
 ghost use Rattle.ipcz_base.specs.Items.{sizes_of};
 ghost use Rattle.ipcz_node.specs.Calls.{next_sizes};
+ghost use Rattle.ipcz_node.specs.Finding.{IsNextReady};
 ghost use Rattle.ipcz_node.specs.Looking.{IsLook};
 ghost use Rattle.ipcz_node.specs.Node.{holds_end};
 ghost use Rattle.ipcz_cell.specs.Opens.{OpensPair, FindsQuiet, ShowsWord};
@@ -74,6 +75,12 @@ impl<F: FabricName> Member<F> {
         ensures { IsLook self.now.part.state at result }
     {
         self.cell.look(at)
+    }
+
+    pub(crate) fn ready_from(&self, serial: u64) -> Option<(u64, End)>
+        ensures { IsNextReady self.now.part.state serial result }
+    {
+        self.cell.ready_from(serial)
     }
 
     pub(crate) fn close(&mut self, at: End) -> Result<u64, Refusal>

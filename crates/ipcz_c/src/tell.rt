@@ -3,6 +3,7 @@ ghost use Rattle.std.specs.Prelude.{◌≡◌, ◌≤◌, true, false, Some, IfS
 ghost use Rattle.ipcz_world.specs.Steps.{sizes_given};
 ghost use Rattle.ipcz_c.specs.CellCalls.{outcome_of, IsNumbered, AreEnds, get_answer, retry_code};
 ghost use Rattle.ipcz_c.specs.Looks.{TellsSeen};
+ghost use Rattle.ipcz_c.specs.Ready.{TellsReady};
 ghost use Rattle.ipcz_c.specs.Told.{room_of, fits, AreOpened, IsPut, IsActed, TellsSizes, AreAtFront, AreNamedAtFront, IsGot, IsSettled};
 
 use crate::portal::{Portal, Seen, portal_of};
@@ -78,6 +79,19 @@ pub(crate) fn tell_seen(answer: Option<PortalStatus>, seen: &mut Seen) -> u32
         count,
         peer_closed: told.peer_closed,
     };
+    0
+}
+
+// The next end at which something has come, and from which serial to ask for the one behind it; its status.
+#[tactic(auto, unfolding(crate::specs::Ready::TellsReady))]
+pub(crate) fn tell_ready(answer: Option<(u64, End)>, from: &mut u64, at: &mut Portal) -> u32
+    ensures { TellsReady answer result from.old from.new at.old at.new }
+{
+    let Some((serial, end)) = answer else {
+        return refused(Refusal::Empty);
+    };
+    *from = serial.saturating_add(1);
+    *at = portal_of(end);
     0
 }
 

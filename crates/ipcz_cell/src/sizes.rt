@@ -1,6 +1,7 @@
-//! How large the parcel is that a get would give, and how many wait.
+//! How large the parcel is that a get would give, how many wait, and at which ends one does.
 ghost use Rattle.std.specs.Prelude.{◌≡◌};
 ghost use Rattle.ipcz_node.specs.Calls.{next_sizes};
+ghost use Rattle.ipcz_node.specs.Finding.{IsNextReady};
 ghost use Rattle.ipcz_node.specs.Looking.{IsLook};
 
 use crate::cell::NodeCell;
@@ -29,5 +30,17 @@ impl<F: FabricName> NodeCell<F> {
         ensures { IsLook self.now.part.state at result }
     {
         self.state.status(at)
+    }
+
+    /// The first end, from a serial on, that the node's callers hold and where a get isn't `Empty`: a parcel has come there, or the peer has closed and
+    /// all that was put was got. With it stands the serial of the router at which it was found; ask from the serial behind that for the next one.
+    /// So from 0 on all such ends come, each once, as long as the cell is called for nothing else meanwhile. None if there is no further one. It looks
+    /// at each router of the node from there on, is never refused, and takes no memory.
+    ///
+    /// Where a parcel has come at `at` alone, `cell.ready_from(0)` is `Some((serial, at))`, and `cell.ready_from(serial + 1)` is none.
+    pub fn ready_from(&self, serial: u64) -> Option<(u64, End)>
+        ensures { IsNextReady self.now.part.state serial result }
+    {
+        self.state.ready_from(serial)
     }
 }

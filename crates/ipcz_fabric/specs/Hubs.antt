@@ -1,6 +1,6 @@
 -- The portals that a hub begins with: one for each end that callers of its nodes hold, by node and then by the serial of the end's
 -- terminal. What its calls answer: what the call of some cell of the node answers.
-use Rattle.std.specs.Prelude.{◌≡◌, ◌⊎◌, ◌<◌, ◌≤◌, ◌+◌, ◌^◌, ℕ, Bool, true, false, List, [], ◌∷◌, ◌++◌, Some, None, Result, Ok, Err, MatchBool}
+use Rattle.std.specs.Prelude.{◌≡◌, ◌⊎◌, ◌<◌, ◌≤◌, ◌+◌, ◌^◌, ℕ, Bool, true, false, List, [], ◌∷◌, ◌++◌, Option, Some, None, Result, Ok, Err, MatchBool}
 use Rattle.ipcz_base.specs.declared.end.End.{End}
 use Rattle.ipcz_base.specs.declared.side.Side.TheVariants.{A, B}
 use Rattle.ipcz_base.specs.declared.refusal.Refusal.{Refusal}
@@ -9,7 +9,7 @@ use Rattle.ipcz_base.specs.Ends.{end_at}
 use Rattle.ipcz_node.specs.declared.happened.Happened.{Happened}
 use Rattle.ipcz_node.specs.declared.happened.Happened.TheVariants.{Idle}
 use Rattle.ipcz_node.specs.Node.{Node}
-use Rattle.ipcz_node.specs.Finding.{IsNextHeld}
+use Rattle.ipcz_node.specs.Finding.{IsNextHeld, IsNextReady}
 use Rattle.ipcz_cell.specs.TableNames.{TableName}
 use Rattle.ipcz_cell.specs.CellStates.{CellState}
 use Rattle.ipcz_cell.specs.Making.{AreFirst}
@@ -91,6 +91,10 @@ IsAskingAnswer t node answer asks = CellWhere t node (λ old. (by : ℕ) × (new
 -- a proxy of a node that asks again is answered this
 abbrev pub IsRetryAnswer : TableName → ℕ → Result Retry Refusal → Type 0
 IsRetryAnswer t node answer = CellWhere t node (λ old. (found : Retry) × (new : CellState) × Retries t old found new × (answer ≡ Ok found))
+
+-- the next ready end of a node is this: the first from a router's serial on that its callers hold and where a get isn't Empty
+abbrev pub IsReadyAnswer : TableName → ℕ → ℕ → Option (ℕ × End) → Type 0
+IsReadyAnswer t node serial answer = CellWhere t node (λ c. IsNextReady c.part.state serial answer)
 
 -- portals of both sides of a pair, at a node: the pair is that of a link word
 pub record ArePair (size node : ℕ) (portals : PortalValue × PortalValue) : Type 0 where

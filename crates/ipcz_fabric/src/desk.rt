@@ -1,6 +1,7 @@
 //! Desks: what lies behind a node's lock. It is the node's cell, whose history tells how its state was reached.
 ghost use Rattle.std.specs.Prelude.{◌≡◌, ◌<◌, ℕ, Result, Ok, Err, true, MatchResult, None, Some, unwrap_or, OnOk, IfOk, IfErr};
 ghost use Rattle.ipcz_node.specs.Calls.{put_refusal, put_number, get_refusal, got_at, close_refusal, next_sizes};
+ghost use Rattle.ipcz_node.specs.Finding.{IsNextReady};
 ghost use Rattle.ipcz_node.specs.Looking.{IsLook};
 ghost use Rattle.ipcz_rule.specs.declared.history.Call.TheVariants as calls;
 ghost use Rattle.ipcz_rule.specs.Histories.{entry_of, noted};
@@ -158,6 +159,13 @@ impl<F: FabricName> Desk<F> {
         ensures { IsLook self.now.part.state at result }
     {
         self.cell.look(at)
+    }
+
+    // The next held end from a router's serial on where a get isn't Empty.
+    pub(crate) fn ready_from(&self, serial: u64) -> Option<(u64, End)>
+        ensures { IsNextReady self.now.part.state serial result }
+    {
+        self.cell.ready_from(serial)
     }
 
     // Takes one turn of the node.

@@ -1,17 +1,17 @@
 //! Hubs: cells that threads share, each behind a lock of its own. There is no other lock.
-ghost use Rattle.std.specs.Prelude.{◌≡◌, ◌≤◌, ◌<◌, [], true, OnOk, IfOk, IfErr, Err, length, vec_len, vec_capacity};
+ghost use Rattle.std.specs.Prelude.{◌≡◌, ◌≤◌, ◌<◌, [], true, None, OnOk, IfOk, IfErr, Err, length, vec_len, vec_capacity};
 ghost use Rattle.std.specs.Sync.Mutex.{mutex_guard_value};
 ghost use Rattle.ipcz_cell.specs.Ending.{FinishRefuses, is_in_order};
 ghost use Rattle.ipcz_fabric.specs.Places.{IsCellOf};
 ghost use Rattle.ipcz_fabric.specs.Sorting.{AreSorted, standing};
 ghost use Rattle.ipcz_fabric.specs.Hubs.{AddsFirst, AddsHeld, AreFirstPortals, ArePair};
-ghost use Rattle.ipcz_fabric.specs.Hubs.{AreTurnAnswers, ExtendsByTurn, IsOpenAnswer, IsOpenRefusal, IsRetryAnswer, IsTurnAnswer, IsTurnRefusal, TurnsAsking, is_again, is_idle};
+ghost use Rattle.ipcz_fabric.specs.Hubs.{AreTurnAnswers, ExtendsByTurn, IsOpenAnswer, IsOpenRefusal, IsReadyAnswer, IsRetryAnswer, IsTurnAnswer, IsTurnRefusal, TurnsAsking, is_again, is_idle};
 
 use crate::caller::Caller;
 use crate::desk::Desk;
 use crate::portal::Portal;
 use crate::sorting::{cells_at, empty_places, put_in_place};
-use ipcz_base::Refusal;
+use ipcz_base::{End, Refusal};
 use ipcz_cell::{CallerSeat, Fabric, FabricName, NodeCell, Retry};
 use ipcz_node::Happened;
 use std::alloc::{AllocError, Global};
@@ -290,6 +290,25 @@ impl<F: FabricName> Hub<F> {
         ensures answer { node < F.table.count → IsRetryAnswer F.table node result }
     {
         self.caller().retry(rt, self, node)
+    }
+
+    /// The first end, from a serial on, that a node's callers hold and where a get isn't `Empty`, under that node's lock: a parcel has come there, or
+    /// the peer has closed and all that was put was got. With it stands the serial of the router at which it was found; ask from the serial behind
+    /// that for the next one. Which portal it is tells [`Portal::end`]. Somebody else may get there meanwhile; it is no call in the node's history. None
+    /// if there is no further one, or no node of that number. It looks at each router of the node from there on, is never refused, and takes no
+    /// memory.
+    ///
+    /// Where a parcel has come at `portal` of node 1 alone, `hub.ready_from(rt, 1, 0)` is `Some((serial, portal.end()))`, and
+    /// `hub.ready_from(rt, 1, serial + 1)` is none.
+    pub fn ready_from<R: Wait>(&self, rt: &R, node: u8, serial: u64) -> Option<(u64, End)>
+        ensures stranger { F.table.count ≤ node → result ≡ None }
+        ensures answer { node < F.table.count → IsReadyAnswer F.table node serial result }
+    {
+        if node >= self.nodes() {
+            return None;
+        }
+        let desk = self.lock(rt, node);
+        desk.ready_from(serial)
     }
 
     /// Takes one turn of a node, as `turn`, and sleeps if it was idle: until a message is posted to the node, a message of it is handled,

@@ -1,4 +1,5 @@
 ghost use Rattle.std.specs.Prelude.{◌≡◌, ◌<◌, ◌≤◌, ◌+◌, ℕ, true, false, IfOk, IfErr, IfSome, IsOk, OnErr, OnOk, map, None};
+ghost use Rattle.ipcz_node.specs.Finding.{IsNextReady};
 ghost use Rattle.ipcz_node.specs.Looking.{IsLook};
 ghost use Rattle.ipcz_base.specs.declared.link_end.LinkEnd.{LinkEnd};
 ghost use Rattle.ipcz_word.specs.Layout.{word_of_bits};
@@ -384,6 +385,19 @@ impl World {
         ensures away { self.now.count ≤ node → result ≡ None }
     {
         self.state.status(node, at)
+    }
+
+    /// The first end, from a serial on, that a node's callers hold and where a get isn't `Empty`: a parcel has come there, or the peer has closed and
+    /// all that was put was got. With it stands the serial of the router at which it was found; ask from the serial behind that for the next one.
+    /// So from 0 on all such ends come, each once, as long as the node takes no turn and no call meanwhile. None if there is no further one, or the
+    /// node isn't one of the world's. It looks at each router of the node from there on, is never refused, and takes no memory.
+    ///
+    /// Where a parcel has come at `right` alone, `world.ready_from(1, 0)` is `Some((serial, right))`, and `world.ready_from(1, serial + 1)` is none.
+    pub fn ready_from(&self, node: u8, serial: u64) -> Option<(u64, End)>
+        ensures here { node < self.now.count → IsNextReady (node_at self.now node) serial result }
+        ensures away { self.now.count ≤ node → result ≡ None }
+    {
+        self.state.ready_from(node, serial)
     }
 
     /// Takes each of these steps, in their order, and gives their replies. Refused `OutOfMemory` if there is no room for the replies:

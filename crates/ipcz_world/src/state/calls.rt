@@ -1,6 +1,7 @@
 //! What callers do at a node of the world: open, put, get and close.
 
 ghost use Rattle.std.specs.Prelude.{◌≡◌, ◌<◌, ◌≤◌, None, IfOk, IfErr};
+ghost use Rattle.ipcz_node.specs.Finding.{IsNextReady};
 ghost use Rattle.ipcz_node.specs.Looking.{IsLook};
 ghost use Rattle.ipcz_world.specs.World.{node_at};
 ghost use Rattle.ipcz_world.specs.Steps.{StepFirst};
@@ -165,6 +166,18 @@ impl State {
             return None;
         }
         self.nodes.node(n).status(at)
+    }
+
+    /// The first held end of a node, from a router's serial on, where a get isn't `Empty`; none at a node that isn't there.
+    pub(crate) fn ready_from(&self, n: u8, serial: u64) -> Option<(u64, End)>
+        requires { IsRegular self.now }
+        ensures here { n < self.now.count → IsNextReady (node_at self.now n) serial result }
+        ensures away { self.now.count ≤ n → result ≡ None }
+    {
+        if n >= self.count {
+            return None;
+        }
+        self.nodes.node(n).ready_from(serial)
     }
 
     /// Closes an end.
