@@ -1,6 +1,7 @@
-//! How large the parcel is that a get would give, and how many wait.
+//! How large the parcel is that a get would give, and how many wait; and whether an end has arrived.
 ghost use Rattle.std.specs.Prelude.{◌≡◌};
 ghost use Rattle.ipcz_node.specs.Calls.{next_sizes};
+ghost use Rattle.ipcz_node.specs.Arriving.{arrival_of};
 ghost use Rattle.ipcz_node.specs.Looking.{IsLook};
 
 use crate::cell::NodeCell;
@@ -29,5 +30,16 @@ impl<F: FabricName> NodeCell<F> {
         ensures { IsLook self.now.part.state at result }
     {
         self.state.status(at)
+    }
+
+    /// Whether this end has arrived, so that it leaves at most one proxy in its route if it travels on now: what `World::has_arrived` says, of
+    /// this node. None if the node's callers don't hold the end. It is never refused, takes no memory and touches no word.
+    ///
+    /// An end of a pair that was opened here has arrived at once. Where one has just come in a parcel, `cell.has_arrived(at)` is `Some(false)`,
+    /// and `Some(true)` once the nodes that it came by have bypassed its proxies.
+    pub fn has_arrived(&self, at: End) -> Option<bool>
+        ensures { result ≡ arrival_of self.now.part.state at }
+    {
+        self.state.has_arrived(at)
     }
 }
