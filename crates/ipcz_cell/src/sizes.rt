@@ -1,5 +1,6 @@
-//! How large the parcel is that a get would give, how many wait, and at which ends one does.
+//! How large the parcel is that a get would give, how many wait, and at which ends one does; and whether an end has arrived.
 ghost use Rattle.std.specs.Prelude.{◌≡◌};
+ghost use Rattle.ipcz_node.specs.Arriving.{arrival_of};
 ghost use Rattle.ipcz_node.specs.Calls.{next_sizes};
 ghost use Rattle.ipcz_node.specs.Finding.{IsNextReady};
 ghost use Rattle.ipcz_node.specs.Looking.{IsLook};
@@ -42,5 +43,16 @@ impl<F: FabricName> NodeCell<F> {
         ensures { IsNextReady self.now.part.state serial result }
     {
         self.state.ready_from(serial)
+    }
+
+    /// Whether this end has arrived, so that it leaves at most one proxy in its route if it travels on now: what `World::has_arrived` says, of
+    /// this node. None if the node's callers don't hold the end. It is never refused, takes no memory and touches no word.
+    ///
+    /// An end of a pair that was opened here has arrived at once. Where one has just come in a parcel, `cell.has_arrived(at)` is `Some(false)`,
+    /// and `Some(true)` once the nodes that it came by have bypassed its proxies.
+    pub fn has_arrived(&self, at: End) -> Option<bool>
+        ensures { result ≡ arrival_of self.now.part.state at }
+    {
+        self.state.has_arrived(at)
     }
 }

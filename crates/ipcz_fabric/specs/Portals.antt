@@ -10,6 +10,7 @@ use Rattle.ipcz_base.specs.declared.refusal.Refusal.TheVariants as refusals
 use Rattle.ipcz_base.specs.Ends.{opposite_end, has_end}
 use Rattle.ipcz_base.specs.Limits.{takes_bytes}
 use Rattle.ipcz_base.specs.declared.status.PortalStatus.{PortalStatus}
+use Rattle.ipcz_node.specs.Arriving.{arrival_of}
 use Rattle.ipcz_node.specs.Looking.{IsLook}
 use Rattle.ipcz_node.specs.Calls.{are_too_many, put_refusal, put_number, get_refusal, got_at, next_sizes, close_refusal}
 use Rattle.ipcz_cell.specs.CellStates.{CellState}
@@ -123,3 +124,7 @@ IsRefusedClose t node at why = CellWhere t node (λ c. why ≡ unwrap_or (close_
 -- a look at an end of a node answers so
 abbrev pub IsSeen : TableName → ℕ → End → Option PortalStatus → Type 0
 IsSeen t node at answer = CellWhere t node (λ c. IsLook c.part.state at answer)
+
+-- whether an end of a node has arrived is answered so
+abbrev pub HasArrivedOrNot : TableName → ℕ → End → Option Bool → Type 0
+HasArrivedOrNot t node at answer = CellWhere t node (λ c. answer ≡ arrival_of c.part.state at)

@@ -1,6 +1,7 @@
 //! Desks: what lies behind a node's lock. It is the node's cell, whose history tells how its state was reached.
 ghost use Rattle.std.specs.Prelude.{◌≡◌, ◌<◌, ℕ, Result, Ok, Err, true, MatchResult, None, Some, unwrap_or, OnOk, IfOk, IfErr};
 ghost use Rattle.ipcz_node.specs.Calls.{put_refusal, put_number, get_refusal, got_at, close_refusal, next_sizes};
+ghost use Rattle.ipcz_node.specs.Arriving.{arrival_of};
 ghost use Rattle.ipcz_node.specs.Finding.{IsNextReady};
 ghost use Rattle.ipcz_node.specs.Looking.{IsLook};
 ghost use Rattle.ipcz_rule.specs.declared.history.Call.TheVariants as calls;
@@ -166,6 +167,13 @@ impl<F: FabricName> Desk<F> {
         ensures { IsNextReady self.now.part.state serial result }
     {
         self.cell.ready_from(serial)
+    }
+
+    // Whether this end has arrived.
+    pub(crate) fn has_arrived(&self, at: End) -> Option<bool>
+        ensures { result ≡ arrival_of self.now.part.state at }
+    {
+        self.cell.has_arrived(at)
     }
 
     // Takes one turn of the node.

@@ -7,7 +7,7 @@ ghost use Rattle.ipcz_fabric.specs.Places.{IsRefusedInOrder};
 ghost use Rattle.ipcz_fabric.specs.Portals.{ends_of, portals_at, parcel_refusal, wants_list};
 ghost use Rattle.ipcz_fabric.specs.Portals.{IsPut, IsPutRefusal, IsRefusedPut, IsGot, IsGotHere, IsGetRefusal, IsRefusedGetHere, IsRefusedGet};
 ghost use Rattle.ipcz_fabric.specs.Portals.{IsTakeRefusal, IsRefusedTake};
-ghost use Rattle.ipcz_fabric.specs.Portals.{IsSeen};
+ghost use Rattle.ipcz_fabric.specs.Portals.{HasArrivedOrNot, IsSeen};
 ghost use Rattle.ipcz_fabric.specs.Portals.{IsClosed, IsCloseRefusal, IsRefusedClose};
 ghost use Rattle.ipcz_fabric.specs.Replays.{Extends, GetsParcel, LeavesParcel, LeavesPart};
 
@@ -340,6 +340,19 @@ impl<F: FabricName> Portal<F> {
     {
         let desk = hub.lock(rt, self.place());
         desk.look(self.end)
+    }
+
+    /// Whether this portal has arrived where it is held, under the lock of the portal's node, so that it leaves at most one proxy in its route
+    /// if it travels on now: what `World::has_arrived` says, of this node. None if the node's callers don't hold the portal's end. It is no call
+    /// in the node's history, is never refused, and takes no memory.
+    ///
+    /// A portal of a pair that was opened here has arrived at once. Where one has just come in a parcel, `portal.has_arrived(rt, &hub)` is
+    /// `Some(false)`, and `Some(true)` once the nodes that it came by have bypassed its proxies.
+    pub fn has_arrived<R: Wait>(&self, rt: &R, hub: &Hub<F>) -> Option<bool>
+        ensures { HasArrivedOrNot F.table self.now.node self.now.end result }
+    {
+        let desk = hub.lock(rt, self.place());
+        desk.has_arrived(self.end)
     }
 
     /// Takes the next parcel, under the lock of the portal's node. What else holds of it is what `NodeCell::get` says, of the cell as the

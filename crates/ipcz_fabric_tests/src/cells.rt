@@ -57,6 +57,8 @@ enum Call {
     Get(End, &'static [u8], &'static [End], u64),
     /// What gets at an end would answer: the number of the next parcel, its sizes, how many wait, and whether the peer has closed.
     Look(End, Option<PortalStatus>),
+    /// Whether an end has arrived, or none if the node's callers don't hold it.
+    Arrived(End, Option<bool>),
     /// Closes an end, whose mark has this number.
     Close(End, u64),
     /// Loads how many link words were claimed.
@@ -174,6 +176,7 @@ fn gives<F: FabricName>(
         Call::Touches(limit, number, nodes) => touches(fabric, cell, limit, number, nodes),
         Call::Get(at, data, ends, number) => gets(fabric, cell, at, (data, ends), number),
         Call::Look(at, want) => Ok(cell.look(at) == want),
+        Call::Arrived(at, want) => Ok(cell.has_arrived(at) == want),
         Call::Close(at, number) => Ok(cell.close(fabric, at)? == number),
         Call::Claimed(count) => Ok(cell.claimed(fabric) == count),
         Call::Word(i, word) => Ok(cell.word(fabric, i) == Some(word)),

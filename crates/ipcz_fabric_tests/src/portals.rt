@@ -17,6 +17,7 @@ enum Case {
     PeerAttach,
     OpenAtOne,
     Seen,
+    Arrived,
     EarlyEnd,
     DroppedPortal,
     Arrival,
@@ -108,6 +109,12 @@ fn is_seen<F: FabricName, R: Wait>(rt: &R, hub: &Hub<F>, alloc: Global) -> Optio
             && over.next == 1
             && over.sizes.is_none(),
     )
+}
+
+// Whether both portals of a pair have arrived where it was opened.
+fn are_at_home<F: FabricName, R: Wait>(rt: &R, hub: &Hub<F>) -> Option<bool> {
+    let (a, b) = hub.open_pair(rt, 1).ok()?;
+    Some(a.has_arrived(rt, hub)? && b.has_arrived(rt, hub)?)
 }
 
 // Whether a portal whose peer was dropped unclosed waits on.
@@ -241,6 +248,7 @@ fn looks<F: FabricName, R: Wait + Clock>(
         Case::PeerAttach => is_attached(rt, hub, alloc),
         Case::OpenAtOne => is_at_one(rt, hub, alloc),
         Case::Seen => is_seen(rt, hub, alloc),
+        Case::Arrived => are_at_home(rt, hub),
         Case::EarlyEnd => Some(work(rt, hub, 0, &mut Twice, 10) == 2),
         Case::DroppedPortal => is_open(rt, hub),
         Case::Arrival => arrives(rt, hub, alloc),
@@ -290,6 +298,11 @@ fn a_pair_is_opened_at_the_node_that_was_asked(rt: HostRuntime) {
 #[test]
 fn a_look_at_a_portal_takes_nothing(rt: HostRuntime) {
     assert_eq!(rt; holds(&rt, rt.alloc(), Case::Seen), Some(true));
+}
+
+#[test]
+fn a_portal_has_arrived_where_it_was_opened(rt: HostRuntime) {
+    assert_eq!(rt; holds(&rt, rt.alloc(), Case::Arrived), Some(true));
 }
 
 #[test]

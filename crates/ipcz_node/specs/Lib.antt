@@ -1,4 +1,5 @@
 pub mod Acts
+pub mod Arriving
 pub mod Calls
 pub mod Deliveries
 pub mod Directories

@@ -1,6 +1,7 @@
 pub mod ActEffects
 pub mod ActTable
 pub mod Acts
+pub mod Arrivals
 pub mod Bypass
 pub mod Calls
 pub mod Carrying

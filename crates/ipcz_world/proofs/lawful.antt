@@ -1,5 +1,6 @@
 -- What follows of each lawful world: the laws, that a router which has tried for a lock is remembered, and what each act makes of the rank.
 pub mod Acting
+pub mod Arriving
 pub mod CalmNodes
 pub mod CalmRouters
 pub mod CalmWorlds

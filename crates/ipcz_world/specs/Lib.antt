@@ -1,4 +1,5 @@
 pub mod Acts
+pub mod Arrived
 pub mod Asking
 pub mod Books
 pub mod Bypasses

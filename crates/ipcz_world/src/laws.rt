@@ -14,6 +14,7 @@ ghost use Rattle.ipcz_world.specs.WorldLaws.{RunsArePlain, RepliesStrayNothing};
 ghost use Rattle.ipcz_world.specs.SettleLimit.{RankIsWithinLimit, SettleLimitIsEnough};
 ghost use Rattle.ipcz_world.specs.PutBounds.{StayingIsUnused, PutsAreBounded, DirectPutsAreBounded};
 ghost use Rattle.ipcz_world.specs.Theorem.{TheTheoremHolds};
+ghost use Rattle.ipcz_world.specs.Arrived.{ArrivedLeaveProxiesBehind};
 ghost use Rattle.ipcz_world.specs.Lasting.{LastingRunsKeepTheTheorem, DeedsKeepRanks, DeedsKeepEnds};
 ghost use Rattle.ipcz_world.specs.HeldEnds.{PassingKeepsLawful, GrowingKeepsLawful, DryKeepsLawful, WetKeepsLawful};
 ghost use Rattle.ipcz_world.specs.HeldEnds.{HeldWereHeld, TurnsHeldWereHeld, HeldForOpenWereHeld, LostAreNotHeld, LetGoAreNotHeld, AcceptedAreHeld, DeadWordsDoNotMatter};
@@ -158,6 +159,12 @@ pub fn terminals_keep_their_books()
 /// its end's last item, or Gone comes right after it and is last.
 pub fn each_end_is_in_one_place()
     ensures { EndsStandOnce }
+{}
+
+/// In a lawful world each proxy of an end that has arrived is out of its route: it has no primary link, and of each link that it gives up it
+/// knows how many items still go over it. So it leaves once these have passed, and needs no link word for that, and no lock.
+pub fn an_end_that_has_arrived_leaves_its_proxies_behind()
+    ensures { ArrivedLeaveProxiesBehind }
 {}
 
 /// In a lawful world an end that callers of a node hold has its terminal at that node, so that no call at it is a Stranger's.

@@ -1,6 +1,8 @@
 ghost use Rattle.std.specs.Prelude.{◌≡◌, ◌<◌, ◌≤◌, ◌+◌, ℕ, true, false, IfOk, IfErr, IfSome, IsOk, OnErr, OnOk, map, None};
 ghost use Rattle.ipcz_node.specs.Finding.{IsNextReady};
 ghost use Rattle.ipcz_node.specs.Looking.{IsLook};
+ghost use Rattle.ipcz_node.specs.Node.{holds_end};
+ghost use Rattle.ipcz_world.specs.Arrived.{AreOutOfRoute, arrival_in};
 ghost use Rattle.ipcz_base.specs.declared.link_end.LinkEnd.{LinkEnd};
 ghost use Rattle.ipcz_word.specs.Layout.{word_of_bits};
 ghost use Rattle.ipcz_world.specs.Asking.{can_act, hand_at, IsActed, WhyNotTaken};
@@ -398,6 +400,26 @@ impl World {
         ensures away { self.now.count ≤ node → result ≡ None }
     {
         self.state.ready_from(node, serial)
+    }
+
+    /// Whether this end of a node has arrived: the link of its terminal toward the peer is central, the terminal has marked its side of it
+    /// stable, and gives up no earlier link any more (docs/PROTOCOL.md, "Turns"). None if the node isn't one of the world's, or its callers don't
+    /// hold the end. It is never refused, takes no memory and changes nothing.
+    ///
+    /// An end of a pair that was opened here has arrived at once. One that came in a parcel has arrived when all the proxies that it left
+    /// behind are out of its route: each of them only passes on what is on its way, and then leaves, for which it needs no link word and no
+    /// lock. If the end travels on before, each proxy that is still in the route is bypassed only after the one before it; if it travels on
+    /// only when it has arrived, it never has more than one proxy in the route. It is no promise about the peer, which may be on its own way,
+    /// and whose proxies may stand. What is put and got is the same whether a portal has arrived or not.
+    ///
+    /// Where a portal has just come in a parcel, `world.has_arrived(1, at)` is `Some(false)`, and after a settle `Some(true)`, if no proxy is
+    /// left without a word.
+    pub fn has_arrived(&self, node: u8, at: End) -> Option<bool>
+        ensures answer { result ≡ arrival_in self.now node at }
+        ensures stranger { result ≡ None → node < self.now.count → holds_end (node_at self.now node) at ≡ false }
+        ensures behind { result ≡ Some true → AreOutOfRoute self.now at }
+    {
+        self.state.has_arrived(node, at)
     }
 
     /// Takes each of these steps, in their order, and gives their replies. Refused `OutOfMemory` if there is no room for the replies:

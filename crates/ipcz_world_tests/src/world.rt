@@ -1,4 +1,5 @@
 //! Worlds stepped and run, and what they answer, by docs/PROTOCOL.md.
+mod arrivals;
 mod asking;
 mod bypass;
 mod calls;

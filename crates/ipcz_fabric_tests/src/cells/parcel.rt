@@ -1,6 +1,6 @@
 //! A parcel from one end of a pair to the other on one node, and what cells do by turns that aren't told.
 
-use super::Call::{Acts, Close, Get, Look, Open, Put, Touches, Turns};
+use super::Call::{Acts, Arrived, Close, Get, Look, Open, Put, Touches, Turns};
 use super::{A0, A1, B0, B1, Call, all_go};
 use ipcz_base::{PortalStatus, Sizes};
 
@@ -108,4 +108,31 @@ static LOOKS: [(usize, Call); 11] = [
 #[test]
 fn a_look_at_a_cell_takes_nothing(rt: HostRuntime) {
     all_go(&rt, rt.alloc(), 4, &LOOKS);
+}
+
+// An end has arrived where it was opened. Moved to node 1 it stands on the link of its proxy, until node 0 has bypassed that one: four
+// messages, the last of which is for it.
+static ARRIVES: [(usize, Call); 17] = [
+    (0, Open(A1, B1)),
+    (0, Arrived(A1, Some(true))),
+    (0, Arrived(B1, Some(true))),
+    (1, Arrived(B1, None)),
+    (0, Put(A0, b"m", &[B1], 0)),
+    (0, Arrived(B1, None)),
+    (0, Acts(100, 7)),
+    (1, Acts(100, 3)),
+    (1, Get(B0, b"m", &[B1], 0)),
+    (1, Arrived(B1, Some(false))),
+    (0, Acts(100, 1)),
+    (1, Acts(100, 4)),
+    (1, Arrived(B1, Some(false))),
+    (0, Acts(100, 12)),
+    (1, Acts(100, 5)),
+    (1, Arrived(B1, Some(true))),
+    (0, Arrived(A1, Some(true))),
+];
+
+#[test]
+fn an_end_that_moved_has_arrived_once_its_proxy_is_bypassed(rt: HostRuntime) {
+    all_go(&rt, rt.alloc(), 4, &ARRIVES);
 }

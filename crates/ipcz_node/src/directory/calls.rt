@@ -6,6 +6,7 @@ ghost use Rattle.ipcz_seq.specs.Queue.{current_item};
 ghost use Rattle.ipcz_router.specs.Router.{Router as RouterRecord, IsOpenTerminal};
 ghost use Rattle.ipcz_router.specs.Calls.{next_number, put_item, router_put_refusal, router_get_refusal, take_item, sizes_found};
 ghost use Rattle.ipcz_router.specs.Status.{IsStatus};
+ghost use Rattle.ipcz_router.specs.Arrivals.{has_arrived};
 ghost use Rattle.ipcz_node.specs.Rooms.{put_filed, hold_filed, release_filed, HasQueueRoom};
 ghost use Rattle.std.specs.FinSet as sets;
 ghost use Rattle.std.specs.Prelude.{IsOk};
@@ -84,6 +85,17 @@ impl Directory {
     {
         match self.routers.router(serial) {
             Some(router) => router.status(),
+            None => unreachable!(),
+        }
+    }
+
+    /// Whether the router of the serial has arrived, as `Router::has_arrived`.
+    pub fn has_arrived(&self, serial: u64) -> bool
+        requires { is_some (get self.now.filed.routers serial) ≡ true }
+        ensures { (r : RouterRecord) → get self.now.filed.routers serial ≡ Some r → result ≡ has_arrived r }
+    {
+        match self.routers.router(serial) {
+            Some(router) => router.has_arrived(),
             None => unreachable!(),
         }
     }

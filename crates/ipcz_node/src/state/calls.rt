@@ -9,6 +9,7 @@ ghost use Rattle.ipcz_node.specs.Node.{router_in, terminal_of, found, holds_end,
 ghost use Rattle.ipcz_node.specs.Calls.{serials_refusal, open_node, are_held_once, refusal_at, are_too_many, put_refusal, put_node};
 ghost use Rattle.ipcz_node.specs.Calls.{put_number, get_refusal, got_at, next_sizes, get_node, close_refusal, close_node, close_end};
 ghost use Rattle.ipcz_node.specs.Looking.{IsLook};
+ghost use Rattle.ipcz_node.specs.Arriving.{arrival_of};
 ghost use Rattle.ipcz_node.specs.Acts.{is_quiet, rest_of};
 ghost use Rattle.ipcz_node.specs.Finding.{IsNextHeld, IsNextReady};
 ghost use Rattle.ipcz_node.specs.RoomyNodes.{CanOpen, RoomIsKept, IsReadyFor, TakesMore};
@@ -360,6 +361,20 @@ impl NodeState {
         }
         match self.terminal_serial(at) {
             Some(serial) => Some(self.routers.status(serial)),
+            None => None,
+        }
+    }
+
+    /// Whether this end has arrived: its terminal's link toward the peer is central, the terminal's side of it is marked stable, and
+    /// nothing decays there. None if the end isn't held here. It takes no memory.
+    pub fn has_arrived(&self, at: End) -> Option<bool>
+        ensures { result ≡ arrival_of self.now.node at }
+    {
+        if !self.holds(at) {
+            return None;
+        }
+        match self.terminal_serial(at) {
+            Some(serial) => Some(self.routers.has_arrived(serial)),
             None => None,
         }
     }

@@ -7,6 +7,7 @@ ghost use Rattle.ipcz_router.specs.RoomyRouters.{room_for, KeepsRoom, LeavesRoom
 ghost use Rattle.ipcz_router.specs.Closing.{close_router};
 ghost use Rattle.ipcz_router.specs.Calls.{next_number, put_item, router_put_refusal, router_get_refusal, item_refusal, take_item, sizes_found, has_place_for, has_come};
 ghost use Rattle.ipcz_router.specs.Status.{HasParcels, IsStatus};
+ghost use Rattle.ipcz_router.specs.Arrivals.{has_arrived};
 ghost use Rattle.ipcz_router.specs.Calls.{accept, accept_from_outward, accept_from_inward, accept_refusal, extend, descriptor_of};
 
 use super::Router;
@@ -122,6 +123,13 @@ impl Router {
             waiting: behind - next,
             peer_closed: self.in_queue.item_at(behind).is_some(),
         }
+    }
+
+    /// Whether its outward primary link is central, its side of it is marked stable, and no edge decays.
+    pub fn has_arrived(&self) -> bool
+        ensures { result ≡ has_arrived self.now.router }
+    {
+        self.is_on_central() && self.marked && !self.decays()
     }
 
     // The first number, from the in queue's current one on, that no parcel stands under.

@@ -44,7 +44,7 @@ impl Router {
         }
     }
 
-    fn decays(&self) -> bool
+    pub(super) fn decays(&self) -> bool
         ensures { result ≡ decays self.now.router }
     {
         match &self.inward {

@@ -3,6 +3,7 @@
 ghost use Rattle.std.specs.Prelude.{◌≡◌, ◌<◌, ◌≤◌, None, IfOk, IfErr};
 ghost use Rattle.ipcz_node.specs.Finding.{IsNextReady};
 ghost use Rattle.ipcz_node.specs.Looking.{IsLook};
+ghost use Rattle.ipcz_world.specs.Arrived.{arrival_in};
 ghost use Rattle.ipcz_world.specs.World.{node_at};
 ghost use Rattle.ipcz_world.specs.Steps.{StepFirst};
 ghost use Rattle.ipcz_world.specs.Steps.{open_with, open_on, put_of, put_reply, put_step, get_step, next_sizes, close_step, Gives, GivesOrNoMemory, PutGives};
@@ -178,6 +179,17 @@ impl State {
             return None;
         }
         self.nodes.node(n).ready_from(serial)
+    }
+
+    /// Whether an end has arrived; none at a node that isn't there.
+    pub(crate) fn has_arrived(&self, n: u8, at: End) -> Option<bool>
+        requires { IsRegular self.now }
+        ensures { result ≡ arrival_in self.now n at }
+    {
+        if n >= self.count {
+            return None;
+        }
+        self.nodes.node(n).has_arrived(at)
     }
 
     /// Closes an end.

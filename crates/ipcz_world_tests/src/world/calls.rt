@@ -22,6 +22,8 @@ pub enum Call {
     NextSizes(u8, End, Option<Sizes>),
     /// What gets at an end of a node would answer: the number of the next parcel, its sizes, how many wait, and whether the peer has closed.
     Look(u8, End, Option<PortalStatus>),
+    /// Whether an end of a node has arrived, or none if its callers don't hold it.
+    Arrived(u8, End, Option<bool>),
     /// Gets these bytes and ends at an end of a node, under this number.
     Get(u8, End, u64, &'static [u8], &'static [End]),
     /// Gets a parcel of so many bytes of a value at an end of a node, under this number.
@@ -201,6 +203,7 @@ fn is(world: &World, call: Call) -> bool {
     match call {
         Call::NextSizes(node, at, want) => world.next_sizes(node, at) == want,
         Call::Look(node, at, want) => world.look(node, at) == want,
+        Call::Arrived(node, at, want) => world.has_arrived(node, at) == want,
         Call::Claimed(count) => world.claimed() == count,
         Call::Left(count) => world.words_left() == count,
         Call::Quiet(want) => world.is_quiet() == want,
