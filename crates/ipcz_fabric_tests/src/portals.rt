@@ -20,6 +20,8 @@ enum Case {
     Arrived,
     EarlyEnd,
     DroppedPortal,
+    ScopedPortal,
+    Ready,
     Arrival,
     Wide,
 }
@@ -123,6 +125,29 @@ fn is_open<F: FabricName, R: Wait>(rt: &R, hub: &Hub<F>) -> Option<bool> {
     drop(b);
     act(rt, hub, 0, 10);
     Some(matches!(a.get(rt, hub), Err(Refusal::Empty)))
+}
+
+// Whether a portal is closed at the end of its scope, and one that was taken out before isn't.
+fn is_closed_behind<F: FabricName, R: Wait>(rt: &R, hub: &Hub<F>) -> Option<bool> {
+    let (a, b) = hub.open_pair(rt, 0).ok()?;
+    let (c, d) = hub.open_pair(rt, 0).ok()?;
+    drop(a.scoped(rt, hub));
+    drop(c.scoped(rt, hub).into_portal());
+    act(rt, hub, 0, 20);
+    let is_closed = matches!(b.get(rt, hub), Err(Refusal::PeerClosed));
+    Some(is_closed && matches!(d.get(rt, hub), Err(Refusal::Empty)))
+}
+
+// Whether the portal where a parcel has come is told, and no other.
+fn is_told<F: FabricName, R: Wait>(rt: &R, hub: &Hub<F>, alloc: Global) -> Option<bool> {
+    let (a, b) = hub.open_pair(rt, 0).ok()?;
+    let early = hub.ready_from(rt, 0, 0);
+    let _ = a.put(rt, hub, Bytes::new(), Vec::new(alloc));
+    act(rt, hub, 0, 20);
+    let (serial, end) = hub.ready_from(rt, 0, 0)?;
+    let behind = hub.ready_from(rt, 0, serial.saturating_add(1));
+    let nowhere = hub.ready_from(rt, 2, 0);
+    Some(early.is_none() && end == b.end() && behind.is_none() && nowhere.is_none())
 }
 
 // Puts a portal at another, in a parcel, and takes the turns of node 0 that are there.
@@ -251,6 +276,8 @@ fn looks<F: FabricName, R: Wait + Clock>(
         Case::Arrived => are_at_home(rt, hub),
         Case::EarlyEnd => Some(work(rt, hub, 0, &mut Twice, 10) == 2),
         Case::DroppedPortal => is_open(rt, hub),
+        Case::ScopedPortal => is_closed_behind(rt, hub),
+        Case::Ready => is_told(rt, hub, alloc),
         Case::Arrival => arrives(rt, hub, alloc),
         Case::Wide => is_wide(rt, hub, alloc),
     }
@@ -313,6 +340,16 @@ fn work_that_ends_early_tells_the_turns_taken(rt: HostRuntime) {
 #[test]
 fn a_portal_that_is_dropped_leaves_its_end_open(rt: HostRuntime) {
     assert_eq!(rt; holds(&rt, rt.alloc(), Case::DroppedPortal), Some(true));
+}
+
+#[test]
+fn a_scoped_portal_is_closed_when_it_is_let_go(rt: HostRuntime) {
+    assert_eq!(rt; holds(&rt, rt.alloc(), Case::ScopedPortal), Some(true));
+}
+
+#[test]
+fn the_portal_where_something_has_come_is_told(rt: HostRuntime) {
+    assert_eq!(rt; holds(&rt, rt.alloc(), Case::Ready), Some(true));
 }
 
 #[test]

@@ -474,6 +474,38 @@ static LOOKS: [Call; 15] = [
     Call::GetRefused(1, B0, Refusal::PeerClosed),
 ];
 
+// Node 1 has the terminal of B0 from the start, of serial 0, and those of the pair that it opens, of serials 1 and 2. A parcel comes at B0 and one at
+// B1; then all is got, and the peer of B0 is closed.
+static READY: [Call; 22] = [
+    Call::Ready(1, 0, None),
+    Call::Put(0, A0, b"first", &[], 0),
+    Call::Ready(1, 0, None),
+    Call::SettleWithin(100),
+    Call::Ready(1, 0, Some((0, B0))),
+    Call::Ready(1, 1, None),
+    Call::Ready(0, 0, None),
+    Call::Ready(2, 0, None),
+    Call::Open(1, A1, B1),
+    Call::Put(1, A1, b"it", &[], 0),
+    Call::SettleWithin(100),
+    Call::Ready(1, 0, Some((0, B0))),
+    Call::Ready(1, 1, Some((2, B1))),
+    Call::Ready(1, 3, None),
+    Call::Get(1, B0, 0, b"first", &[]),
+    Call::Ready(1, 0, Some((2, B1))),
+    Call::Close(0, A0, 1),
+    Call::SettleWithin(100),
+    Call::Ready(1, 0, Some((0, B0))),
+    Call::GetRefused(1, B0, Refusal::PeerClosed),
+    Call::Close(1, B0, 0),
+    Call::Ready(1, 0, Some((2, B1))),
+];
+
+#[test]
+fn the_ends_where_something_has_come_are_told_one_by_one(rt: HostRuntime) {
+    all_go(&rt, rt.alloc(), 2, 2, &READY);
+}
+
 #[test]
 fn a_look_tells_what_gets_would_answer(rt: HostRuntime) {
     all_go(&rt, rt.alloc(), 2, 1, &LOOKS);

@@ -24,6 +24,8 @@ pub enum Call {
     Look(u8, End, Option<PortalStatus>),
     /// Whether an end of a node has arrived, or none if its callers don't hold it.
     Arrived(u8, End, Option<bool>),
+    /// The first end of a node's callers, from a serial on, where a get isn't `Empty`, with its router's serial.
+    Ready(u8, u64, Option<(u64, End)>),
     /// Gets these bytes and ends at an end of a node, under this number.
     Get(u8, End, u64, &'static [u8], &'static [End]),
     /// Gets a parcel of so many bytes of a value at an end of a node, under this number.
@@ -204,6 +206,7 @@ fn is(world: &World, call: Call) -> bool {
         Call::NextSizes(node, at, want) => world.next_sizes(node, at) == want,
         Call::Look(node, at, want) => world.look(node, at) == want,
         Call::Arrived(node, at, want) => world.has_arrived(node, at) == want,
+        Call::Ready(node, serial, want) => world.ready_from(node, serial) == want,
         Call::Claimed(count) => world.claimed() == count,
         Call::Left(count) => world.words_left() == count,
         Call::Quiet(want) => world.is_quiet() == want,
