@@ -160,6 +160,14 @@ bool ipcz_next_sizes(ipcz_world *world, uint8_t node, ipcz_portal at, size_t *si
  * IPCZ_STRANGER. */
 ipcz_status ipcz_look(ipcz_world *world, uint8_t node, ipcz_portal at, ipcz_portal_status *status);
 
+/* Whether a portal of a node has arrived: of the routers that it has left behind none is left in its route. It changes nothing, and what is
+ * put and got is the same either way. A portal that goes on travelling does so only once it has arrived: then it never has more than one such
+ * router in its route, and else they may come to be ever more. One of a pair that was opened here has arrived at once. It says nothing of the
+ * peer.
+ *   arrived  where it is written
+ * IPCZ_STRANGER. */
+ipcz_status ipcz_has_arrived(ipcz_world *world, uint8_t node, ipcz_portal at, bool *arrived);
+
 /* Gets a parcel, with pointers that are not null: what ipcz_get calls, and what other languages may call. */
 ipcz_status ipcz_get_parcel(ipcz_world *world, uint8_t node, ipcz_portal at, uint8_t *bytes, size_t room, size_t *size,
                             ipcz_portal *portals, size_t portal_room, size_t *count, uint64_t *number);
@@ -258,6 +266,13 @@ bool ipcz_cell_next_sizes(ipcz_cell *cell, ipcz_portal at, size_t *size, size_t 
  *   status  where it is written
  * IPCZ_STRANGER. */
 ipcz_status ipcz_cell_look(ipcz_cell *cell, ipcz_portal at, ipcz_portal_status *status);
+
+/* Whether a portal of the node has arrived: of the routers that it has left behind none is left in its route. It changes nothing, and what is
+ * put and got is the same either way. A portal that goes on travelling does so only once it has arrived: then it never has more than one such
+ * router in its route, and else they may come to be ever more. It can become true in each ipcz_cell_acts. It says nothing of the peer.
+ *   arrived  where it is written
+ * IPCZ_STRANGER. */
+ipcz_status ipcz_cell_has_arrived(ipcz_cell *cell, ipcz_portal at, bool *arrived);
 
 /* Gets a parcel, with pointers that are not null: what ipcz_cell_get calls, and what other languages may call. */
 ipcz_status ipcz_cell_get_parcel(ipcz_cell *cell, ipcz_portal at, uint8_t *bytes, size_t room, size_t *size,

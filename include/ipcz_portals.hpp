@@ -139,6 +139,13 @@ class World {
         return status;
     }
 
+    // Whether the portal has arrived, so that it leaves at most one router in its route if it travels on now.
+    bool has_arrived(std::uint8_t node, Portal at) const {
+        bool arrived = false;
+        check(::ipcz_has_arrived(&world_, node, at, &arrived));
+        return arrived;
+    }
+
     void close(std::uint8_t node, Portal at) { check(::ipcz_close(&world_, node, at)); }
 
     // Takes the node's first act that is possible, and tells whether it had one.
@@ -247,6 +254,13 @@ class Cell {
         Status status{};
         check(::ipcz_cell_look(&cell_, at, &status));
         return status;
+    }
+
+    // Whether the portal has arrived, so that it leaves at most one router in its route if it travels on now.
+    bool has_arrived(Portal at) const {
+        bool arrived = false;
+        check(::ipcz_cell_has_arrived(&cell_, at, &arrived));
+        return arrived;
     }
 
     void close(Portal at) { check(::ipcz_cell_close(&cell_, at)); }

@@ -22,6 +22,7 @@ int main(void) {
     uint64_t number, acts, word;
     size_t size, count;
     ipcz_portal_status seen;
+    bool arrived = false;
     print("look on a fresh handle", ipcz_cell_look(&fresh, left, &seen));
     print("open on a fresh handle", ipcz_cell_open(&fresh, &a, &b));
     printf("a fresh handle: quiet %d, claimed %" PRIu64 ", word %d, holds %d, node %d\n", ipcz_cell_quiet(&fresh), ipcz_cell_claimed(&fresh),
@@ -52,6 +53,12 @@ int main(void) {
     printf("it has %zu bytes and %zu portals\n", size, count);
     print("get", ipcz_cell_get(&cells[1], right, bytes, sizeof bytes, &size, portals, IPCZ_MAX_PORTALS, &count, &number));
     printf("\"%.*s\", number %u, holds its portal %d\n", (int)size, (const char *)bytes, (unsigned)number, ipcz_cell_holds(&cells[1], portals[0]));
+    print("has it arrived", ipcz_cell_has_arrived(&cells[1], portals[0], &arrived));
+    printf("%d, since no word was left for its proxy\n", arrived);
+    print("has its peer", ipcz_cell_has_arrived(&cells[0], a, &arrived));
+    printf("%d, where it was opened\n", arrived);
+    print("has one that isn't held", ipcz_cell_has_arrived(&cells[0], b, &arrived));
+    print("has one of a fresh handle", ipcz_cell_has_arrived(&fresh, a, &arrived));
     print("close", ipcz_cell_close(&cells[1], portals[0]));
     print("close again", ipcz_cell_close(&cells[1], portals[0]));
     print("acts", settle(cells));

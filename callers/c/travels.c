@@ -245,6 +245,34 @@ static bool looks(void) {
     return true;
 }
 
+/* A portal has arrived where it was opened, and where it came to once its proxy is bypassed. */
+static bool arrives(void) {
+    ipcz_world world = IPCZ_WORLD_INIT;
+    ipcz_portal left = ipcz_first(0, 1, 2), right = ipcz_first(1, 0, 2), kept, sent;
+    bool arrived = true;
+    parcel got;
+    EXPECT(ipcz_has_arrived(&world, 1, right, &arrived), IPCZ_NOT_CREATED);
+    EXPECT(ipcz_create(2, 3, &world), IPCZ_OK);
+    EXPECT(ipcz_has_arrived(&world, 0, right, &arrived), IPCZ_STRANGER);
+    EXPECT(ipcz_has_arrived(&world, 2, right, &arrived), IPCZ_STRANGER);
+    HOLDS(arrived);
+    EXPECT(ipcz_open(&world, 0, &kept, &sent), IPCZ_OK);
+    arrived = false;
+    EXPECT(ipcz_has_arrived(&world, 0, sent, &arrived), IPCZ_OK);
+    HOLDS(arrived);
+    EXPECT(ipcz_put(&world, 0, left, "a portal", 8, &sent, 1, NULL), IPCZ_OK);
+    EXPECT(ipcz_has_arrived(&world, 0, sent, &arrived), IPCZ_STRANGER);
+    while (get(&world, 1, right, &got) == IPCZ_EMPTY)
+        for (uint8_t node = 0; node < 2; node++) EXPECT(ipcz_turn(&world, node), IPCZ_OK);
+    EXPECT(ipcz_has_arrived(&world, 1, sent, &arrived), IPCZ_OK);
+    HOLDS(!arrived);
+    EXPECT(ipcz_settle(&world, 1000, NULL, NULL), IPCZ_OK);
+    EXPECT(ipcz_has_arrived(&world, 1, sent, &arrived), IPCZ_OK);
+    HOLDS(arrived);
+    ipcz_destroy(&world);
+    return true;
+}
+
 /* A node that found no word stays in the way of a portal that moved on, until words were added and it may ask again. */
 static bool asks_again(void) {
     ipcz_world world = IPCZ_WORLD_INIT;
@@ -298,7 +326,7 @@ static bool handles(void) {
 int main(void) {
     ipcz_world world = IPCZ_WORLD_INIT;
     if (ipcz_create(2, 8, &world)) return 1;
-    bool well = travels(&world) && small_rooms(&world) && parcels_of_any_bytes(&world) && unwanted_outputs(&world) && refusals(&world) && looks() && lasts() && asks_again() && handles();
+    bool well = travels(&world) && small_rooms(&world) && parcels_of_any_bytes(&world) && unwanted_outputs(&world) && refusals(&world) && looks() && arrives() && lasts() && asks_again() && handles();
     printf("%" PRIu64 " words used\n", ipcz_claimed(&world));
     ipcz_destroy(&world);
     for (ipcz_status status = 0; status <= 14; status++) printf("%" PRIu32 " %s\n", status, ipcz_status_name(status));

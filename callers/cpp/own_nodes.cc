@@ -40,6 +40,7 @@ int main() {
     other.join();
     const auto seen = cell.look(pair.first);
     std::cout << "waiting: " << seen.waiting << ", closed: " << seen.peer_closed << '\n';
+    std::cout << "arrived: " << cell.has_arrived(left) << '\n';
     std::cout << "held: " << cell.holds(pair.first) << cell.holds(pair.second) << '\n';
     try {
         cells.at(1).open();

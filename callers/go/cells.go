@@ -91,6 +91,13 @@ func (c *Cell) Look(at Portal) (Look, error) {
 	return seen(status), err
 }
 
+// HasArrived tells whether a portal of the node has arrived, so that it leaves at most one router in its route if it travels on now.
+func (c *Cell) HasArrived(at Portal) (bool, error) {
+	var arrived C.bool
+	err := answer(C.ipcz_cell_has_arrived(c.c(), at.c(), &arrived))
+	return bool(arrived), err
+}
+
 // Close closes a portal of the node.
 func (c *Cell) Close(at Portal) error {
 	return answer(C.ipcz_cell_close(c.c(), at.c()))

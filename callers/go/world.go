@@ -62,6 +62,13 @@ func (w *World) Look(node uint8, at Portal) (Look, error) {
 	return seen(status), err
 }
 
+// HasArrived tells whether a portal of the node has arrived, so that it leaves at most one router in its route if it travels on now.
+func (w *World) HasArrived(node uint8, at Portal) (bool, error) {
+	var arrived C.bool
+	err := answer(C.ipcz_has_arrived(w.c(), C.uint8_t(node), at.c(), &arrived))
+	return bool(arrived), err
+}
+
 // Close closes a portal of the node.
 func (w *World) Close(node uint8, at Portal) error {
 	return answer(C.ipcz_close(w.c(), C.uint8_t(node), at.c()))

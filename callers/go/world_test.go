@@ -73,6 +73,11 @@ func TestAPortalTravels(t *testing.T) {
 	if len(got.Portals) != 1 || got.Portals[0] != sent {
 		t.Fatalf("came with %v, not %v", got.Portals, sent)
 	}
+	arrived, err := world.HasArrived(1, sent)
+	must(t, err)
+	if !arrived {
+		t.Fatal("it hasn't arrived, with words left and nothing to do")
+	}
 	for portal, node := range map[Portal]uint8{kept: 0, sent: 1} {
 		if holder, held := world.Holder(portal); !held || holder != node {
 			t.Fatalf("%v is held by %d, not %d", portal, holder, node)

@@ -119,6 +119,13 @@ impl Cell {
         Ok(status)
     }
 
+    /// Whether a portal of the node has arrived, so that it leaves at most one router in its route if it travels on now. `Stranger`.
+    pub fn has_arrived(&mut self, at: Portal) -> Result<bool, Refused> {
+        let mut arrived = false;
+        answer(unsafe { raw::ipcz_cell_has_arrived(&mut self.0, at, &mut arrived) })?;
+        Ok(arrived)
+    }
+
     /// Closes a portal of the node. What was put at it still comes to the other one; what comes to it is discarded. `Stranger`, `OutOfMemory`.
     pub fn close(&mut self, at: Portal) -> Result<(), Refused> {
         answer(unsafe { raw::ipcz_cell_close(&mut self.0, at) })

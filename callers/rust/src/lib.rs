@@ -243,6 +243,13 @@ impl World {
         Ok(status)
     }
 
+    /// Whether a portal of the node has arrived, so that it leaves at most one router in its route if it travels on now. `Stranger`.
+    pub fn has_arrived(&mut self, node: u8, at: Portal) -> Result<bool, Refused> {
+        let mut arrived = false;
+        answer(unsafe { raw::ipcz_has_arrived(&mut self.0, node, at, &mut arrived) })?;
+        Ok(arrived)
+    }
+
     /// Closes a portal of the node. What was put at it still comes to the other one; what comes to it is discarded. `Stranger`, `OutOfMemory`.
     pub fn close(&mut self, node: u8, at: Portal) -> Result<(), Refused> {
         answer(unsafe { raw::ipcz_close(&mut self.0, node, at) })

@@ -113,6 +113,7 @@ unsafe extern "C" {
         number: *mut u64,
     ) -> u32;
     pub fn ipcz_look(world: *mut Handle, node: u8, at: Portal, status: *mut Status) -> u32;
+    pub fn ipcz_has_arrived(world: *mut Handle, node: u8, at: Portal, arrived: *mut bool) -> u32;
     pub fn ipcz_close(world: *mut Handle, node: u8, at: Portal) -> u32;
     pub fn ipcz_act(world: *mut Handle, node: u8, acted: *mut bool) -> u32;
     pub fn ipcz_settle_counting(
@@ -162,6 +163,7 @@ unsafe extern "C" {
         number: *mut u64,
     ) -> u32;
     pub fn ipcz_cell_look(cell: *mut CellHandle, at: Portal, status: *mut Status) -> u32;
+    pub fn ipcz_cell_has_arrived(cell: *mut CellHandle, at: Portal, arrived: *mut bool) -> u32;
     pub fn ipcz_cell_close(cell: *mut CellHandle, at: Portal) -> u32;
     pub fn ipcz_cell_acts_touching(
         cell: *mut CellHandle,

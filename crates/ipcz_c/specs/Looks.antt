@@ -1,11 +1,13 @@
--- What the looks of C tell of a portal.
-use Rattle.std.specs.Prelude.{◌≡◌, ◌≤◌, ◌<◌, ℕ, Option, Some, None}
+-- What the looks of C tell of a portal, and whether it has arrived.
+use Rattle.std.specs.Prelude.{◌≡◌, ◌≤◌, ◌<◌, ℕ, Bool, Option, Some, None}
 use Rattle.ipcz_base.specs.declared.end.End.{End}
 use Rattle.ipcz_base.specs.declared.parcel.Sizes.{Sizes}
 use Rattle.ipcz_base.specs.declared.refusal.Refusal.TheVariants.{Stranger}
 use Rattle.ipcz_base.specs.declared.status.PortalStatus.{PortalStatus}
 use Rattle.ipcz_base.specs.Refusals.{code_of}
+use Rattle.ipcz_node.specs.Arriving.{arrival_of}
 use Rattle.ipcz_node.specs.Looking.{IsLook}
+use Rattle.ipcz_world.specs.Arrived.{arrival_in}
 use Rattle.ipcz_world.specs.World.{World, node_at}
 use Rattle.ipcz_c.specs.declared.portal.Portal.{Portal}
 use Rattle.ipcz_c.specs.declared.portal.Seen.{Seen}
@@ -51,3 +53,17 @@ Looks old node at status old_seen seen =
 abbrev pub CellLooks : Option HeldCell → Portal → ℕ → Seen → Seen → Type 0
 CellLooks old at status old_seen seen =
     (answer : Option PortalStatus) × IsLookOf old (named at) answer × TellsSeen answer status old_seen seen
+
+-- what is told of whether a portal has arrived: that is written, and a portal that the node doesn't have is refused
+unfoldable pub TellsArrived : Option Bool → ℕ → Bool → Bool → Type 0
+TellsArrived (Some is) status old arrived = (status ≡ 0) × (arrived ≡ is)
+TellsArrived None status old arrived = (status ≡ code_of Stranger) × (arrived ≡ old)
+
+-- whether a portal of a world has arrived, and whether one of a cell has
+abbrev pub HasArrivedIn : Option World → ℕ → Portal → ℕ → Bool → Bool → Type 0
+HasArrivedIn old node at status old_arrived arrived =
+    (w : World) → old ≡ Some w → TellsArrived (arrival_in w node (named at)) status old_arrived arrived
+
+abbrev pub HasArrivedAt : Option HeldCell → Portal → ℕ → Bool → Bool → Type 0
+HasArrivedAt old at status old_arrived arrived =
+    (c : HeldCell) → old ≡ Some c → TellsArrived (arrival_of c.cell.part.state (named at)) status old_arrived arrived

@@ -8,7 +8,7 @@ ghost use Rattle.ipcz_world.specs.Holding.{shown_word, holder_of};
 ghost use Rattle.ipcz_c.specs.Named.{named};
 ghost use Rattle.ipcz_c.specs.Statuses.{not_created, already_created};
 ghost use Rattle.ipcz_c.specs.Told.{room_of, fits, TellsSizes};
-ghost use Rattle.ipcz_c.specs.Looks.{Looks};
+ghost use Rattle.ipcz_c.specs.Looks.{HasArrivedIn, Looks};
 ghost use Rattle.ipcz_c.specs.Ready.{FindsReady};
 ghost use Rattle.ipcz_c.specs.Calls.{IsRefused, is_within, AddsWords, Retries, Creates, Opens, Puts, sizes_next, Gets, LacksRoom, Closes, TakesTurn, TellsTurn, Settles, read_off, written};
 
@@ -17,7 +17,8 @@ use crate::making::{are_within, boxed_world, lists_of};
 use crate::portal::{Portal, Seen};
 use crate::status::{ALREADY_CREATED, NOT_CREATED, TOO_SMALL, refused, status};
 use crate::tell::{
-    lacking, tell_acted, tell_got, tell_opened, tell_put, tell_ready, tell_seen, tell_settled, tell_sizes,
+    lacking, tell_acted, tell_arrived, tell_got, tell_opened, tell_put, tell_ready, tell_seen,
+    tell_settled, tell_sizes,
 };
 use ipcz_base::{Profile, Refusal};
 use ipcz_world::Step;
@@ -190,6 +191,26 @@ pub extern "C" fn ipcz_look(
     }
     let answer = of.look(alloc, node, at.end());
     tell_seen(answer, seen)
+}
+
+/// Whether a portal of a node has arrived, so that it leaves at most one proxy in its route if it travels on now.
+#[unsafe(no_mangle)]
+pub extern "C" fn ipcz_has_arrived(
+    alloc: Global,
+    of: &mut Handle,
+    node: u8,
+    at: Portal,
+    arrived: &mut bool,
+) -> u32
+    ensures did { HasArrivedIn of.old.held.world node at result arrived.old arrived.new }
+    ensures same { of.new.held.world ≡ of.old.held.world }
+    ensures none { IsNone of.old.held.world → (result ≡ not_created) × (arrived.new ≡ arrived.old) }
+{
+    if !of.has_world {
+        return NOT_CREATED;
+    }
+    let answer = of.has_arrived(alloc, node, at.end());
+    tell_arrived(answer, arrived)
 }
 
 /// The next portal of a node, from a serial on, at which a get wouldn't be `Empty`, and from which serial to ask for the one behind it.

@@ -1,5 +1,5 @@
 //! What C holds of a node's cell, and the calls of the cell through it, under whatever name its table gets for the call.
-ghost use Rattle.std.specs.Prelude.{◌≡◌, Some, None, IsSome, IfOk};
+ghost use Rattle.std.specs.Prelude.{◌≡◌, Some, None, IsSome, IfSome, IfOk};
 ghost use Rattle.std.specs.Option.{is_some};
 ghost use Rattle.ipcz_base.specs.Items.{sizes_of};
 ghost use Rattle.ipcz_node.specs.Node.{holds_end};
@@ -7,6 +7,7 @@ ghost use Rattle.ipcz_cell.specs.Opens.{OpensPair, FindsQuiet, ShowsWord};
 ghost use Rattle.ipcz_cell.specs.Retries.{Retries};
 ghost use Rattle.ipcz_cell.specs.TurnChains.{RunsTouching};
 ghost use Rattle.ipcz_c.specs.CellSteps.{PutsAt, GetsAt, ClosesAt, CountsClaimed};
+ghost use Rattle.ipcz_node.specs.Arriving.{arrival_of};
 ghost use Rattle.ipcz_c.specs.Looks.{IsLookOf};
 ghost use Rattle.ipcz_c.specs.Ready.{IsReadyOf};
 ghost use Rattle.ipcz_c.specs.HeldCells.{HeldCell, IsOnly, table_of, Moves, cell_sizes};
@@ -163,6 +164,20 @@ impl CellHandle {
     {
         let member = self.take::<F>(alloc);
         let answer = member.ready_from(serial);
+        self.give(member);
+        answer
+    }
+
+    // Whether a portal has arrived.
+    pub(crate) fn has_arrived<F: FabricName>(&mut self, alloc: Global, at: End) -> Option<bool>
+        requires held { IsSome self.old.held.cell }
+        requires named { table_of self.old.held.cell ≡ F.table }
+        requires only { IsOnly F }
+        ensures arrived { IfSome self.old.held.cell (λ c. result ≡ arrival_of c.cell.part.state at) }
+        ensures same { self.new.held.cell ≡ self.old.held.cell }
+    {
+        let member = self.take::<F>(alloc);
+        let answer = member.has_arrived(at);
         self.give(member);
         answer
     }

@@ -11,7 +11,7 @@ ghost use Rattle.ipcz_c.specs.Named.{named};
 ghost use Rattle.ipcz_c.specs.Statuses.{not_created, already_created};
 ghost use Rattle.ipcz_c.specs.Told.{room_of, fits, TellsSizes};
 ghost use Rattle.ipcz_c.specs.Calls.{IsRefused, is_within, has_slots, LacksRoom};
-ghost use Rattle.ipcz_c.specs.Looks.{CellLooks};
+ghost use Rattle.ipcz_c.specs.Looks.{CellLooks, HasArrivedAt};
 ghost use Rattle.ipcz_c.specs.Ready.{CellFindsReady};
 ghost use Rattle.ipcz_c.specs.CellSteps.{CountsClaimed};
 ghost use Rattle.ipcz_c.specs.HeldCells.{HeldCell, Moves, cell_sizes};
@@ -23,7 +23,8 @@ use crate::making::{are_within, have_slots, lists_of};
 use crate::portal::{Portal, Seen};
 use crate::status::{ALREADY_CREATED, NOT_CREATED, TOO_SMALL, refused, status};
 use crate::tell::{
-    got, lacking, outcome, retried, tell_ends, tell_got, tell_number, tell_ready, tell_seen, tell_sizes,
+    got, lacking, outcome, retried, tell_arrived, tell_ends, tell_got, tell_number, tell_ready,
+    tell_seen, tell_sizes,
 };
 use ipcz_base::{Profile, Refusal};
 use ipcz_cell::{NodeSet, start, start_lasting};
@@ -224,6 +225,26 @@ pub extern "C" fn ipcz_cell_look(
     }
     let answer = of.look::<Brand>(alloc, at.end());
     tell_seen(answer, seen)
+}
+
+/// Whether a portal of the node has arrived, so that it leaves at most one proxy in its route if it travels on now.
+#[unsafe(no_mangle)]
+#[tactic(auto, using(crate::proofs::SameOwner::brand_only))]
+pub extern "C" fn ipcz_cell_has_arrived(
+    alloc: Global,
+    of: &mut CellHandle,
+    at: Portal,
+    arrived: &mut bool,
+) -> u32
+    ensures did { HasArrivedAt of.old.held.cell at result arrived.old arrived.new }
+    ensures same { of.new.held.cell ≡ of.old.held.cell }
+    ensures none { IsNone of.old.held.cell → (result ≡ not_created) × (arrived.new ≡ arrived.old) }
+{
+    if !of.has_cell {
+        return NOT_CREATED;
+    }
+    let answer = of.has_arrived::<Brand>(alloc, at.end());
+    tell_arrived(answer, arrived)
 }
 
 /// The next portal of the node, from a serial on, at which a get wouldn't be `Empty`, and from which serial to ask for the one behind it.

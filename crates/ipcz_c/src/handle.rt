@@ -1,8 +1,9 @@
 //! What C holds of a world, and the calls of the world through it.
-ghost use Rattle.std.specs.Prelude.{◌≡◌, Some, None, IsSome};
+ghost use Rattle.std.specs.Prelude.{◌≡◌, Some, None, IsSome, IfSome};
 ghost use Rattle.std.specs.Option.{is_some};
 ghost use Rattle.ipcz_world.specs.declared.step.Step.TheVariants as steps;
 ghost use Rattle.ipcz_world.specs.Steps.{put_of, sizes_given};
+ghost use Rattle.ipcz_world.specs.Arrived.{arrival_in};
 ghost use Rattle.ipcz_c.specs.Looks.{IsLookIn};
 ghost use Rattle.ipcz_c.specs.Ready.{IsReadyIn};
 ghost use Rattle.ipcz_c.specs.Calls.{Steps, Keeps, RepliesPlainly, sizes_next, SettlesTo};
@@ -126,6 +127,18 @@ impl Handle {
     {
         let world = self.take(alloc);
         let answer = world.look(node, at);
+        self.give(world);
+        answer
+    }
+
+    // Whether a portal of the world of a handle that has one has arrived.
+    pub(crate) fn has_arrived(&mut self, alloc: Global, node: u8, at: End) -> Option<bool>
+        requires { IsSome self.old.held.world }
+        ensures arrived { IfSome self.old.held.world (λ w. result ≡ arrival_in w node at) }
+        ensures same { self.new.held.world ≡ self.old.held.world }
+    {
+        let world = self.take(alloc);
+        let answer = world.has_arrived(node, at);
         self.give(world);
         answer
     }

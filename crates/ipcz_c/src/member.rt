@@ -2,6 +2,7 @@
 ghost use Rattle.std.specs.Prelude.{◌≡◌, Some, IfOk};
 ghost use Rattle.ipcz_base.specs.Items.{sizes_of};
 ghost use Rattle.ipcz_node.specs.Calls.{next_sizes};
+ghost use Rattle.ipcz_node.specs.Arriving.{arrival_of};
 ghost use Rattle.ipcz_node.specs.Finding.{IsNextReady};
 ghost use Rattle.ipcz_node.specs.Looking.{IsLook};
 ghost use Rattle.ipcz_node.specs.Node.{holds_end};
@@ -81,6 +82,12 @@ impl<F: FabricName> Member<F> {
         ensures { IsNextReady self.now.part.state serial result }
     {
         self.cell.ready_from(serial)
+    }
+
+    pub(crate) fn has_arrived(&self, at: End) -> Option<bool>
+        ensures { result ≡ arrival_of self.now.part.state at }
+    {
+        self.cell.has_arrived(at)
     }
 
     pub(crate) fn close(&mut self, at: End) -> Result<u64, Refusal>

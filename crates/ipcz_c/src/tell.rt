@@ -2,7 +2,7 @@
 ghost use Rattle.std.specs.Prelude.{◌≡◌, ◌≤◌, true, false, Some, IfSome, IfNone, length};
 ghost use Rattle.ipcz_world.specs.Steps.{sizes_given};
 ghost use Rattle.ipcz_c.specs.CellCalls.{outcome_of, IsNumbered, AreEnds, get_answer, retry_code};
-ghost use Rattle.ipcz_c.specs.Looks.{TellsSeen};
+ghost use Rattle.ipcz_c.specs.Looks.{TellsArrived, TellsSeen};
 ghost use Rattle.ipcz_c.specs.Ready.{TellsReady};
 ghost use Rattle.ipcz_c.specs.Told.{room_of, fits, AreOpened, IsPut, IsActed, TellsSizes, AreAtFront, AreNamedAtFront, IsGot, IsSettled};
 
@@ -80,6 +80,20 @@ pub(crate) fn tell_seen(answer: Option<PortalStatus>, seen: &mut Seen) -> u32
         peer_closed: told.peer_closed,
     };
     0
+}
+
+// Whether a portal has arrived, and the status.
+#[tactic(auto, unfolding(crate::specs::Looks::TellsArrived))]
+pub(crate) fn tell_arrived(answer: Option<bool>, arrived: &mut bool) -> u32
+    ensures { TellsArrived answer result arrived.old arrived.new }
+{
+    match answer {
+        Some(is) => {
+            *arrived = is;
+            0
+        }
+        None => refused(Refusal::Stranger),
+    }
 }
 
 // The next end at which something has come, and from which serial to ask for the one behind it; its status.

@@ -18,7 +18,6 @@ use Rattle.ipcz_world.specs.Books.{is_retired}
 use Rattle.ipcz_world.specs.Lawfulness.{IsLawful}
 use Rattle.ipcz_world.specs.Owed.{IsRanked}
 use Rattle.ipcz_world.specs.Records.{At, is_left, key_at, terminal_descriptor}
-use Rattle.ipcz_world.specs.Standing.{has_inward_primary}
 use Rattle.ipcz_world.specs.Structure.{IsRecorded, is_begun_router, has_role, link_in}
 use Rattle.ipcz_world.specs.Bypasses.{moving_link}
 use Rattle.ipcz_world.proofs.facts.Finding.{IsTerminalOf, terminal_tells}

@@ -1,4 +1,4 @@
-use Rattle.std.proofs.Common.{◌≡◌, ◌∙◌, ap}
+use Rattle.std.proofs.Common.{◌∙◌, ap}
 use Rattle.ipcz_node.specs.Arriving.{arrival_of}
 use Rattle.ipcz_fabric.specs.Portals.{PortalValue}
 use Rattle.ipcz_fabric.proofs.Locking.{lent}
