@@ -168,6 +168,15 @@ ipcz_status ipcz_look(ipcz_world *world, uint8_t node, ipcz_portal at, ipcz_port
  * IPCZ_STRANGER. */
 ipcz_status ipcz_has_arrived(ipcz_world *world, uint8_t node, ipcz_portal at, bool *arrived);
 
+/* Tells the next portal of a node at which a get isn't IPCZ_EMPTY: a parcel has come there, or the peer has closed and all was got. Nothing is taken.
+ * So each is told once, as long as there is no other call on the world:
+ *     uint64_t from = 0;
+ *     while (ipcz_next_ready(&world, node, &from, &at) == IPCZ_OK) ...
+ *   from  0 to begin with, and then what finds the next one
+ *   at    where the portal is written
+ * IPCZ_EMPTY if there is no further one, or no such node; then from and at are as they were. It looks at each router of the node from there on. */
+ipcz_status ipcz_next_ready(ipcz_world *world, uint8_t node, uint64_t *from, ipcz_portal *at);
+
 /* Gets a parcel, with pointers that are not null: what ipcz_get calls, and what other languages may call. */
 ipcz_status ipcz_get_parcel(ipcz_world *world, uint8_t node, ipcz_portal at, uint8_t *bytes, size_t room, size_t *size,
                             ipcz_portal *portals, size_t portal_room, size_t *count, uint64_t *number);
@@ -273,6 +282,13 @@ ipcz_status ipcz_cell_look(ipcz_cell *cell, ipcz_portal at, ipcz_portal_status *
  *   arrived  where it is written
  * IPCZ_STRANGER. */
 ipcz_status ipcz_cell_has_arrived(ipcz_cell *cell, ipcz_portal at, bool *arrived);
+
+/* Tells the next portal of the node at which a get isn't IPCZ_EMPTY, as ipcz_next_ready does of a world's node. What another node has sent is told once it
+ * has come, which it does in ipcz_cell_acts.
+ *   from  0 to begin with, and then what finds the next one
+ *   at    where the portal is written
+ * IPCZ_EMPTY if there is no further one; then from and at are as they were. */
+ipcz_status ipcz_cell_next_ready(ipcz_cell *cell, uint64_t *from, ipcz_portal *at);
 
 /* Gets a parcel, with pointers that are not null: what ipcz_cell_get calls, and what other languages may call. */
 ipcz_status ipcz_cell_get_parcel(ipcz_cell *cell, ipcz_portal at, uint8_t *bytes, size_t room, size_t *size,

@@ -65,6 +65,13 @@ inline void check(ipcz_status status) {
 #endif
 }
 
+// Whether something was found: any other refusal than that there is nothing is told as check does.
+inline bool found(ipcz_status status) {
+    if (status == IPCZ_EMPTY) return false;
+    check(status);
+    return true;
+}
+
 // What a call gets, which is given the room that it wants. If it is no parcel, or if this throws, the parcel is as it was.
 template <typename Get> Got got_by(Parcel &parcel, Get get) {
     Portal portals[IPCZ_MAX_PORTALS];
@@ -144,6 +151,15 @@ class World {
         bool arrived = false;
         check(::ipcz_has_arrived(&world_, node, at, &arrived));
         return arrived;
+    }
+
+    // The portals of a node at which a get would give a parcel, or tell that the peer has closed. Nothing is taken.
+    std::vector<Portal> ready(std::uint8_t node) const {
+        std::vector<Portal> all;
+        Portal at{};
+        std::uint64_t from = 0;
+        while (found(::ipcz_next_ready(&world_, node, &from, &at))) all.push_back(at);
+        return all;
     }
 
     void close(std::uint8_t node, Portal at) { check(::ipcz_close(&world_, node, at)); }
@@ -261,6 +277,15 @@ class Cell {
         bool arrived = false;
         check(::ipcz_cell_has_arrived(&cell_, at, &arrived));
         return arrived;
+    }
+
+    // The portals of the node at which a get would give a parcel, or tell that the peer has closed. Nothing is taken.
+    std::vector<Portal> ready() const {
+        std::vector<Portal> all;
+        Portal at{};
+        std::uint64_t from = 0;
+        while (found(::ipcz_cell_next_ready(&cell_, &from, &at))) all.push_back(at);
+        return all;
     }
 
     void close(Portal at) { check(::ipcz_cell_close(&cell_, at)); }

@@ -22,6 +22,8 @@ int main(void) {
     uint64_t number, acts, word;
     size_t size, count;
     ipcz_portal_status seen;
+    ipcz_portal ready;
+    uint64_t from = 0;
     bool arrived = false;
     print("look on a fresh handle", ipcz_cell_look(&fresh, left, &seen));
     print("open on a fresh handle", ipcz_cell_open(&fresh, &a, &b));
@@ -45,6 +47,9 @@ int main(void) {
     print("one act", ipcz_cell_acts(&cells[0], 1, &acts));
     printf("taken %u\n", (unsigned)acts);
     print("acts", settle(cells));
+    print("next ready", ipcz_cell_next_ready(&cells[1], &from, &ready));
+    printf("pair %" PRIu64 ", side B %d\n", ready.pair, ready.side_b);
+    print("and the next", ipcz_cell_next_ready(&cells[1], &from, &ready));
     print("look by a stranger", ipcz_cell_look(&cells[0], right, &seen));
     print("look", ipcz_cell_look(&cells[1], right, &seen));
     printf("next is %" PRIu64 ", %" PRIu64 " wait, %zu bytes and %zu portals, closed %d\n", seen.next, seen.waiting, seen.size, seen.count, seen.peer_closed);

@@ -245,6 +245,42 @@ static bool looks(void) {
     return true;
 }
 
+static bool same(ipcz_portal a, ipcz_portal b) { return a.pair == b.pair && a.side_b == b.side_b; }
+
+/* The portals at which something has come are told one after the other: of two pairs of one node, and of the first pair of two. */
+static bool are_ready(void) {
+    ipcz_world world = IPCZ_WORLD_INIT;
+    ipcz_portal left = ipcz_first(0, 1, 2), right = ipcz_first(1, 0, 2), a, b, at = left;
+    parcel got;
+    uint64_t from = 0;
+    EXPECT(ipcz_next_ready(&world, 1, &from, &at), IPCZ_NOT_CREATED);
+    EXPECT(ipcz_create(2, 2, &world), IPCZ_OK);
+    EXPECT(ipcz_open(&world, 1, &a, &b), IPCZ_OK);
+    EXPECT(ipcz_next_ready(&world, 1, &from, &at), IPCZ_EMPTY);
+    EXPECT(ipcz_next_ready(&world, 2, &from, &at), IPCZ_EMPTY);
+    HOLDS(from == 0 && same(at, left));
+    EXPECT(put(&world, 0, left, "for right"), IPCZ_OK);
+    EXPECT(put(&world, 1, a, "for b"), IPCZ_OK);
+    EXPECT(ipcz_settle(&world, 1000, NULL, NULL), IPCZ_OK);
+    EXPECT(ipcz_next_ready(&world, 1, &from, &at), IPCZ_OK);
+    HOLDS(same(at, right));
+    EXPECT(ipcz_next_ready(&world, 1, &from, &at), IPCZ_OK);
+    HOLDS(same(at, b));
+    EXPECT(ipcz_next_ready(&world, 1, &from, &at), IPCZ_EMPTY);
+    HOLDS(same(at, b));
+    EXPECT(get(&world, 1, right, &got), IPCZ_OK);
+    EXPECT(ipcz_close(&world, 1, a), IPCZ_OK);
+    EXPECT(ipcz_settle(&world, 1000, NULL, NULL), IPCZ_OK);
+    EXPECT(get(&world, 1, b, &got), IPCZ_OK);
+    EXPECT(get(&world, 1, b, &got), IPCZ_PEER_CLOSED);
+    from = 0;
+    EXPECT(ipcz_next_ready(&world, 1, &from, &at), IPCZ_OK);
+    HOLDS(same(at, b));
+    EXPECT(ipcz_next_ready(&world, 1, &from, &at), IPCZ_EMPTY);
+    ipcz_destroy(&world);
+    return true;
+}
+
 /* A portal has arrived where it was opened, and where it came to once its proxy is bypassed. */
 static bool arrives(void) {
     ipcz_world world = IPCZ_WORLD_INIT;
@@ -326,7 +362,7 @@ static bool handles(void) {
 int main(void) {
     ipcz_world world = IPCZ_WORLD_INIT;
     if (ipcz_create(2, 8, &world)) return 1;
-    bool well = travels(&world) && small_rooms(&world) && parcels_of_any_bytes(&world) && unwanted_outputs(&world) && refusals(&world) && looks() && arrives() && lasts() && asks_again() && handles();
+    bool well = travels(&world) && small_rooms(&world) && parcels_of_any_bytes(&world) && unwanted_outputs(&world) && refusals(&world) && looks() && are_ready() && arrives() && lasts() && asks_again() && handles();
     printf("%" PRIu64 " words used\n", ipcz_claimed(&world));
     ipcz_destroy(&world);
     for (ipcz_status status = 0; status <= 14; status++) printf("%" PRIu32 " %s\n", status, ipcz_status_name(status));

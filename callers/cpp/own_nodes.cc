@@ -38,6 +38,7 @@ int main() {
     std::cout << get(cell, pair.first).bytes << '\n';
     ended = true;
     other.join();
+    std::cout << "ready: " << cell.ready().size() << '\n';
     const auto seen = cell.look(pair.first);
     std::cout << "waiting: " << seen.waiting << ", closed: " << seen.peer_closed << '\n';
     std::cout << "arrived: " << cell.has_arrived(left) << '\n';

@@ -98,6 +98,13 @@ func (c *Cell) HasArrived(at Portal) (bool, error) {
 	return bool(arrived), err
 }
 
+// Ready lists the portals of the node at which a get would give a parcel, or tell that the peer has closed. Nothing is taken.
+func (c *Cell) Ready() []Portal {
+	return allReady(func(from *C.uint64_t, at *C.ipcz_portal) C.ipcz_status {
+		return C.ipcz_cell_next_ready(c.c(), from, at)
+	})
+}
+
 // Close closes a portal of the node.
 func (c *Cell) Close(at Portal) error {
 	return answer(C.ipcz_cell_close(c.c(), at.c()))

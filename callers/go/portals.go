@@ -85,6 +85,17 @@ func fromC(p C.ipcz_portal) Portal {
 	return Portal{Pair: uint64(p.pair), SideB: bool(p.side_b)}
 }
 
+// allReady lists each portal that such calls tell, one after the other.
+func allReady(next func(*C.uint64_t, *C.ipcz_portal) C.ipcz_status) []Portal {
+	var all []Portal
+	var from C.uint64_t
+	var at C.ipcz_portal
+	for next(&from, &at) == C.IPCZ_OK {
+		all = append(all, fromC(at))
+	}
+	return all
+}
+
 // A Look is what a look at a portal tells: what gets there would answer, one after the other.
 type Look struct {
 	Next       uint64 // the number that the next parcel has, whether it has come or not

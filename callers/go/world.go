@@ -69,6 +69,13 @@ func (w *World) HasArrived(node uint8, at Portal) (bool, error) {
 	return bool(arrived), err
 }
 
+// Ready lists the portals of a node at which a get would give a parcel, or tell that the peer has closed. Nothing is taken.
+func (w *World) Ready(node uint8) []Portal {
+	return allReady(func(from *C.uint64_t, at *C.ipcz_portal) C.ipcz_status {
+		return C.ipcz_next_ready(w.c(), C.uint8_t(node), from, at)
+	})
+}
+
 // Close closes a portal of the node.
 func (w *World) Close(node uint8, at Portal) error {
 	return answer(C.ipcz_close(w.c(), C.uint8_t(node), at.c()))

@@ -62,6 +62,9 @@ func TestAPortalTravels(t *testing.T) {
 	_, err = world.Get(1, right)
 	refused(t, err, Empty)
 	settle(t, world)
+	if ready := world.Ready(1); len(ready) != 1 || ready[0] != right {
+		t.Fatalf("%v are ready, not %v", ready, right)
+	}
 	seen, err := world.Look(1, right)
 	must(t, err)
 	if want := (Look{Next: 0, Waiting: 1, Size: 8, Count: 1}); seen != want {

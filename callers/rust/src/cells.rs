@@ -1,7 +1,7 @@
 // SPDX-License-Identifier: BSD-3-Clause
 //! Nodes that each have a handle of their own.
 
-use crate::{answer, got_by, raw, Parcel, Portal, Refused, Status, NOWHERE};
+use crate::{all_ready, answer, got_by, raw, Parcel, Portal, Refused, Status, NOWHERE};
 
 /// A node's cell. Calls on different cells, also of one table, may come from different threads at once.
 #[repr(transparent)]
@@ -124,6 +124,11 @@ impl Cell {
         let mut arrived = false;
         answer(unsafe { raw::ipcz_cell_has_arrived(&mut self.0, at, &mut arrived) })?;
         Ok(arrived)
+    }
+
+    /// The portals of the node at which a get would give a parcel, or tell that the peer has closed. Nothing is taken.
+    pub fn ready(&mut self) -> Vec<Portal> {
+        all_ready(|from, at| unsafe { raw::ipcz_cell_next_ready(&mut self.0, from, at) })
     }
 
     /// Closes a portal of the node. What was put at it still comes to the other one; what comes to it is discarded. `Stranger`, `OutOfMemory`.

@@ -115,6 +115,15 @@ fn answer(status: u32) -> Result<(), Refused> {
     }
 }
 
+// Each portal that such calls tell, one after the other.
+fn all_ready(mut next: impl FnMut(&mut u64, &mut Portal) -> u32) -> Vec<Portal> {
+    let (mut all, mut from, mut at) = (Vec::new(), 0, NOWHERE);
+    while next(&mut from, &mut at) == 0 {
+        all.push(at);
+    }
+    all
+}
+
 /// The portal that a node has from the start of the pair that it shares with another; both are below `nodes`, and not the same.
 pub fn first_portal(node: u8, other: u8, nodes: u8) -> Portal {
     let (low, high) = (u64::from(node.min(other)), u64::from(node.max(other)));
@@ -248,6 +257,11 @@ impl World {
         let mut arrived = false;
         answer(unsafe { raw::ipcz_has_arrived(&mut self.0, node, at, &mut arrived) })?;
         Ok(arrived)
+    }
+
+    /// The portals of a node at which a get would give a parcel, or tell that the peer has closed. Nothing is taken.
+    pub fn ready(&mut self, node: u8) -> Vec<Portal> {
+        all_ready(|from, at| unsafe { raw::ipcz_next_ready(&mut self.0, node, from, at) })
     }
 
     /// Closes a portal of the node. What was put at it still comes to the other one; what comes to it is discarded. `Stranger`, `OutOfMemory`.

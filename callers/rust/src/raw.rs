@@ -114,6 +114,7 @@ unsafe extern "C" {
     ) -> u32;
     pub fn ipcz_look(world: *mut Handle, node: u8, at: Portal, status: *mut Status) -> u32;
     pub fn ipcz_has_arrived(world: *mut Handle, node: u8, at: Portal, arrived: *mut bool) -> u32;
+    pub fn ipcz_next_ready(world: *mut Handle, node: u8, from: *mut u64, at: *mut Portal) -> u32;
     pub fn ipcz_close(world: *mut Handle, node: u8, at: Portal) -> u32;
     pub fn ipcz_act(world: *mut Handle, node: u8, acted: *mut bool) -> u32;
     pub fn ipcz_settle_counting(
@@ -164,6 +165,7 @@ unsafe extern "C" {
     ) -> u32;
     pub fn ipcz_cell_look(cell: *mut CellHandle, at: Portal, status: *mut Status) -> u32;
     pub fn ipcz_cell_has_arrived(cell: *mut CellHandle, at: Portal, arrived: *mut bool) -> u32;
+    pub fn ipcz_cell_next_ready(cell: *mut CellHandle, from: *mut u64, at: *mut Portal) -> u32;
     pub fn ipcz_cell_close(cell: *mut CellHandle, at: Portal) -> u32;
     pub fn ipcz_cell_acts_touching(
         cell: *mut CellHandle,

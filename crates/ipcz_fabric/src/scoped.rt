@@ -42,7 +42,7 @@ impl<'a, R: Wait, F: FabricName> ScopedPortal<'a, R, F> {
     ///
     /// So `scoped.into_portal().close(rt, &hub)` closes it and tells its number.
     pub fn into_portal(self) -> Portal<F>
-        ensures { result ≡ self }
+        ensures { result ≡ self.entry }
     {
         let ScopedPortal {
             rt: _,
