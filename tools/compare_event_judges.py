@@ -4,8 +4,8 @@
 
 Of each of COUNT scripts (100 if nothing is said), drawn from the seeds FIRST and up, a run whose order of acts the seed draws must be allowed. Some copies of its log
 are changed in one place each: a line lost, doubled, or swapped with the next one; a number, a link, a node, a portal or a word changed; some byte spoiled. The program
-must say of each what tools/judge_events.py says, with what is told in place of a refused line's text, and its status. With `--folder` the logs and what is to be
-written are put there, for `rt try --cases FOLDER`, and no program is run.
+must say of each what tools/judge_events.py says, with what is told in place of a refused line's text and all acts that were possible there, and its status. With
+`--folder` the logs and what is to be written are put there, for `rt try --cases FOLDER`, and no program is run.
 """
 import json
 import random
@@ -59,8 +59,7 @@ def logs_of(seed: int) -> list[bytes]:
 
 
 def said_of(log: bytes) -> str:
-    """What tools/judge_events.py says, and the program is to write: with a text that is allowed in place of a refused line's, and without all that the node could
-    do."""
+    """What tools/judge_events.py says, and the program is to write."""
     return judge_events.verdict(log.decode())
 
 

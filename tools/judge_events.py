@@ -1,7 +1,7 @@
 """Judges a log with events by tools/model.py: whether its calls and the acts of its nodes, in the order of the log, are those of a world.
 
-    python3 tools/judge_events.py < LOG                          prints `allowed`, or the first line that isn't, with a text that is allowed in its place, and
-                                                                 what its node could do there
+    python3 tools/judge_events.py < LOG                          prints `allowed`, or the first line that isn't, with a text that is allowed in its place, and,
+                                                                 of an act, each act that its node could take there
     python3 tools/judge_events.py --run SCRIPT --seed N > LOG    runs a script in which each node takes any of its possible acts, as the seed draws
 
 What a log is tells docs/JUDGE.md, "Events". Nothing of it is proved.
@@ -26,6 +26,10 @@ VERBS = {
     "lock": model.World.lock, "wait": model.World.lock, "refused": model.World.lock, "begin": model.World.begin, "retire": model.World.retire,
     "rest": model.World.rest, "unlock": None,
 }
+# What routers do, in the order in which it is told: the verbs that name another act's outcome are left out.
+TOLD_VERBS = [
+    "send out", "send in", "discard", "finish out", "finish in", "leave", "mark", "wake", "claim", "lock", "begin", "retire", "unlock", "rest",
+]
 
 
 # A number as events have it.
@@ -105,19 +109,45 @@ class World(model.World):
         return self.changed("unlock", at, self.word(at) % 256 & ~model.LOCKED[at.side])
 
     def acts_of(self, number: int) -> Iterator[Act]:
-        """What a node could do, if it is possible; a router rests if it is flagged, and last."""
+        """What a node could do, if it is possible, in the order in which it is told."""
         node, others = self.nodes[number], range(len(self.nodes))
         yield "hand", None
         yield from (("look", sender) for sender in others)
         yield from (("post", receiver) for receiver in others)
         yield "close", self.next_close(node)
-        yield from ((verb, serial) for serial in list(node.routers) for verb in VERBS if verb not in ("rest", "wait", "refused"))
-        yield from (("rest", serial) for serial, router in list(node.routers.items()) if router.flagged)
+        yield from ((verb, serial) for serial in sorted(node.routers) for verb in TOLD_VERBS)
+        yield "idle", None
 
-    def possible(self, number: int) -> list[str]:
-        """The events of all that a node could do now."""
-        tried = ((copy.deepcopy(self), act) for act in [*self.acts_of(number), ("idle", None)])
-        return [event for world, act in tried if (event := world.take(number, act))]
+    def with_own(self, number: int) -> "World":
+        """The same world, of which a node can take an act without a change here."""
+        world = copy.copy(self)
+        world.nodes = [copy.deepcopy(node) if node.number == number else node for node in self.nodes]
+        world.words, world.mailboxes = list(self.words), dict(self.mailboxes)
+        return world
+
+    def possible(self, number: int) -> list[Act]:
+        """All that a node could do now."""
+        told: list[Act] = []
+        # (what isn't possible changes nothing: so the copy is made anew only when something was done in it)
+        world = self.with_own(number)
+        for act in self.acts_of(number):
+            if act[0] == "rest":
+                is_possible = not any(serial == act[1] for verb, serial in told if verb in VERBS)
+            elif is_possible := world.take(number, act) is not None:
+                world = self.with_own(number)
+            told += [act] if is_possible else []
+        return told
+
+
+def beginning(act: Act) -> str:
+    """The words that an event of an act begins with."""
+    match act:
+        case "hand" | "idle" as verb, _:
+            return verb
+        case "look" | "post" | "close" as verb, about:
+            return f"{verb} {about}"
+        case verb, serial:
+            return f"r{serial} {verb}"
 
 
 class Run(model.Run):
@@ -173,8 +203,8 @@ def taken(run: Run, line: dict[str, Any]) -> str | None:
     return None if command[0] in ("turn", "settle") else run.do(command)[0]
 
 
-def verdict(log: str, tells_acts: bool = False) -> str:
-    """What is said of a log; and if that is asked for, in a line more, what the node of a refused act could do there."""
+def verdict(log: str) -> str:
+    """What is said of a log."""
     lines = log.split("\n")
     lines = lines[:-1] if lines[-1] == "" else lines
     try:
@@ -193,19 +223,18 @@ def verdict(log: str, tells_acts: bool = False) -> str:
             return f"line {number}: no line of a log"
         if instead != own_text(line):
             said = [f"line {number}: refused"] + ([] if instead is None else [f"in its place: {instead}"])
-            return "\n".join(said + (acts_there(line, int(nodes), int(words), lines[1 : number - 1]) if tells_acts else []))
+            return "\n".join(said + acts_there(line, int(nodes), int(words), lines[1 : number - 1]))
     return "allowed"
 
 
 def acts_there(line: dict[str, Any], nodes: int, words: int, before: list[str]) -> list[str]:
-    """The line that tells what the node of an act could do behind the lines before; none of a call, or if there is no such node."""
-    node = line.get("node")
-    if not isinstance(line.get("event"), str) or node >= nodes:
+    """The lines that tell each act that the node of an act could take behind the lines before; none of a call, or if there is no such node."""
+    if not isinstance(line.get("event"), str) or line["node"] >= nodes:
         return []
     run = Run(nodes, words)
     for text in before:
         taken(run, read(text))
-    return [f"node {node} could: " + ", ".join(run.world.possible(int(node)))]
+    return [f"possible: {beginning(act)}" for act in run.world.possible(int(line["node"]))]
 
 
 # ---- runs
@@ -214,8 +243,8 @@ def acts_there(line: dict[str, Any], nodes: int, words: int, before: list[str]) 
 def drawn_act(world: World, number: int, draw: random.Random) -> str:
     """Takes some possible act of a node, or idle."""
     acts = list(world.acts_of(number))
-    rests = [act for act in acts if act[0] == "rest"]
-    acts = [act for act in acts if act[0] not in ("rest", "unlock")]
+    rests = [act for act in acts if act[0] == "rest" and world.nodes[number].routers[act[1]].flagged]
+    acts = [act for act in acts if act[0] not in ("rest", "unlock", "idle")]
     draw.shuffle(acts)
     draw.shuffle(rests)
     # (a router that could do something doesn't rest; another one may, before others act)
@@ -258,7 +287,7 @@ def main() -> int:
             sys.exit(f"{given.run} is no script")
         print(written(log_of(value, given.seed)), end="")
         return 0
-    said = verdict(sys.stdin.read(), tells_acts=True)
+    said = verdict(sys.stdin.read())
     print(said)
     return 0 if said == "allowed" else 2
 

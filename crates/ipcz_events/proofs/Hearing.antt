@@ -2,11 +2,12 @@
 use Rattle.std.specs.Prelude.{ℕ, suc, ◌≡◌, ◌<◌, ◌+◌, ◌==◌, Bool, true, false, List, [], ◌∷◌, ◌++◌, length, take, drop, nat_eq, if◌then◌else◌, Option, Some, None, refl}
 use Rattle.std.proofs.Common.{arith, ap, ◌∙◌, sym, subst, inl, inr}
 use Rattle.std.proofs.lemmas.Bool.Decides.{nat_tests}
+use Rattle.ipcz_node.specs.declared.act.Act.{Act}
 use Rattle.ipcz_script.specs.Sessions.{Session, new_session}
 use Rattle.ipcz_events.specs.declared.entry.Entry.{Entry}
 use Rattle.ipcz_events.specs.declared.header.Header.{Header}
-use Rattle.ipcz_events.specs.declared.judged.Judged.{Judged}
-use Rattle.ipcz_events.specs.declared.judged.Judged.TheVariants as judged
+use Rattle.ipcz_events.specs.declared.heard.Heard.{Heard}
+use Rattle.ipcz_events.specs.declared.heard.Heard.TheVariants as heard
 use Rattle.ipcz_events.specs.declared.verdict.Verdict.{Verdict}
 use Rattle.ipcz_events.specs.declared.verdict.Verdict.TheVariants as verdicts
 use Rattle.ipcz_events.specs.Hearing.{Hears}
@@ -82,32 +83,35 @@ pub begins_with : (nodes words : ℕ) (s : Session) (all : List (List ℕ)) → 
 begins_with nodes words s all is = ([], is, λ v said. said)
 
 module _ (nodes words : ℕ) (s t : Session) (number : ℕ) where
-  pub said_refused : (all : List (List ℕ)) (rest : List ℕ) (n : ℕ) (h : Option Judged) (told : Option (List ℕ)) → 0 < length rest → n ≡ line_len rest →
-      Hears s nodes (take n rest) h t → h ≡ Some (judged.Refused told) → Reaches nodes words s number all (text_lines rest) →
-      IsSaidOf nodes words [] 2 all (verdicts.Refused number told)
-  said_refused all rest n h told some is heard refused way =
-      let said = subst (λ x. Hears s nodes (take n rest) x t) refused heard in
-      way.2 (verdicts.Refused number told) (subst (λ ls. IsSaidOf nodes words way.0 number ls (verdicts.Refused number told)) (sym (first_of_rest rest n some is))
+  pub said_refused : (all : List (List ℕ)) (rest : List ℕ) (n : ℕ) (h : Heard) (told : Option (List ℕ)) (acts : List Act) → 0 < length rest →
+      n ≡ line_len rest → Hears s nodes (take n rest) h t → h ≡ heard.Refused told acts → Reaches nodes words s number all (text_lines rest) →
+      IsSaidOf nodes words [] 2 all (verdicts.Refused number told acts)
+  said_refused all rest n h told acts some is hears refused way =
+      let said = subst (λ x. Hears s nodes (take n rest) x t) refused hears in
+      way.2 (verdicts.Refused number told acts)
+      (subst (λ ls. IsSaidOf nodes words way.0 number ls (verdicts.Refused number told acts)) (sym (first_of_rest rest n some is))
       (inr (inl (
         said.0,
         told,
+        acts,
         said.1,
-        (λ allowed. never_more way.0 (new_session nodes words) s said.0 way.1 said.2.0 allowed.0 allowed.1),
-        in_place nodes words way.0 s said.0 told way.1 said.2.1,
+        (λ allowed. never_more way.0 (new_session nodes words) s said.0 way.1 said.2 allowed.0 allowed.1),
+        in_place nodes words way.0 s said.0 told way.1 said.3,
+        (s, way.1, said.4),
         refl,
       ))))
 
-  pub said_none : (all : List (List ℕ)) (rest : List ℕ) (n : ℕ) (h : Option Judged) → 0 < length rest → n ≡ line_len rest →
-      Hears s nodes (take n rest) h t → h ≡ None → Reaches nodes words s number all (text_lines rest) → IsSaidOf nodes words [] 2 all (verdicts.NoLog number)
-  said_none all rest n h some is heard none way =
-      let said = subst (λ x. Hears s nodes (take n rest) x t) none heard in
+  pub said_none : (all : List (List ℕ)) (rest : List ℕ) (n : ℕ) (h : Heard) → 0 < length rest → n ≡ line_len rest →
+      Hears s nodes (take n rest) h t → h ≡ heard.NoLine → Reaches nodes words s number all (text_lines rest) → IsSaidOf nodes words [] 2 all (verdicts.NoLog number)
+  said_none all rest n h some is hears none way =
+      let said = subst (λ x. Hears s nodes (take n rest) x t) none hears in
       way.2 (verdicts.NoLog number) (subst (λ ls. IsSaidOf nodes words way.0 number ls (verdicts.NoLog number)) (sym (first_of_rest rest n some is)) (inr (inr (said, refl))))
 
-  pub goes_on : (next : ℕ) (all : List (List ℕ)) (rest left : List ℕ) (n : ℕ) (h : Option Judged) → 0 < length rest → n ≡ line_len rest →
-      Hears s nodes (take n rest) h t → h ≡ Some judged.Allowed → left ≡ drop (n + 1) rest → next ≡ number + 1 → Reaches nodes words s number all (text_lines rest) →
+  pub goes_on : (next : ℕ) (all : List (List ℕ)) (rest left : List ℕ) (n : ℕ) (h : Heard) → 0 < length rest → n ≡ line_len rest →
+      Hears s nodes (take n rest) h t → h ≡ heard.Allowed → left ≡ drop (n + 1) rest → next ≡ number + 1 → Reaches nodes words s number all (text_lines rest) →
       Reaches nodes words t next all (text_lines left)
-  goes_on next all rest left n h some is heard allowed behind more way =
-      let said = subst (λ x. Hears s nodes (take n rest) x t) allowed heard in
+  goes_on next all rest left n h some is hears allowed behind more way =
+      let said = subst (λ x. Hears s nodes (take n rest) x t) allowed hears in
       let log : List Entry = way.0 ++ said.0 ∷ [] in
       let may = one_more way.0 (new_session nodes words) s t said.0 way.1 said.2 in (
         log,
@@ -134,3 +138,9 @@ headed text n behind header v is rest head said =
 
 pub headless : (text : List ℕ) (n : ℕ) → n ≡ line_len text → IsHeader (take n text) None → IsVerdict text (verdicts.NoLog 1)
 headless text n is none = inr (subst (λ k. IsHeader (take k text) None) is none, refl)
+
+-- ---- two sessions that take the same lines
+
+-- a line that is allowed leads to one session, from wherever it is taken
+pub alike : (s t u v : Session) (nodes : ℕ) (bytes : List ℕ) (e : Entry) → t ≡ s → MayEntry s e u → MayEntry t e v → v ≡ u
+alike s t u v nodes bytes e same one other = one_way s v u e (subst (λ x. MayEntry x e v) same other) one

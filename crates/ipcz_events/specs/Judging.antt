@@ -1,8 +1,9 @@
 -- What is said of the next line of a log, and what is told of one that isn't allowed.
-use Rattle.std.specs.Prelude.{ℕ, ◌≡◌, ◌≢◌, false, List, Option, Some, None}
+use Rattle.std.specs.Prelude.{ℕ, ◌≡◌, ◌≢◌, false, List, [], Option, Some, None}
 use Rattle.ipcz_node.specs.declared.act.Act.{Act}
 use Rattle.ipcz_node.specs.declared.happened.Happened.{Happened}
 use Rattle.ipcz_world.specs.Asking.{IsActed}
+use Rattle.ipcz_world.specs.Listing.{ArePossible}
 use Rattle.ipcz_world.specs.World.{World}
 use Rattle.ipcz_script.specs.Sessions.{Session}
 use Rattle.ipcz_events.specs.declared.entry.Entry.{Entry}
@@ -31,6 +32,11 @@ HasNone s (entries.Acted node text) =
 abbrev pub IsInstead : Session → Entry → Option (List ℕ) → Type 0
 IsInstead s entry None = HasNone s entry
 IsInstead s entry (Some text) = (t : Session) × MayEntry s (with_text entry text) t
+
+-- what is told beside it: of an act each that its node may take there, and of a call none
+abbrev pub AreToldActs : Session → Entry → List Act → Type 0
+AreToldActs s (entries.Call command line) acts = acts ≡ []
+AreToldActs s (entries.Acted node text) acts = ArePossible s.world node acts
 
 -- a line was judged: it is allowed, and leads there; or there is no way that it is
 abbrev pub Judges : Session → Entry → Judged → Session → Type 0

@@ -1,5 +1,5 @@
 -- How the text of an event begins: which act its first words name.
-use Rattle.std.specs.Prelude.{ℕ, ◌≡◌, ◌<◌, ◌^◌, ◌==◌, ◌⊎◌, List, [], ◌∷◌, codes, if◌then◌else◌}
+use Rattle.std.specs.Prelude.{ℕ, ◌≡◌, ◌<◌, ◌^◌, ◌==◌, ◌⊎◌, List, [], ◌∷◌, ◌++◌, codes, if◌then◌else◌}
 use Rattle.std.specs.Fmt.{decimal}
 use Rattle.ipcz_base.specs.declared.end.End.{End}
 use Rattle.ipcz_base.specs.Texts.{end_text}
@@ -64,6 +64,32 @@ NameHasBits (named.Router serial act) = HasBits serial
 NameHasBits named.Idle = Unit {0}
 
 -- ---- acts
+
+-- the words that tell what a router does
+abbrev pub told_words : RouterAct → List ℕ
+told_words does.SendOut = codes "send out"
+told_words does.SendIn = codes "send in"
+told_words does.Discard = codes "discard"
+told_words does.FinishOut = codes "finish out"
+told_words does.FinishIn = codes "finish in"
+told_words does.Leave = codes "leave"
+told_words does.Mark = codes "mark"
+told_words does.Wake = codes "wake"
+told_words does.Claim = codes "claim"
+told_words does.Lock = codes "lock"
+told_words does.Begin = codes "begin"
+told_words does.Retire = codes "retire"
+told_words does.Unlock = codes "unlock"
+told_words does.Rest = codes "rest"
+
+-- an act in the words by which its event begins
+abbrev pub act_text : Act → List ℕ
+act_text (acts.Hand sender) = codes "hand"
+act_text (acts.Look sender) = codes "look " ++ decimal sender
+act_text (acts.Post to) = codes "post " ++ decimal to
+act_text (acts.Close end) = codes "close " ++ end_text end
+act_text (acts.Router serial act) = codes "r" ++ decimal serial ++ codes " " ++ told_words act
+act_text acts.Idle = codes "idle"
 
 -- what names an act
 abbrev pub name_of : Act → Named

@@ -2,11 +2,13 @@
 use Rattle.std.specs.Prelude.{ℕ, ◌≡◌, ◌≤◌, ◌+◌, ◌↔◌, ◌++◌, ◌∷◌, [], Bool, true, false, IsTrue, IsErrOf, List, length, Option, Some, None, Result, Ok, Err, codes}
 use Rattle.std.specs.Fmt.{decimal}
 use Rattle.std.specs.Io.KnownBytes.{Appends, Consumes, IsAtEnd, Keeps}
+use Rattle.ipcz_node.specs.declared.act.Act.{Act}
 use Rattle.ipcz_device.specs.WholeIo.{AppendsFront, ConsumesAtMost}
 use Rattle.ipcz_script.specs.declared.run_fault.RunFault.{RunFault}
 use Rattle.ipcz_script.specs.declared.run_fault.RunFault.TheVariants as faults
 use Rattle.ipcz_events.specs.declared.verdict.Verdict.{Verdict}
 use Rattle.ipcz_events.specs.declared.verdict.Verdict.TheVariants as verdicts
+use Rattle.ipcz_events.specs.Naming.{act_text}
 use Rattle.ipcz_events.specs.Verdicts.{IsVerdict}
 
 -- a text, and a newline
@@ -18,10 +20,15 @@ abbrev pub place_text : Option (List ℕ) → List ℕ
 place_text None = []
 place_text (Some told) = codes "in its place: " ++ line told
 
+-- the lines that tell acts, each in the words by which its event begins
+abbrev pub acts_text : List Act → List ℕ
+acts_text [] = []
+acts_text (act ∷ acts) = codes "possible: " ++ line (act_text act) ++ acts_text acts
+
 -- what is written for a verdict
 abbrev pub verdict_text : Verdict → List ℕ
 verdict_text verdicts.Allowed = line (codes "allowed")
-verdict_text (verdicts.Refused n told) = codes "line " ++ decimal n ++ line (codes ": refused") ++ place_text told
+verdict_text (verdicts.Refused n told acts) = codes "line " ++ decimal n ++ line (codes ": refused") ++ place_text told ++ acts_text acts
 verdict_text (verdicts.NoLog n) = codes "line " ++ decimal n ++ line (codes ": no line of a log")
 
 abbrev pub IsText : Verdict → List ℕ → Type 0
@@ -51,7 +58,7 @@ unfoldable pub status : Result Verdict RunFault → ℕ
 status (Ok verdicts.Allowed) = 0
 status (Err faults.Read) = 1
 status (Err faults.Write) = 1
-status (Ok (verdicts.Refused n told)) = 2
+status (Ok (verdicts.Refused n told acts)) = 2
 status (Ok (verdicts.NoLog n)) = 2
 status (Err faults.OutOfMemory) = 3
 
@@ -63,7 +70,8 @@ usage = line (codes "usage: ipcz_judge_events [--help] < LOG")
 abbrev pub help : List ℕ
 help = usage ++ line [] ++ line (codes "Reads a log of the calls and events of another implementation, a JSON value a line, and says whether the rules allow it: ends with")
     ++ line (codes "status 0 if they do, and else with status 2 and the first line that they don't allow, or that is none of a log.")
-    ++ line (codes "Of one that they don't allow a second line tells a text that is allowed in its place, if one is known.")
+    ++ line (codes "Of one that they don't allow a second line tells a text that is allowed in its place, if one is known; and of an act")
+    ++ line (codes "further lines tell each act that its node could take there.")
 
 -- a text was written, with this status, or after a failed write some front of it, with the status 1
 abbrev pub Writes : List ℕ → ℕ → Option (List ℕ) → Option (List ℕ) → Bool → ℕ → Type 0

@@ -4,6 +4,7 @@
 
 mod entry;
 mod header;
+mod heard;
 mod judged;
 mod judging;
 pub mod laws;
@@ -11,6 +12,7 @@ mod log_text;
 mod naming;
 pub mod program;
 mod reading;
+mod telling;
 mod verdict;
 
 pub use entry::Entry;

@@ -1,18 +1,24 @@
 //! Judging the text of a log with events, line by line.
 
-ghost use Rattle.std.specs.Prelude.{◌≡◌, ◌≤◌, ◌<◌, ◌+◌, [], length, drop, option_map, IfOk, IfSome};
+ghost use Rattle.std.specs.Prelude.{◌≡◌, ◌≤◌, ◌<◌, ◌+◌, [], length, drop, option_map, IfOk, IfSome, OnOk};
 ghost use Rattle.serde_json.specs.View.{view};
 ghost use Rattle.ipcz_script.specs.Reading.{IsJson};
+ghost use Rattle.ipcz_script.specs.Sessions.{Session as SessionValue};
 ghost use Rattle.ipcz_script.specs.ScriptLimits.{HasScriptLimits};
 ghost use Rattle.ipcz_events.specs.Hearing.{Hears};
+ghost use Rattle.ipcz_events.specs.Judging.{AreToldActs};
+ghost use Rattle.ipcz_events.specs.Rules.{MayEntry};
 ghost use Rattle.ipcz_events.specs.Verdicts.{IsHeader, IsLine, IsSaidOf, IsVerdict, line_len, text_lines};
 
 use crate::entry::Entry;
 use crate::header::{Header, header_in};
+use crate::heard::Heard;
 use crate::judged::Judged;
 use crate::judging::judge;
 use crate::reading::entry_in;
 use crate::verdict::Verdict;
+use ipcz_base::Sequence;
+use ipcz_node::Act;
 use ipcz_script::Session;
 use serde_json::Value;
 use std::alloc::{AllocError, Global};
@@ -63,21 +69,58 @@ fn read_header(alloc: Global, bytes: &[u8]) -> Result<Option<Header>, AllocError
     Ok(header_in(&value))
 }
 
-// What the judge says of the next line, if the bytes are one.
+// Lets a session take a line that is allowed there.
+fn follow(alloc: Global, session: &mut Session, entry: &Entry) -> Result<(), AllocError>
+    requires { (t : SessionValue) × MayEntry session.old entry.now t }
+    ensures { OnOk result (MayEntry session.old entry.now session.new) }
+{
+    match judge(alloc, session, entry)? {
+        Judged::Allowed => Ok(()),
+        Judged::Refused(_) => unreachable!(),
+    }
+}
+
+// All acts that the node of a line may take, if it is an act.
+fn possible_acts(
+    alloc: Global,
+    session: &Session,
+    entry: &Entry,
+) -> Result<Sequence<Act>, AllocError>
+    ensures { IfOk result (λ acts. AreToldActs session.now entry.now acts) }
+{
+    match entry {
+        Entry::Call { .. } => Ok(Sequence::from_vec(Vec::new(alloc))),
+        Entry::Acted { node, .. } => Ok(Sequence::from_vec(session.possible_acts(*node)?)),
+    }
+}
+
+// What the judge says of the next line. The second session is as the first one, and takes the line behind it, if it is allowed; so it tells what was
+// possible where a line isn't, since the first one is of no more use then.
 fn hear(
     alloc: Global,
     session: &mut Session,
+    behind: &mut Session,
     nodes: u8,
     bytes: &[u8],
-) -> Result<Option<Judged>, AllocError>
+) -> Result<Heard, AllocError>
     requires some_node { 0 < nodes }
-    ensures { IfOk result (λ heard. Hears session.old nodes bytes.now heard session.new) }
+    requires alike { behind.old ≡ session.old }
+    ensures heard { IfOk result (λ heard. Hears session.old nodes bytes.now heard session.new) }
+    ensures alike { IfOk result (λ heard. heard ≡ Heard.Allowed → behind.new ≡ session.new) }
 {
     let Some(entry) = read_line(alloc, nodes, bytes)? else {
-        return Ok(None);
+        return Ok(Heard::NoLine);
     };
-    let judged = judge(alloc, session, &entry)?;
-    Ok(Some(judged))
+    match judge(alloc, session, &entry)? {
+        Judged::Allowed => {
+            follow(alloc, behind, &entry)?;
+            Ok(Heard::Allowed)
+        }
+        Judged::Refused(instead) => {
+            let possible = possible_acts(alloc, behind, &entry)?;
+            Ok(Heard::Refused(instead, possible))
+        }
+    }
 }
 
 // The bytes behind the first line and its line feed.
@@ -98,14 +141,27 @@ fn judge_lines(alloc: Global, header: Header, text: &[u8]) -> Result<Verdict, Al
     ensures { IfOk result (λ verdict. IsSaidOf header.nodes header.words [] 2 (text_lines text.now) verdict) }
 {
     let mut session = Session::new(alloc, header.nodes, header.words)?;
+    let mut follower = Session::new(alloc, header.nodes, header.words)?;
     let mut rest = text;
     let mut line = 2u64;
     while !rest.is_empty() {
         let len = line_len(rest);
-        match hear(alloc, &mut session, header.nodes, &rest[..len])? {
-            Some(Judged::Allowed) => {}
-            Some(Judged::Refused(instead)) => return Ok(Verdict::Refused { line, instead }),
-            None => return Ok(Verdict::NoLog(line)),
+        match hear(
+            alloc,
+            &mut session,
+            &mut follower,
+            header.nodes,
+            &rest[..len],
+        )? {
+            Heard::Allowed => {}
+            Heard::Refused(instead, possible) => {
+                return Ok(Verdict::Refused {
+                    line,
+                    instead,
+                    possible,
+                });
+            }
+            Heard::NoLine => return Ok(Verdict::NoLog(line)),
         }
         rest = behind(rest, len);
         line = line.checked_add(1).ok_or(AllocError)?;
@@ -115,7 +171,7 @@ fn judge_lines(alloc: Global, header: Header, text: &[u8]) -> Result<Verdict, Al
 
 /// What is said of the text of a log: whether its first line is a header and each other one a line of a log that the rules allow behind those
 /// before it; and if not, which is the first that isn't so. Of one that isn't allowed a text is told, too, that is allowed in place of its own, where
-/// `judge` tells one.
+/// `judge` tells one; and if it is an act, each act that its node could take there.
 ///
 /// So of an empty text it is said that line 1 is no line of a log.
 pub fn judge_log(alloc: Global, text: &[u8]) -> Result<Verdict, AllocError>

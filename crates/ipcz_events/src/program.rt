@@ -1,12 +1,14 @@
 //! The program `ipcz_judge_events`, but for its arguments and devices.
 
 ghost use Rattle.std.specs.Prelude.{◌≡◌, ◌↔◌, ◌++◌, false, Ok, OnErr, OnOk, IsErrOf, IfOk, IsTrue, codes};
-ghost use Rattle.ipcz_events.specs.Outputs.{help, Judges, IsText, line, place_text, ReadsAndWrites, status, usage, verdict_text, Writes};
+ghost use Rattle.ipcz_events.specs.Outputs.{acts_text, help, Judges, IsText, line, place_text, ReadsAndWrites, status, usage, verdict_text, Writes};
 
 use crate::log_text::judge_log;
+use crate::telling::push_act;
 use crate::verdict::Verdict;
 use ipcz_base::Bytes;
 use ipcz_device::{Device, read_up_to, write_whole};
+use ipcz_node::Act;
 use ipcz_script::RunFault;
 use std::alloc::{AllocError, Global};
 use std::env;
@@ -18,7 +20,7 @@ const MOST_READ: usize = 1_073_741_825;
 const USAGE: &[u8] = b"usage: ipcz_judge_events [--help] < LOG\n";
 
 const HELP: &[u8] =
-    b"usage: ipcz_judge_events [--help] < LOG\n\nReads a log of the calls and events of another implementation, a JSON value a line, and says whether the rules allow it: ends with\nstatus 0 if they do, and else with status 2 and the first line that they don't allow, or that is none of a log.\nOf one that they don't allow a second line tells a text that is allowed in its place, if one is known.\n";
+    b"usage: ipcz_judge_events [--help] < LOG\n\nReads a log of the calls and events of another implementation, a JSON value a line, and says whether the rules allow it: ends with\nstatus 0 if they do, and else with status 2 and the first line that they don't allow, or that is none of a log.\nOf one that they don't allow a second line tells a text that is allowed in its place, if one is known; and of an act\nfurther lines tell each act that its node could take there.\n";
 
 /// What the arguments of the program ask for.
 #[derive(Clone, Copy, Debug, PartialEq, Eq)]
@@ -71,15 +73,32 @@ fn push_place(out: &mut Vec<u8>, told: &Option<Bytes>) -> io::Result<()>
     }
 }
 
+// Adds the lines that tell acts.
+fn push_acts(out: &mut Vec<u8>, acts: &[Act]) -> io::Result<()>
+    ensures { OnOk result (out.new.items ≡ out.old.items ++ acts_text acts.now) }
+{
+    for act in acts {
+        write!(out, "possible: ")?;
+        push_act(out, *act)?;
+        writeln!(out)?;
+    }
+    Ok(())
+}
+
 // Adds what is written for a verdict.
 fn push_verdict(out: &mut Vec<u8>, verdict: &Verdict) -> io::Result<()>
     ensures { OnOk result (out.new.items ≡ out.old.items ++ verdict_text verdict.now) }
 {
     match verdict {
         Verdict::Allowed => writeln!(out, "allowed"),
-        Verdict::Refused { line, instead } => {
+        Verdict::Refused {
+            line,
+            instead,
+            possible,
+        } => {
             writeln!(out, "line {line}: refused")?;
-            push_place(out, instead)
+            push_place(out, instead)?;
+            push_acts(out, possible.as_slice())
         }
         Verdict::NoLog(line) => writeln!(out, "line {line}: no line of a log"),
     }

@@ -1,6 +1,7 @@
 ghost use Rattle.std.specs.Prelude.{◌≡◌, false, OnErr, OnOk, IfErr, IfOk};
 ghost use Rattle.ipcz_script.specs.ScriptLimits.{HasScriptLimits};
 ghost use Rattle.ipcz_world.specs.Asking.{hand_at, IsActed, WhyNotTaken};
+ghost use Rattle.ipcz_world.specs.Listing.{ArePossible, possible_acts};
 ghost use Rattle.ipcz_world.specs.Steps.{first_step};
 ghost use Rattle.ipcz_script.specs.Sessions.{AreTurns, Is, Runs, SettlesTo, TurnsTo, bind, answer_to};
 ghost use Rattle.ipcz_script.specs.Sessions.{is_idle_reply, is_turn, is_want, new_session, replied_close, replied_get, replied_open};
@@ -187,6 +188,14 @@ impl Session {
         ensures { result ≡ hand_at self.now.world node }
     {
         self.world.hand(node)
+    }
+
+    /// The acts that a node may take, each once, as `World::possible_acts` lists them.
+    pub fn possible_acts(&self, node: u8) -> Result<Vec<Act>, AllocError>
+        ensures possible { IfOk result (λ acts. ArePossible self.now.world node acts.items) }
+        ensures order { IfOk result (λ acts. acts.items ≡ possible_acts self.now.world node) }
+    {
+        self.world.possible_acts(self.alloc, node)
     }
 
     /// Lets a node take this act, as `World::act` does, where a turn command takes the first possible one. What names are bound to stays.

@@ -7,6 +7,8 @@ pub mod FirstTurns
 pub mod GoingOn
 pub mod Growing
 pub mod Kept
+pub mod Listed
+pub mod Listing
 pub mod LoneFinds
 pub mod LoneSenders
 pub mod LoneWorlds

@@ -16,6 +16,7 @@ pub mod Lawfulness
 pub mod Lasting
 pub mod Laws
 pub mod Lending
+pub mod Listing
 pub mod Mailing
 pub mod Numbers
 pub mod Owed

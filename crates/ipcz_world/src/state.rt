@@ -15,6 +15,7 @@ pub(crate) mod asking;
 pub(crate) mod calls;
 pub(crate) mod carrying;
 pub(crate) mod limits;
+pub(crate) mod listing;
 pub(crate) mod settling;
 pub(crate) mod turns;
 

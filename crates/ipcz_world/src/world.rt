@@ -13,6 +13,7 @@ ghost use Rattle.ipcz_world.specs.HeldEnds.{grown};
 ghost use Rattle.ipcz_world.specs.Holding.{holder_of, routers_at, shown_word};
 ghost use Rattle.ipcz_world.specs.Lawful.{IsWithinLimits, Lawful};
 ghost use Rattle.ipcz_world.specs.Lawfulness.{IsLawful};
+ghost use Rattle.ipcz_world.specs.Listing.{ArePossible, possible_acts};
 ghost use Rattle.ipcz_world.specs.Owed.{IsWet};
 ghost use Rattle.ipcz_world.specs.Parts.{world_of_parts};
 ghost use Rattle.ipcz_world.specs.Plain.{Plain};
@@ -33,7 +34,7 @@ use crate::state::State;
 use crate::step::{NotTaken, Reply, Settled, Step};
 use ipcz_base::{Bytes, End, Ends, PortalStatus, Profile, Refusal, Sizes};
 use ipcz_node::{Act, Happened, NodeState, PutRefused};
-use std::alloc::Global;
+use std::alloc::{AllocError, Global};
 use std::marker::Model;
 
 /// Nodes with the link words that they share and the mailboxes between them (docs/PROTOCOL.md, "Nodes" and "Turns").
@@ -271,6 +272,21 @@ impl World {
         ensures err { OnErr result (self.new ≡ self.old) }
     {
         self.state.act(node, act)
+    }
+
+    /// The acts that a node may take now, each once: those of which [`World::can_act`] says so. They come in the order in which turns try them:
+    /// the message in hand, looks and posts by the other node's number, the end that is closed next, the routers by their serials, each with its
+    /// acts in the order of their table, and idle. Some act is among them, if the node is one of the world's; else there is none. Idle is among
+    /// them if the node has nothing to do; a router that can do nothing may rest, also if it rests already, which changes nothing.
+    ///
+    /// It changes nothing, and looks at each router of the node. Refused if there is no memory for the list.
+    ///
+    /// In the world `World::new(alloc, 2, 8)` `world.possible_acts(alloc, 0)` has `Act::Router(0, RouterAct::Rest)` and `Act::Idle`.
+    pub fn possible_acts(&self, alloc: Global, node: u8) -> Result<Vec<Act>, AllocError>
+        ensures possible { IfOk result (λ acts. ArePossible self.now node acts.items) }
+        ensures order { IfOk result (λ acts. acts.items ≡ possible_acts self.now node) }
+    {
+        self.state.possible_acts(alloc, node)
     }
 
     /// Puts a parcel at an end that the node's callers hold, and answers its number: how many were put there before. It has 0 to 65,536 bytes of

@@ -1,0 +1,10 @@
+use Rattle.std.proofs.Common.{◌≡◌, ◌++◌}
+use Rattle.std.specs.List.{filter}
+use Rattle.ipcz_node.specs.declared.act.Act.TheVariants.{Look}
+use Rattle.ipcz_world.specs.Asking.{can_act}
+use Rattle.ipcz_world.proofs.code.Listing.{numbers_left}
+use Rattle.ipcz_world.proofs.state.State.push_looks.Given as goal
+
+-- those that are listed, and those that are left, are all of them
+abbrev pub invariant-loop-sender : goal.invariant-loop-sender
+invariant-loop-sender l = l.acts.items ++ filter (can_act l.fn.self l.fn.n) (numbers_left Look l.fn.self.count l.sender) ≡ l.fn.acts.items ++ filter (can_act l.fn.self l.fn.n) (numbers_left Look l.fn.self.count 0)
