@@ -1,5 +1,5 @@
 -- What the calls of C tell of the portals at which something has come.
-use Rattle.std.specs.Prelude.{◌≡◌, ◌≤◌, ◌<◌, ◌+◌, ◌^◌, ◌-◌, ℕ, nat_min, Option, Some, None}
+use Rattle.std.specs.Prelude.{◌≡◌, ◌≤◌, ◌<◌, ◌+◌, ◌^◌, ◌-◌, ℕ, min, Option, Some, None}
 use Rattle.ipcz_base.specs.declared.end.End.{End}
 use Rattle.ipcz_base.specs.declared.refusal.Refusal.TheVariants.{Empty}
 use Rattle.ipcz_base.specs.Refusals.{code_of}
@@ -12,7 +12,7 @@ use Rattle.ipcz_c.specs.Named.{named}
 -- what is told of an answer: the end is written, and from which serial to ask for the next one, the last one of 64 bits at most; where there is none
 -- nothing is written
 unfoldable pub TellsReady : Option (ℕ × End) → ℕ → ℕ → ℕ → Portal → Portal → Type 0
-TellsReady (Some found) status old_from from old at = (status ≡ 0) × (from ≡ nat_min (found.0 + 1) (2 ^ 64 - 1)) × (named at ≡ found.1)
+TellsReady (Some found) status old_from from old at = (status ≡ 0) × (from ≡ min (found.0 + 1) (2 ^ 64 - 1)) × (named at ≡ found.1)
 TellsReady None status old_from from old at = (status ≡ code_of Empty) × (from ≡ old_from) × (at ≡ old)
 
 -- what the world of a handle answers to who asks for the next ready end of a node, and what the cell of one does

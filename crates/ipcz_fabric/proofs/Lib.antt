@@ -9,3 +9,4 @@ pub mod Books
 pub mod Replaying
 pub mod Standing
 pub mod TurnsCounted
+pub mod Beginning
