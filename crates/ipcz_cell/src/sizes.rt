@@ -48,7 +48,7 @@ impl<F: FabricName> NodeCell<F> {
     /// Whether this end has arrived, so that it leaves at most one proxy in its route if it travels on now: what `World::has_arrived` says, of
     /// this node. None if the node's callers don't hold the end. It is never refused, takes no memory and touches no word.
     ///
-    /// An end of a pair that was opened here has arrived at once. Where one has just come in a parcel, `cell.has_arrived(at)` is `Some(false)`,
+    /// An end of a pair that was opened here has arrived at once. Where one has just come from another node, `cell.has_arrived(at)` is `Some(false)`,
     /// and `Some(true)` once the nodes that it came by have bypassed its proxies.
     pub fn has_arrived(&self, at: End) -> Option<bool>
         ensures { result ≡ arrival_of self.now.part.state at }

@@ -346,7 +346,7 @@ impl<F: FabricName> Portal<F> {
     /// if it travels on now: what `World::has_arrived` says, of this node. None if the node's callers don't hold the portal's end. It is no call
     /// in the node's history, is never refused, and takes no memory.
     ///
-    /// A portal of a pair that was opened here has arrived at once. Where one has just come in a parcel, `portal.has_arrived(rt, &hub)` is
+    /// A portal of a pair that was opened here has arrived at once. Where one has just come from another node, `portal.has_arrived(rt, &hub)` is
     /// `Some(false)`, and `Some(true)` once the nodes that it came by have bypassed its proxies.
     pub fn has_arrived<R: Wait>(&self, rt: &R, hub: &Hub<F>) -> Option<bool>
         ensures { HasArrivedOrNot F.table self.now.node self.now.end result }

@@ -428,7 +428,7 @@ impl World {
     /// only when it has arrived, it never has more than one proxy in the route. It is no promise about the peer, which may be on its own way,
     /// and whose proxies may stand. What is put and got is the same whether a portal has arrived or not.
     ///
-    /// Where a portal has just come in a parcel, `world.has_arrived(1, at)` is `Some(false)`, and after a settle `Some(true)`, if no proxy is
+    /// Where a portal has just come from another node, `world.has_arrived(1, at)` is `Some(false)`, and after a settle `Some(true)`, if no proxy is
     /// left without a word.
     pub fn has_arrived(&self, node: u8, at: End) -> Option<bool>
         ensures answer { result ≡ arrival_in self.now node at }
