@@ -6,10 +6,8 @@
 
 What a log is tells docs/JUDGE.md, "Events". Nothing of it is proved.
 """
-import copy
 import json
 import pathlib
-import random
 import re
 import sys
 from collections.abc import Iterator
@@ -43,8 +41,8 @@ class NoLine(Exception):
 class World(model.World):
     """A world in which a node takes the act that it is told to. What isn't possible changes nothing, and gives nothing."""
 
-    def take(self, number: int, act: Act, may_spoil: bool = False) -> str | None:
-        """Takes an act. A rest that isn't possible may spoil the world, where that doesn't matter: then no copy of it is made."""
+    def take(self, number: int, act: Act) -> str | None:
+        """Takes an act."""
         if not 0 <= number < len(self.nodes):
             return None
         node = self.nodes[number]
@@ -60,15 +58,19 @@ class World(model.World):
             case "idle", _:
                 return "idle" if self.is_idle(number) else None
             case verb, serial:
-                return self.let_act(node, serial, verb, may_spoil)
+                return self.let_act(node, serial, verb)
 
     def next_close(self, node: model.Node) -> str | None:
         """The end that a node closes next."""
         return "{}{}".format(*node.pending_closes[0]) if node.pending_closes else None
 
+    def has_hand(self, number: int) -> bool:
+        """Whether a node has a message in its hand."""
+        return any(each is not None and each[1] for (_, to), each in self.mailboxes.items() if to == number)
+
     def look_at(self, node: model.Node, sender: int) -> str | None:
         mail = self.mailboxes.get((sender, node.number))
-        if not mail or any(each and each[1] for (_, to), each in self.mailboxes.items() if to == node.number):
+        if not mail or self.has_hand(node.number):
             return None
         self.mailboxes[sender, node.number] = mail[0], True
         return f"look {sender}"
@@ -79,25 +81,17 @@ class World(model.World):
         self.mailboxes[node.number, receiver] = node.outboxes[receiver].pop(0), False
         return f"post {receiver}"
 
-    def let_act(self, node: model.Node, serial: int, verb: str, may_spoil: bool) -> str | None:
+    def let_act(self, node: model.Node, serial: int, verb: str) -> str | None:
         router = node.routers.get(serial)
         if router is None:
             return None
         if verb == "rest":
-            event = self.rest_last(node, serial, may_spoil)
+            event = self.rest(node, router) if self.is_possible(node.number, (verb, serial)) else None
         else:
             event = self.unlock(node, router) if verb == "unlock" else VERBS[verb](self, node, router)
         if event and (event.endswith("leave") or event.startswith("retire")):
             del node.routers[serial]
         return f"r{serial} {event}" if event else None
-
-    def rest_last(self, node: model.Node, serial: int, may_spoil: bool) -> str | None:
-        """A router rests only if it can do nothing else."""
-        world = self if may_spoil else copy.deepcopy(self)
-        inside = world.nodes[node.number]
-        if any(act(world, inside, inside.routers[serial]) for act in model.ROUTER_ACTS if act is not model.World.rest):
-            return None
-        return self.rest(node, node.routers[serial])
 
     def unlock(self, node: model.Node, router: model.Router) -> str | None:
         """It stands in for a begin and a retire."""
@@ -118,25 +112,59 @@ class World(model.World):
         yield from ((verb, serial) for serial in sorted(node.routers) for verb in TOLD_VERBS)
         yield "idle", None
 
-    def with_own(self, number: int) -> "World":
-        """The same world, of which a node can take an act without a change here."""
-        world = copy.copy(self)
-        world.nodes = [copy.deepcopy(node) if node.number == number else node for node in self.nodes]
-        world.words, world.mailboxes = list(self.words), dict(self.mailboxes)
-        return world
+    def is_possible(self, number: int, act: Act) -> bool:
+        """Whether a node may take an act that is one of `acts_of`."""
+        node = self.nodes[number]
+        match act:
+            case "hand", _:
+                return self.has_hand(number)
+            case "look", sender:
+                return self.mailboxes[sender, number] is not None and not self.has_hand(number)
+            case "post", receiver:
+                return bool(node.outboxes[receiver]) and not self.mailboxes[number, receiver]
+            case "close", end:
+                return end is not None
+            case "idle", _:
+                return self.is_idle(number)
+            case "rest", serial:
+                return not any(self.may(node.routers[serial], verb) for verb in TOLD_VERBS if verb != "rest")
+            case verb, serial:
+                return self.may(node.routers[serial], verb)
+
+    def may(self, router: model.Router, verb: str) -> bool:
+        """Whether a router may do this, which is no rest (docs/PROTOCOL.md, "Turns")."""
+        waiting, coming = router.out_queue, router.in_queue
+        match verb:
+            case "send out":
+                return waiting.next() is not None and router.outward.choose(waiting.current) is not None
+            case "send in":
+                return router.is_proxy() and coming.next() is not None and router.inward.choose(coming.current) is not None
+            case "discard":
+                return router.is_sink() and coming.next() is not None
+            case "finish out":
+                return router.outward.can_finish(waiting.current, coming.reach())
+            case "finish in":
+                return router.is_proxy() and router.inward.can_finish(coming.current, waiting.reach())
+            case "leave":
+                return router.is_proxy() and (router.gone_sent or not any(edge.links() for edge in router.edges()))
+            case "mark":
+                return router.is_settled() and not router.marked
+            case "wake":
+                return router.wake_owed
+            case "claim":
+                return router.is_proxy() and self.could_try(router) and router.spare is None and not router.dry
+            case "lock":
+                return self.could_try(router) and not router.holds and (self.is_done(router) or router.is_proxy() and router.spare is not None)
+            case "begin":
+                return router.is_proxy() and router.holds
+            case "retire":
+                return self.is_done(router) and router.holds
+            case _:
+                return router.holds and (router.is_proxy() or self.is_done(router))
 
     def possible(self, number: int) -> list[Act]:
         """All that a node could do now."""
-        told: list[Act] = []
-        # (what isn't possible changes nothing: so the copy is made anew only when something was done in it)
-        world = self.with_own(number)
-        for act in self.acts_of(number):
-            if act[0] == "rest":
-                is_possible = not any(serial == act[1] for verb, serial in told if verb in VERBS)
-            elif is_possible := world.take(number, act) is not None:
-                world = self.with_own(number)
-            told += [act] if is_possible else []
-        return told
+        return [act for act in self.acts_of(number) if self.is_possible(number, act)]
 
 
 def beginning(act: Act) -> str:
@@ -196,7 +224,7 @@ def taken(run: Run, line: dict[str, Any]) -> str | None:
         if not model.is_number(line.get("node"), 0, 255):
             raise NoLine
         act = named(text)
-        return run.world.take(int(line["node"]), act, may_spoil=True) if act else None
+        return run.world.take(int(line["node"]), act) if act else None
     command = line.get("call")
     if not isinstance(line.get("answer"), str) or not model.is_command(command, len(run.world.nodes), set()):
         raise NoLine
@@ -240,35 +268,58 @@ def acts_there(line: dict[str, Any], nodes: int, words: int, before: list[str]) 
 # ---- runs
 
 
-def drawn_act(world: World, number: int, draw: random.Random) -> str:
-    """Takes some possible act of a node, or idle."""
-    acts = list(world.acts_of(number))
-    rests = [act for act in acts if act[0] == "rest" and world.nodes[number].routers[act[1]].flagged]
-    acts = [act for act in acts if act[0] not in ("rest", "unlock", "idle")]
-    draw.shuffle(acts)
-    draw.shuffle(rests)
-    # (a router that could do something doesn't rest; another one may, before others act)
-    acts = acts + rests if draw.random() < 0.8 else rests + acts
-    return next((event for act in acts if (event := world.take(number, act))), "idle")
+class Draw:
+    """What a seed draws, as docs/JUDGE.md, "Drawing an order of acts", has it."""
+
+    def __init__(self, seed: int) -> None:
+        self.state = seed
+
+    def choice(self, among: list[Any]) -> Any:
+        self.state = (self.state * 6364136223846793005 + 1442695040888963407) % 2**64
+        return among[(self.state >> 32) % len(among)]
+
+
+def drawn_act(world: World, number: int, draw: Draw) -> str:
+    """Takes some possible act of a node, but a rest of a router that rests already."""
+    routers = world.nodes[number].routers
+    act = draw.choice([act for act in world.possible(number) if act[0] != "rest" or routers[act[1]].flagged])
+    event = world.take(number, act)
+    assert event is not None
+    return event
+
+
+def drawn_turns(world: World, number: int, most: int, draw: Draw) -> Iterator[dict[str, Any]]:
+    """At most so many turns of a node, up to an idle one."""
+    for _ in range(most):
+        event = drawn_act(world, number, draw)
+        yield {"node": number, "event": event}
+        if event == "idle":
+            return
+
+
+def drawn_settle(world: World, most: int, draw: Draw) -> Iterator[dict[str, Any]]:
+    """At most so many acts of nodes that have something to do, up to where none has."""
+    for _ in range(most):
+        busy = [number for number in range(len(world.nodes)) if not world.is_idle(number)]
+        if not busy:
+            return
+        number = draw.choice(busy)
+        yield {"node": number, "event": drawn_act(world, number, draw)}
 
 
 def log_of(script: dict[str, Any], seed: int) -> list[dict[str, Any]]:
-    """The log of a run of a script in which the seed draws which node acts next, and which of its possible acts it takes."""
-    draw = random.Random(seed)
+    """The log of a run of a script in which the seed draws which node acts next in a settle, and which of its possible acts a node takes."""
+    draw = Draw(seed)
     run = Run(script["nodes"], script["words"])
-    log: list[dict[str, Any]] = [{"nodes": script["nodes"], "words": script["words"]}]
+    log: list[dict[str, Any]] = [{"nodes": script["nodes"], "words": script["words"], "seed": seed}]
     for command in script["commands"]:
-        if command[0] == "turn":
-            nodes, most = [command[1]], command[2]
-        elif command[0] == "settle":
-            nodes, most = list(range(script["nodes"])), command[1]
-        else:
-            log.append({"call": command, "answer": run.do(command)[0]})
-            continue
-        while most and (busy := [number for number in nodes if not run.world.is_idle(number)]):
-            number = draw.choice(busy)
-            log.append({"node": number, "event": drawn_act(run.world, number, draw)})
-            most -= 1
+        match command:
+            case ["turn", node, most]:
+                log += drawn_turns(run.world, node, most, draw)
+            case ["settle", most]:
+                log += drawn_settle(run.world, most, draw)
+            case _:
+                log.append({"call": command, "answer": run.do(command)[0]})
     return log
 
 
@@ -279,8 +330,10 @@ def written(log: list[dict[str, Any]]) -> str:
 def main() -> int:
     parser = asked.parser(__doc__)
     parser.add_argument("--run", type=pathlib.Path, metavar="SCRIPT", help="a script whose run is drawn")
-    parser.add_argument("--seed", type=int, default=0, help="what draws the order of acts (0)")
+    parser.add_argument("--seed", type=int, default=0, help="what draws the order of acts, a number below 2^64 (0)")
     given = parser.parse_args()
+    if not 0 <= given.seed < 2**64:
+        parser.error(f"the seed {given.seed} isn't from 0 to 2^64 - 1")
     if given.run:
         value = model.read_json(given.run.read_text())
         if model.first_fault(value) is not None:

@@ -55,6 +55,15 @@ OPENED_AGAIN = r"""{"nodes": 1, "words": 3}
 {"node": 0, "event": "hand item 0 C1"}
 {"call": ["get", "v"], "answer": "get v 0 [y] \"m\""}
 """
+# What seeds draw of so many things each, by docs/JUDGE.md, "Drawing an order of acts", computed by hand.
+DRAWN = {0: [(1000, 614), (1000, 849), (1000, 874)], 7: [(10, 6), (7, 2), (3, 0)]}
+# The end of a log on two nodes, and what is told of its last line: each act that node 0 could take behind the lines before, by docs/PROTOCOL.md, "Turns".
+POSSIBLE = r"""{"nodes": 2, "words": 4, "seed": 9}
+{"call": ["put", "0>1", "m"], "answer": "put 0>1 0"}
+{"node": 0, "event": "r0 send out 0 C0"}
+{"node": 0, "event": "look 1"}
+"""
+TOLD = "line 4: refused\npossible: post 1\npossible: r0 rest"
 # What the model answers of bytes that are no script, or barely one, by docs/SCRIPTS.md, "The script".
 SCRIPT = b'{"nodes":1,"words":1,"commands":[["put","x",%s]]}'
 TEXTS = {
@@ -123,6 +132,21 @@ def faults_of_the_model() -> list[str]:
             faults.append(f"model of {script[:60]!r}: status {status}, {text[:60]!r}")
     said = judge_events.verdict(OPENED_AGAIN)
     return faults + ([] if said == "allowed" else [f"judge_events of names that are opened again: {said}"])
+
+
+def faults_of_events() -> list[str]:
+    """What is told of a line that isn't allowed, and what seeds draw."""
+    faults = [] if (said := judge_events.verdict(POSSIBLE)) == TOLD else [f"judge_events of a line that isn't allowed: {said}"]
+    for seed, wanted in DRAWN.items():
+        draw = judge_events.Draw(seed)
+        drawn = [(count, draw.choice(list(range(count)))) for count, _ in wanted]
+        if drawn != wanted:
+            faults.append(f"judge_events draws {drawn} by the seed {seed}")
+    script = {"nodes": 2, "words": 4, "commands": [["open", 0, "x", "y"], ["put", "0>1", "m", ["y"]], ["turn", 0, 3], ["settle", 100]]}
+    logs = [judge_events.written(judge_events.log_of(script, seed)) for seed in (5, 5, 6)]
+    if logs[0] != logs[1] or logs[0] == logs[2] or any(judge_events.verdict(log) != "allowed" for log in logs):
+        faults.append("judge_events --run: the same seed draws two logs, or another one the same, or one isn't allowed")
+    return faults
 
 
 def faults_of_readme() -> list[str]:
@@ -213,7 +237,7 @@ def main() -> None:
     asked.parser(__doc__).parse_args()
     tools = sorted(path.stem for path in HERE.glob("*.py") if path.stem not in SHARED)
     faults = [fault for tool in tools for fault in faults_of(tool)]
-    faults += faults_of_a_missing_program() + faults_of_ready() + faults_of_the_model()
+    faults += faults_of_a_missing_program() + faults_of_ready() + faults_of_the_model() + faults_of_events()
     faults += faults_of_readme() + faults_of_links() + faults_of_pages() + faults_of_quotes() + faults_of_cases()
     faults += try_pages.faults(try_pages.by_model) + tour.faults() + make_reference.faults() + make_theorem.faults() + count_sizes.faults() + trusted.faults()
     if faults:

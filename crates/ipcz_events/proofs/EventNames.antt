@@ -6,13 +6,15 @@ use Rattle.ipcz_router.specs.declared.act.RouterAct.TheVariants as does
 use Rattle.ipcz_base.specs.declared.end.End.{End}
 use Rattle.ipcz_base.specs.declared.link_id.LinkId.{LinkId}
 use Rattle.ipcz_base.specs.Texts.{link_text}
+use Rattle.ipcz_node.specs.declared.act.Act.{Act}
+use Rattle.ipcz_node.specs.declared.act.Act.TheVariants as acts
 use Rattle.ipcz_node.specs.declared.happened.Happened.{Happened}
 use Rattle.ipcz_node.specs.declared.happened.Happened.TheVariants as events
 use Rattle.ipcz_script.specs.EventTexts.{event_text, link_event, moved_text, sent_text, word_text}
 use Rattle.ipcz_script.proofs.OneSaying.{number-lacks}
 use Rattle.ipcz_events.specs.declared.naming.Named.{Named}
 use Rattle.ipcz_events.specs.declared.naming.Named.TheVariants as named
-use Rattle.ipcz_events.specs.Naming.{IsNamedBy, IsTold, behind_word, first_word}
+use Rattle.ipcz_events.specs.Naming.{IsNamedBy, IsTold, act_text, behind_word, first_word, name_of}
 use Rattle.ipcz_events.proofs.FirstWords.{tested_front}
 
 -- the name of the act that was seen
@@ -180,3 +182,31 @@ begins (events.Retire s n link) = retired s n link
 begins (events.Unlock s link word) = by_word s (codes "unlock") link word does.Unlock (λ rest. refl)
 begins (events.Rest s) = whole-named s (codes "rest") does.Rest refl
 begins events.Idle = refl
+
+-- ---- texts of acts
+
+routed : (s : ℕ) (words : List ℕ) (act : RouterAct) → IsTold (first_word words) (first_word (behind_word words)) act →
+    IsBegun (router s ++ codes " " ++ words) (named.Router s act)
+routed s words act told =
+    subst (λ (l : List ℕ). IsBegun l (named.Router s act)) (sym (append_assoc (router s) (codes " ") words)) (whole-named s words act told)
+
+pub words_name : (act : Act) → IsBegun (act_text act) (name_of act)
+words_name (acts.Hand sender) = refl
+words_name (acts.Look sender) = (refl, refl)
+words_name (acts.Post to) = (refl, refl)
+words_name (acts.Close end) = (refl, refl)
+words_name (acts.Router s does.SendOut) = routed s (codes "send out") does.SendOut (refl, refl)
+words_name (acts.Router s does.SendIn) = routed s (codes "send in") does.SendIn (refl, refl)
+words_name (acts.Router s does.Discard) = routed s (codes "discard") does.Discard refl
+words_name (acts.Router s does.FinishOut) = routed s (codes "finish out") does.FinishOut (refl, refl)
+words_name (acts.Router s does.FinishIn) = routed s (codes "finish in") does.FinishIn (refl, refl)
+words_name (acts.Router s does.Leave) = routed s (codes "leave") does.Leave refl
+words_name (acts.Router s does.Mark) = routed s (codes "mark") does.Mark refl
+words_name (acts.Router s does.Wake) = routed s (codes "wake") does.Wake refl
+words_name (acts.Router s does.Claim) = routed s (codes "claim") does.Claim refl
+words_name (acts.Router s does.Lock) = routed s (codes "lock") does.Lock (inl refl)
+words_name (acts.Router s does.Begin) = routed s (codes "begin") does.Begin refl
+words_name (acts.Router s does.Retire) = routed s (codes "retire") does.Retire refl
+words_name (acts.Router s does.Unlock) = routed s (codes "unlock") does.Unlock refl
+words_name (acts.Router s does.Rest) = routed s (codes "rest") does.Rest refl
+words_name acts.Idle = refl

@@ -142,5 +142,5 @@ headless text n is none = inr (subst (λ k. IsHeader (take k text) None) is none
 -- ---- two sessions that take the same lines
 
 -- a line that is allowed leads to one session, from wherever it is taken
-pub alike : (s t u v : Session) (nodes : ℕ) (bytes : List ℕ) (e : Entry) → t ≡ s → MayEntry s e u → MayEntry t e v → v ≡ u
-alike s t u v nodes bytes e same one other = one_way s v u e (subst (λ x. MayEntry x e v) same other) one
+pub alike : (s t u v : Session) (e : Entry) → t ≡ s → MayEntry s e u → MayEntry t e v → v ≡ u
+alike s t u v e same one other = one_way s v u e (subst (λ x. MayEntry x e v) same other) one

@@ -10,12 +10,16 @@ use Rattle.ipcz_events.specs.declared.entry.Entry.{Entry}
 use Rattle.ipcz_events.specs.declared.entry.Entry.TheVariants as entries
 use Rattle.ipcz_events.specs.declared.judged.Judged.{Judged}
 use Rattle.ipcz_events.specs.declared.judged.Judged.TheVariants as judged
-use Rattle.ipcz_events.specs.Naming.{IsNamedBy, behind_word, first_word, name_of}
+use Rattle.ipcz_events.specs.Naming.{IsNamedBy, act_text, behind_word, first_word, name_of}
 use Rattle.ipcz_events.specs.Rules.{ActHasBits, MayEntry, is_call}
 
 -- the text of an event begins with the words that tell this act
 abbrev pub BeginsWith : List ℕ → Act → Type 0
 BeginsWith text act = IsNamedBy (first_word text) (behind_word text) (name_of act)
+
+-- law: the words by which an act is told name it, so a line whose event begins with them is judged by that act
+abbrev pub ToldWordsName : Type 0
+ToldWordsName = (act : Act) → BeginsWith (act_text act) act
 
 -- the same line with another text
 abbrev pub with_text : Entry → List ℕ → Entry

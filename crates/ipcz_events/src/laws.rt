@@ -1,5 +1,6 @@
 //! What is proved of logs with events.
 
+ghost use Rattle.ipcz_events.specs.Judging.{ToldWordsName};
 ghost use Rattle.ipcz_events.specs.Rules.{AllowedAreRuns, EventsTellActs};
 
 /// A log that is allowed is a run of the relation of steps from the new world, in which each turn takes some possible act; so the theorem holds
@@ -12,4 +13,10 @@ pub fn what_is_allowed_is_a_run()
 /// log needn't name its act.
 pub fn events_tell_acts()
     ensures { EventsTellActs }
+{}
+
+/// The words by which an act is told behind a refused line, as `r2 lock` or `post 1`, name that act: a line whose event begins with them is judged
+/// by it.
+pub fn told_words_name_acts()
+    ensures { ToldWordsName }
 {}
