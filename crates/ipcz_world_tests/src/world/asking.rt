@@ -89,3 +89,30 @@ fn goes_in_a_new_world(alloc: Global) -> Result<bool, Refusal> {
 fn acts_are_taken_in_another_order(rt: HostRuntime) {
     assert_eq!(rt; goes_in_a_new_world(rt.alloc()), Ok(true));
 }
+
+// Whether these are all acts that a node may take, in their order.
+fn lists(alloc: Global, world: &World, node: u8, acts: &[Act]) -> Result<bool, AllocError> {
+    Ok(world.possible_acts(alloc, node)?.as_slice() == acts)
+}
+
+// Whether what may be taken next is listed, and then taken, at each step of the parcel's way.
+fn lists_on_the_way(alloc: Global, world: &mut World) -> Result<bool, AllocError> {
+    let starts = lists(alloc, world, 0, &[REST, Act::Idle])? && lists(alloc, world, 2, &[])?;
+    let puts = puts(alloc, world)? && lists(alloc, world, 0, &[SEND])?;
+    let sends = takes(world, 0, SEND) && lists(alloc, world, 0, &[Act::Post(1), REST])?;
+    let posts = takes(world, 0, Act::Post(1)) && lists(alloc, world, 0, &[REST])?;
+    let comes = lists(alloc, world, 1, &[Act::Look(0), REST])?;
+    let looks = takes(world, 1, Act::Look(0)) && lists(alloc, world, 1, &[Act::Hand(0), REST])?;
+    let hears = takes(world, 1, Act::Hand(0)) && lists(alloc, world, 1, &[REST])?;
+    Ok(starts && puts && sends && posts && comes && looks && hears)
+}
+
+fn lists_in_a_new_world(alloc: Global) -> Result<bool, Refusal> {
+    let mut world = World::new(alloc, 2, 8)?;
+    Ok(lists_on_the_way(alloc, &mut world)?)
+}
+
+#[test]
+fn possible_acts_are_listed(rt: HostRuntime) {
+    assert_eq!(rt; lists_in_a_new_world(rt.alloc()), Ok(true));
+}

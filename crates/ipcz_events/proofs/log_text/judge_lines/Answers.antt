@@ -1,6 +1,4 @@
 use Rattle.std.proofs.Common.{◌≡◌, ◌+◌, arith, sym, ◌∙◌}
-use Rattle.std.proofs.lemmas.Grind.{common_steps}
-use Rattle.ipcz_events.specs.declared.heard.Heard.TheVariants as heard
 use Rattle.ipcz_events.specs.Verdicts.{text_lines}
 use Rattle.ipcz_events.proofs.Hearing.{begins_with, goes_on, none_left, said_allowed, said_none, said_refused, some_left}
 use Rattle.ipcz_events.proofs.log_text.judge_lines.Goals as goal
