@@ -5,6 +5,8 @@
 It was written from the rules, and not from the crates. What was put and got stands in whole lists, and which portals may be closed by their nodes is
 found anew from these lists whenever it is asked.
 """
+import contextlib
+import copy
 import sys
 from typing import Any
 
@@ -163,6 +165,16 @@ def header(text: bytes) -> Books:
     return Books(nodes, value.get("profile") == "printed")
 
 
+def log_count(text: bytes) -> int | None:
+    """How many logs there are, if the header says so: then only the order within each is known."""
+    logs = read(text).get("logs")
+    if not whole(logs, 2**64 - 1):
+        return None
+    if not 1 <= logs <= 64:
+        raise NoLine
+    return logs
+
+
 def line_of(text: bytes) -> dict[str, Any]:
     """A line with all that it needs, or none."""
     value = read(text)
@@ -188,6 +200,53 @@ def line_of(text: bytes) -> dict[str, Any]:
     return line
 
 
+def rank(line: dict[str, Any]) -> int:
+    """Which lines are tried first, where those of several logs may come next."""
+    if line["refused"]:
+        return 0
+    return 3 if line["op"] == "close" else 2 if line["op"] == "put" and line["portals"] else 1
+
+
+def stuck(books: Books, logs: list[list[tuple[int, dict[str, Any]]]]) -> int | None:
+    """None if the lines of these logs, each with its number, are allowed in some order that keeps each log's own; and else the first line that isn't in the
+    longest order of first lines that was found. That what may follow depends only on how far each log was read is taken for granted here."""
+    dead: set[tuple[int, ...]] = set()
+    longest, number = -1, 0
+
+    def is_allowed(books: Books, at: tuple[int, ...]) -> bool:
+        nonlocal longest, number
+        nexts = sorted((rank(log[i][1]), name) for name, (log, i) in enumerate(zip(logs, at)) if i < len(log))
+        if not nexts:
+            return True
+        if sum(at) > longest:
+            longest, number = sum(at), min(logs[name][at[name]][0] for _, name in nexts)
+        for _, name in nexts:
+            after, further = copy.deepcopy(books), at[:name] + (at[name] + 1,) + at[name + 1 :]
+            with contextlib.suppress(Breach):
+                after.take(logs[name][at[name]][1])
+                if further not in dead and is_allowed(after, further):
+                    return True
+        dead.add(at)
+        return False
+
+    return None if is_allowed(books, (0,) * len(logs)) else number
+
+
+def judge_logs(books: Books, count: int, lines: list[bytes]) -> str:
+    """The line that is written for so many logs."""
+    logs: list[list[tuple[int, dict[str, Any]]]] = [[] for _ in range(count)]
+    for number, text in enumerate(lines, 2):
+        try:
+            log = read(text).get("log")
+            if not whole(log, count - 1):
+                raise NoLine
+            logs[log].append((number, line_of(text)))
+        except NoLine:
+            return f"line {number}: no line of a log"
+    number = stuck(books, logs)
+    return "allowed" if number is None else f"line {number}: refused in every order"
+
+
 def verdict(log: bytes) -> str:
     """The line that is written for a log."""
     first, *lines = log.split(b"\n")
@@ -196,6 +255,8 @@ def verdict(log: bytes) -> str:
     number = 1
     try:
         books = header(first)
+        if count := log_count(first):
+            return judge_logs(books, count, lines)
         for number, text in enumerate(lines, 2):
             books.take(line_of(text))
     except NoLine:

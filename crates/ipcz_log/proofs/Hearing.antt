@@ -3,15 +3,19 @@ use Rattle.std.specs.Prelude.{ℕ, suc, ◌≡◌, ◌<◌, ◌+◌, ◌==◌, B
 use Rattle.std.proofs.Common.{arith, ap, ◌∙◌, sym, subst, inl, inr}
 use Rattle.std.proofs.lemmas.Bool.Decides.{nat_tests}
 use Rattle.ipcz_base.specs.declared.profile.Profile.{Profile}
+use Rattle.ipcz_verdict.specs.declared.entry.Entry.{Entry}
 use Rattle.ipcz_verdict.specs.declared.line.Line.{Line}
+use Rattle.ipcz_verdict.specs.declared.search.Found.{Found}
+use Rattle.ipcz_verdict.specs.Searches.{HasEntries}
+use Rattle.ipcz_verdict.specs.Together.{IsFound}
 use Rattle.ipcz_verdict.specs.Desks.{Desk}
 use Rattle.ipcz_log.specs.declared.header.Header.{Header}
 use Rattle.ipcz_log.specs.declared.judging.Heard.{Heard}
 use Rattle.ipcz_log.specs.declared.judging.Heard.TheVariants as heard
 use Rattle.ipcz_log.specs.declared.verdict.Verdict.{Verdict}
 use Rattle.ipcz_log.specs.declared.verdict.Verdict.TheVariants as verdicts
-use Rattle.ipcz_log.specs.Steps.{JudgesLine, Reaches, Said}
-use Rattle.ipcz_log.specs.Verdicts.{IsHeader, IsSaidOf, IsVerdict, line_len, onto_first, text_lines}
+use Rattle.ipcz_log.specs.Steps.{AreRead, JudgesLine, Reaches, Reads, Said}
+use Rattle.ipcz_log.specs.Verdicts.{IsEntry, IsHeader, IsSaidBehind, IsSaidOf, IsSaidOfLogs, IsSaidTogether, IsVerdict, line_len, onto_first, text_lines}
 
 -- a text that isn't empty is its first line and those of what stands behind it
 cut : (bs : List ℕ) → 0 < length bs → text_lines bs ≡ take (line_len bs) bs ∷ text_lines (drop (line_len bs + 1) bs)
@@ -78,13 +82,42 @@ said_allowed nodes profile judge number all rest none way =
     way.2 verdicts.Allowed (subst (λ ls. IsSaidOf nodes profile way.0 number (text_lines ls) verdicts.Allowed) (sym none) ((way.1.ledger, way.1.run), refl))
 
 pub headed : (bytes : List ℕ) (n : ℕ) (behind : List ℕ) (header : Header) (v : Verdict) → n ≡ line_len bytes → behind ≡ drop (n + 1) bytes → IsHeader (take n bytes) (Some header) →
-    IsSaidOf header.nodes header.profile [] 2 (text_lines behind) v → IsVerdict bytes v
+    IsSaidBehind header header.logs (text_lines behind) v → IsVerdict bytes v
 headed bytes n behind header v is rest head said =
     inl (
       header,
       subst (λ k. IsHeader (take k bytes) (Some header)) is head,
-      subst (λ k. IsSaidOf header.nodes header.profile [] 2 (text_lines (drop (k + 1) bytes)) v) is (subst (λ x. IsSaidOf header.nodes header.profile [] 2 (text_lines x) v) rest said),
+      subst (λ k. IsSaidBehind header header.logs (text_lines (drop (k + 1) bytes)) v) is (subst (λ x. IsSaidBehind header header.logs (text_lines x) v) rest said),
     )
 
 pub headless : (bytes : List ℕ) (n : ℕ) → n ≡ line_len bytes → IsHeader (take n bytes) None → IsVerdict bytes (verdicts.NoLog 1)
 headless bytes n is none = inr (subst (λ k. IsHeader (take k bytes) None) is none, refl)
+
+-- ---- several logs
+
+pub logs_none : (nodes : ℕ) (profile : Profile) (count : ℕ) (logs : List (List Entry)) (number : ℕ) (all : List (List ℕ)) (rest : List ℕ) (n : ℕ) → 0 < length rest → n ≡ line_len rest →
+    IsEntry count number (take n rest) None → Reads nodes profile count logs number all (text_lines rest) → IsSaidOfLogs nodes profile count [] 2 all (verdicts.NoLog number)
+logs_none nodes profile count logs number all rest n some is none way =
+    way.2 (verdicts.NoLog number) (subst (λ ls. IsSaidOfLogs nodes profile count way.0 number ls (verdicts.NoLog number)) (sym (first_of_rest rest n some is)) (inr (none, refl)))
+
+pub logs_on : (nodes : ℕ) (profile : Profile) (count : ℕ) (logs new : List (List Entry)) (number next : ℕ) (all : List (List ℕ)) (rest left : List ℕ) (n : ℕ) (entry : Entry) → 0 < length rest →
+    n ≡ line_len rest → IsEntry count number (take n rest) (Some entry) → ((entries : List Entry) → HasEntries logs entries → HasEntries new (entries ++ entry ∷ [])) →
+    left ≡ drop (n + 1) rest → next ≡ number + 1 → Reads nodes profile count logs number all (text_lines rest) → Reads nodes profile count new next all (text_lines left)
+logs_on nodes profile count logs new number next all rest left n entry some is read push behind more way =
+    let entries : List Entry = way.0 ++ entry ∷ [] in (
+      entries,
+      push way.0 way.1,
+      λ v said. way.2 v (subst (λ ls. IsSaidOfLogs nodes profile count way.0 number ls v) (sym (first_of_rest rest n some is))
+          (inl (entry, read, subst (λ x. IsSaidOfLogs nodes profile count entries (number + 1) (text_lines x) v) behind (subst (λ k. IsSaidOfLogs nodes profile count entries k (text_lines left) v) more said)))),
+    )
+
+pub logs_read : (nodes : ℕ) (profile : Profile) (count : ℕ) (logs : List (List Entry)) (number : ℕ) (all : List (List ℕ)) (rest : List ℕ) → rest ≡ [] →
+    Reads nodes profile count logs number all (text_lines rest) → AreRead nodes profile count all logs None
+logs_read nodes profile count logs number all rest none way =
+    (way.0, way.1, λ v said. way.2 v (subst (λ xs. IsSaidOfLogs nodes profile count way.0 number (text_lines xs) v) (sym none) said))
+
+-- what was found says what is said
+pub told : (nodes : ℕ) (profile : Profile) (count : ℕ) (lines : List (List ℕ)) (logs : List (List Entry)) (found : Found) (v : Verdict) → AreRead nodes profile count lines logs None →
+    ((entries : List Entry) → HasEntries logs entries → IsFound nodes profile entries found) → ((entries : List Entry) → IsFound nodes profile entries found → IsSaidTogether nodes profile entries v) →
+    IsSaidOfLogs nodes profile count [] 2 lines v
+told nodes profile count lines logs found v read finds says = read.2 v (says read.0 (finds read.0 read.1))

@@ -1,5 +1,5 @@
 -- Which line a JSON value is, and which header.
-use Rattle.std.specs.Prelude.{ℕ, ◌&&◌, List, [], nat_le, bytes_eq, codes, if◌then◌else◌, Option, Some, None, option_and_then, option_map}
+use Rattle.std.specs.Prelude.{ℕ, ◌&&◌, List, [], nat_le, nat_lt, bytes_eq, codes, if◌then◌else◌, Option, Some, None, option_and_then, option_map}
 use Rattle.serde_json.specs.Data.{Data}
 use Rattle.serde_json.specs.Find.{as_number, as_str, as_u64, get}
 use Rattle.ipcz_base.specs.declared.profile.Profile.{Profile}
@@ -8,6 +8,7 @@ use Rattle.ipcz_base.specs.declared.refusal.Refusal.{Refusal}
 use Rattle.ipcz_base.specs.declared.refusal.Refusal.TheVariants as why
 use Rattle.ipcz_script.specs.Each.{each_of}
 use Rattle.ipcz_script.specs.Shapes.{values_of}
+use Rattle.ipcz_verdict.specs.declared.entry.Entry.{Entry}
 use Rattle.ipcz_verdict.specs.declared.line.Line.{Line}
 use Rattle.ipcz_verdict.specs.declared.line.Line.TheVariants as lines
 use Rattle.ipcz_log.specs.declared.answers.Answer.{Answer}
@@ -124,5 +125,20 @@ profile_by (Some name) = if bytes_eq name (codes "printed") then Printed else Wi
 abbrev pub profile_in : Data → Profile
 profile_in d = profile_by (text_in (codes "profile") d)
 
+-- how many logs there are, of which only the order within each is known: 1 to 64. If that is no number, there is one log, in one order
+abbrev pub logs_by : Option ℕ → Option (Option ℕ)
+logs_by None = Some None
+logs_by (Some n) = if nat_le 1 n && nat_le n 64 then Some (Some n) else None
+
+abbrev pub logs_in : Data → Option (Option ℕ)
+logs_in d = logs_by (number_in (codes "logs") d)
+
 abbrev pub header_in : Data → Option Header
-header_in d = option_and_then (λ n. if nat_le 1 n && nat_le n 8 then Some (record { nodes = n; profile = profile_in d }) else None) (number_in (codes "nodes") d)
+header_in d = option_and_then (λ n. if nat_le 1 n && nat_le n 8 then option_map (λ logs. record { nodes = n; profile = profile_in d; logs = logs }) (logs_in d) else None) (number_in (codes "nodes") d)
+
+-- ---- lines of several logs
+
+-- the line with this number, of one of so many logs, that a value is
+abbrev pub entry_in : ℕ → ℕ → Data → Option Entry
+entry_in count number d =
+    option_and_then (λ log. if nat_lt log count then option_map (λ line. record { log = log; number = number; line = line }) (line_in d) else None) (number_in (codes "log") d)

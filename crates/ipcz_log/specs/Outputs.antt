@@ -17,6 +17,8 @@ line text = text ++ 10 ∷ []
 abbrev pub IsText : Verdict → List ℕ → Type 0
 IsText verdicts.Allowed text = text ≡ line (codes "allowed")
 IsText (verdicts.Refused n) text = text ≡ codes "line " ++ (decimal n ++ line (codes ": refused"))
+IsText (verdicts.NoOrder n) text = text ≡ codes "line " ++ (decimal n ++ line (codes ": refused in every order"))
+IsText verdicts.Untold text = text ≡ line (codes "no order found in ten million steps")
 IsText (verdicts.NoLog n) text = text ≡ codes "line " ++ (decimal n ++ line (codes ": no line of a log"))
 
 -- how many bytes a log may have
@@ -38,13 +40,15 @@ ReadsAndWrites before after old new (Err faults.Write) =
 ReadsAndWrites before after old new (Err faults.Read) = ConsumesAtMost before after (most_bytes + 1) × Keeps old new
 ReadsAndWrites before after old new (Err faults.OutOfMemory) = ConsumesAtMost before after (most_bytes + 1) × Keeps old new
 
--- the status after a log: 0 allowed, 1 a read or a write failed, 2 refused or no log, 3 want of memory
+-- the status after a log: 0 allowed, 1 a read or a write failed, 2 refused or no log, 3 want of memory, 4 not told
 unfoldable pub status : Result Verdict RunFault → ℕ
 status (Ok verdicts.Allowed) = 0
 status (Err faults.Read) = 1
 status (Err faults.Write) = 1
 status (Ok (verdicts.Refused n)) = 2
+status (Ok (verdicts.NoOrder n)) = 2
 status (Ok (verdicts.NoLog n)) = 2
+status (Ok verdicts.Untold) = 4
 status (Err faults.OutOfMemory) = 3
 
 -- the line that unknown arguments print

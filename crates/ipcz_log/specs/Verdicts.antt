@@ -3,12 +3,14 @@ use Rattle.std.specs.Prelude.{ℕ, suc, ◌≡◌, ◌⊎◌, ◌+◌, List, [],
 use Rattle.serde_json.specs.Data.{Data}
 use Rattle.ipcz_base.specs.declared.profile.Profile.{Profile}
 use Rattle.ipcz_script.specs.Reading.{IsJson}
+use Rattle.ipcz_verdict.specs.declared.entry.Entry.{Entry}
 use Rattle.ipcz_verdict.specs.declared.line.Line.{Line}
 use Rattle.ipcz_verdict.specs.Ledger.{IsAllowed}
+use Rattle.ipcz_verdict.specs.Together.{AreAllowed}
 use Rattle.ipcz_log.specs.declared.header.Header.{Header}
 use Rattle.ipcz_log.specs.declared.verdict.Verdict.{Verdict}
 use Rattle.ipcz_log.specs.declared.verdict.Verdict.TheVariants as verdicts
-use Rattle.ipcz_log.specs.Logs.{header_in, line_in}
+use Rattle.ipcz_log.specs.Logs.{entry_in, header_in, line_in}
 
 -- ---- the lines of a text
 
@@ -33,6 +35,9 @@ text_lines (b ∷ bs) = if nat_eq b 10 then [] ∷ text_lines bs else onto_first
 abbrev pub IsLine : List ℕ → Option Line → Type 0
 IsLine bytes line = (json : Option Data) × IsJson bytes json × (line ≡ option_and_then line_in json)
 
+abbrev pub IsEntry : ℕ → ℕ → List ℕ → Option Entry → Type 0
+IsEntry count number bytes entry = (json : Option Data) × IsJson bytes json × (entry ≡ option_and_then (entry_in count number) json)
+
 abbrev pub IsHeader : List ℕ → Option Header → Type 0
 IsHeader bytes header = (json : Option Data) × IsJson bytes json × (header ≡ option_and_then header_in json)
 
@@ -47,9 +52,28 @@ IsSaidOf nodes profile log number (l ∷ ls) verdict =
     ⊎ ((line : Line) × IsLine l (Some line) × (IsAllowed nodes profile (log ++ line ∷ []) → ⊥) × (verdict ≡ verdicts.Refused number))
     ⊎ (IsLine l None × (verdict ≡ verdicts.NoLog number))
 
--- the first line is the header, and the others are the log
+-- what is said of several logs that have these lines, of which only the order within each log is known
+abbrev pub IsSaidTogether : ℕ → Profile → List Entry → Verdict → Type 0
+IsSaidTogether nodes profile entries verdicts.Allowed = AreAllowed nodes profile entries
+IsSaidTogether nodes profile entries (verdicts.NoOrder number) = AreAllowed nodes profile entries → ⊥
+IsSaidTogether nodes profile entries verdicts.Untold = Unit {0}
+IsSaidTogether nodes profile entries other = ⊥
+
+-- what is said of the lines that are left, if these went before; they are numbered from a number on. Each is a line of one of so many logs, and all together
+-- are judged; or it is the first that is none
+abbrev pub IsSaidOfLogs : ℕ → Profile → ℕ → List Entry → ℕ → List (List ℕ) → Verdict → Type 0
+IsSaidOfLogs nodes profile count entries number [] verdict = IsSaidTogether nodes profile entries verdict
+IsSaidOfLogs nodes profile count entries number (l ∷ ls) verdict =
+    ((entry : Entry) × IsEntry count number l (Some entry) × IsSaidOfLogs nodes profile count (entries ++ entry ∷ []) (number + 1) ls verdict)
+    ⊎ (IsEntry count number l None × (verdict ≡ verdicts.NoLog number))
+
+-- what is said of the lines behind the header: of one log, or of several
+abbrev pub IsSaidBehind : Header → Option ℕ → List (List ℕ) → Verdict → Type 0
+IsSaidBehind header None lines verdict = IsSaidOf header.nodes header.profile [] 2 lines verdict
+IsSaidBehind header (Some count) lines verdict = IsSaidOfLogs header.nodes header.profile count [] 2 lines verdict
+
+-- the first line is the header, and the others are the log, or the logs
 abbrev pub IsVerdict : List ℕ → Verdict → Type 0
 IsVerdict bytes verdict =
-    ((header : Header) × IsHeader (take (line_len bytes) bytes) (Some header)
-    × IsSaidOf header.nodes header.profile [] 2 (text_lines (drop (line_len bytes + 1) bytes)) verdict)
+    ((header : Header) × IsHeader (take (line_len bytes) bytes) (Some header) × IsSaidBehind header header.logs (text_lines (drop (line_len bytes + 1) bytes)) verdict)
     ⊎ (IsHeader (take (line_len bytes) bytes) None × (verdict ≡ verdicts.NoLog 1))

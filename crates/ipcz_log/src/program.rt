@@ -58,6 +58,8 @@ fn text_of(alloc: Global, verdict: Verdict) -> Result<String, AllocError>
     match verdict {
         Verdict::Allowed => String::from_str(alloc, "allowed\n"),
         Verdict::Refused(line) => format!(in alloc; "line {line}: refused\n"),
+        Verdict::NoOrder(line) => format!(in alloc; "line {line}: refused in every order\n"),
+        Verdict::Untold => String::from_str(alloc, "no order found in ten million steps\n"),
         Verdict::NoLog(line) => format!(in alloc; "line {line}: no line of a log\n"),
     }
 }
@@ -87,7 +89,7 @@ pub fn check<R: Read, W: Write>(
     Ok(verdict)
 }
 
-// The status of a verdict: 0 allowed, 1 a read or write failed, 2 refused or no log, 3 want of memory.
+// The status of a verdict: 0 allowed, 1 a read or write failed, 2 refused or no log, 3 want of memory, 4 not told.
 #[tactic(auto, unfolding(crate::specs::Outputs::status))]
 fn status_of(ending: Result<Verdict, RunFault>) -> u8
     ensures { result ≡ status ending }
@@ -95,8 +97,9 @@ fn status_of(ending: Result<Verdict, RunFault>) -> u8
     match ending {
         Ok(Verdict::Allowed) => 0,
         Err(RunFault::Read | RunFault::Write) => 1,
-        Ok(Verdict::Refused(_) | Verdict::NoLog(_)) => 2,
+        Ok(Verdict::Refused(_) | Verdict::NoOrder(_) | Verdict::NoLog(_)) => 2,
         Err(RunFault::OutOfMemory) => 3,
+        Ok(Verdict::Untold) => 4,
     }
 }
 
@@ -131,7 +134,7 @@ fn judge_to_status<R: Read, W: Write>(
 /// `asked` is what `asked_for` answered. If the help is asked for, it is written, nothing is read, and the status is 0; if the
 /// usage is, its line is written, nothing is read, and the status is 2; and 1 if a write failed. If no memory was found to look at the
 /// arguments, nothing is read or written, and the status is 3. Else the status is 0 if the log is allowed, 1 if a read or a
-/// write failed, 2 if a line of it isn't allowed or is none, and 3 if no memory was found.
+/// write failed, 2 if a line of it isn't allowed or is none, 3 if no memory was found, and 4 if of several logs nothing was told in ten million steps.
 pub fn run_program<R: Read, W: Write>(
     alloc: Global,
     asked: Result<Asked, AllocError>,

@@ -1,13 +1,13 @@
-ghost use Rattle.std.specs.Prelude.{◌≡◌, map, IfOk};
+ghost use Rattle.std.specs.Prelude.{◌≡◌, ◌<◌, map, IfOk, IfSome};
 ghost use Rattle.serde_json.specs.View.{view};
 ghost use Rattle.serde_json.specs.Find.{as_str};
 ghost use Rattle.ipcz_script.specs.Each.{each_of};
-ghost use Rattle.ipcz_log.specs.Logs.{close_in, get_in, got_in, line_in, names_in, node_in, open_in, put_in};
+ghost use Rattle.ipcz_log.specs.Logs.{close_in, entry_in, get_in, got_in, line_in, names_in, node_in, open_in, put_in};
 
 use crate::answers::{Answer, answer_in, number_in, text_in};
 use ipcz_base::{Bytes, Sequence};
 use ipcz_script::{Text, values_of};
-use ipcz_verdict::Line;
+use ipcz_verdict::{Entry, Line};
 use serde_json::Value;
 use std::alloc::{AllocError, Global};
 
@@ -187,4 +187,30 @@ pub(crate) fn line_in(alloc: Global, value: &Value) -> Result<Option<Line>, Allo
     } else {
         Ok(None)
     }
+}
+
+/// The line with this number, of one of so many logs, that a value is, if it is one.
+pub(crate) fn entry_in(
+    alloc: Global,
+    count: u8,
+    number: u64,
+    value: &Value,
+) -> Result<Option<Entry>, AllocError>
+    ensures entry { IfOk result (λ entry. entry ≡ entry_in count number (view value.now)) }
+    ensures log { IfOk result (λ entry. IfSome entry (λ entry. entry.log < count)) }
+{
+    let Some(log) = number_in(value, "log") else {
+        return Ok(None);
+    };
+    if log >= u64::from(count) {
+        return Ok(None);
+    }
+    let Some(line) = line_in(alloc, value)? else {
+        return Ok(None);
+    };
+    Ok(Some(Entry {
+        log: log as u8,
+        number,
+        line,
+    }))
 }

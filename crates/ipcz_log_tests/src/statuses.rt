@@ -36,6 +36,14 @@ fn ends_with_the_status_of_the_verdict(rt: HostRuntime) {
             "line 2: no line of a log\n"
         )
     );
+    assert!(rt;
+        says(
+            rt.alloc(),
+            "{\"nodes\":1,\"logs\":1}\n{\"log\":0,\"node\":0,\"op\":\"close\",\"at\":\"x\",\"n\":0}",
+            2,
+            "line 2: refused in every order\n"
+        )
+    );
 }
 
 // The status where a read fails.

@@ -114,6 +114,67 @@ fn tells_what_is_no_line(rt: HostRuntime) {
     );
 }
 
+// The lines of two logs: what the one gets the other puts.
+const TWO_LOGS: &str =
+    "{\"log\":0,\"node\":1,\"op\":\"get\",\"at\":\"1>0\",\"bytes\":\"a\",\"n\":0}\n{\"log\":0,\"node\":1,\"op\":\"get\",\"at\":\"1>0\",\"refused\":\"Empty\"}\n{\"log\":1,\"node\":0,\"op\":\"put\",\"at\":\"0>1\",\"bytes\":\"a\",\"n\":0}\n{\"log\":1,\"node\":0,\"op\":\"put\",\"at\":\"0>1\",\"bytes\":\"b\",\"n\":1}\n";
+
+// What is said of the two logs under a header, with a line more.
+fn together(alloc: Global, header: &str, line: &str) -> Result<Verdict, AllocError> {
+    let text = format!(in alloc; "{header}\n{TWO_LOGS}{line}")?;
+    judge_log(alloc, text.as_bytes())
+}
+
+#[test]
+fn judges_logs_without_an_order_between_them(rt: HostRuntime) {
+    let two = "{\"nodes\":2,\"logs\":2}";
+    assert_eq!(rt; together(rt.alloc(), two, ""), Ok(Verdict::Allowed));
+    assert_eq!(rt;
+        together(
+            rt.alloc(),
+            two,
+            "{\"log\":0,\"node\":1,\"op\":\"get\",\"at\":\"1>0\",\"bytes\":\"b\",\"n\":1}"
+        ),
+        Ok(Verdict::Allowed)
+    );
+    // what was put as number 1 is got as number 0
+    assert_eq!(rt;
+        together(
+            rt.alloc(),
+            two,
+            "{\"log\":1,\"node\":1,\"op\":\"get\",\"at\":\"1>0\",\"bytes\":\"b\",\"n\":0}"
+        ),
+        Ok(Verdict::NoOrder(6))
+    );
+    // one log, in its one order, and no number of logs
+    assert_eq!(rt; together(rt.alloc(), "{\"nodes\":2}", ""), Ok(Verdict::Refused(2)));
+    assert_eq!(rt;
+        together(rt.alloc(), "{\"nodes\":2,\"logs\":\"two\"}", ""),
+        Ok(Verdict::Refused(2))
+    );
+    assert_eq!(rt;
+        together(rt.alloc(), "{\"nodes\":2,\"logs\":1}", ""),
+        Ok(Verdict::NoLog(4))
+    );
+}
+
+#[test]
+fn tells_what_is_no_line_of_several_logs(rt: HostRuntime) {
+    let two = "{\"nodes\":2,\"logs\":2}";
+    assert_eq!(rt; together(rt.alloc(), two, "7"), Ok(Verdict::NoLog(6)));
+    assert_eq!(rt;
+        together(rt.alloc(), two, "{\"node\":0,\"op\":\"open\",\"refused\":\"NoWord\"}"),
+        Ok(Verdict::NoLog(6))
+    );
+    assert_eq!(rt;
+        together(rt.alloc(), "{\"nodes\":2,\"logs\":0}", ""),
+        Ok(Verdict::NoLog(1))
+    );
+    assert_eq!(rt;
+        together(rt.alloc(), "{\"nodes\":2,\"logs\":65}", ""),
+        Ok(Verdict::NoLog(1))
+    );
+}
+
 // A log of so many puts, each got at once.
 fn long_log(alloc: Global, puts: u64) -> Result<String, AllocError> {
     let mut log = String::from_str(alloc, "{\"nodes\":2}\n")?;

@@ -1,6 +1,7 @@
 pub mod Allowed
 pub mod Beginning
 pub mod Below
+pub mod Binding
 pub mod Changing
 pub mod Closing
 pub mod Deciding
@@ -9,5 +10,7 @@ pub mod Going
 pub mod Keeping
 pub mod Lines
 pub mod Refusals
+pub mod Searching
 pub mod Sound
+pub mod Together
 pub mod Turns

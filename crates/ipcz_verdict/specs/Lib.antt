@@ -1,3 +1,5 @@
 pub mod Accounts
 pub mod Desks
 pub mod Ledger
+pub mod Searches
+pub mod Together

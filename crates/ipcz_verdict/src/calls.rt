@@ -1,6 +1,6 @@
 //! Calls, judged by the books.
 
-ghost use Rattle.std.specs.Prelude.{◌≡◌, option_map, IfOk, OnOk};
+ghost use Rattle.std.specs.Prelude.{◌≡◌, false, option_map, IfOk, OnOk};
 ghost use Rattle.ipcz_world.specs.declared.step.Step.TheVariants as Step;
 ghost use Rattle.ipcz_world.specs.declared.step.Reply.TheVariants as Reply;
 ghost use Rattle.ipcz_verdict.specs.Ledger.{put_step};
@@ -99,7 +99,8 @@ pub(crate) fn put(
     parcel: Parcel,
     number: u64,
 ) -> Result<bool, AllocError>
-    ensures { IfOk result (λ allowed. DecidesCall portals.old (put_step profile node at parcel.bytes parcel.ends) (Reply.Put number) allowed portals.new) }
+    ensures decided { IfOk result (λ allowed. DecidesCall portals.old (put_step profile node at parcel.bytes parcel.ends) (Reply.Put number) allowed portals.new) }
+    ensures kept { IfOk result (λ allowed. allowed ≡ false → portals.new ≡ portals.old) }
 {
     let bytes = parcel.bytes.as_slice();
     let ends = parcel.ends.as_slice();
@@ -121,7 +122,8 @@ pub(crate) fn close(
     at: End,
     number: u64,
 ) -> Result<bool, AllocError>
-    ensures { IfOk result (λ allowed. DecidesCall portals.old (Step.Close node at) (Reply.Closed number) allowed portals.new) }
+    ensures decided { IfOk result (λ allowed. DecidesCall portals.old (Step.Close node at) (Reply.Closed number) allowed portals.new) }
+    ensures kept { IfOk result (λ allowed. allowed ≡ false → portals.new ≡ portals.old) }
 {
     if !books::holds(portals, node, at) {
         return Ok(false);

@@ -1,13 +1,14 @@
 //! A judge, which takes the lines of a log one after the other.
 
-ghost use Rattle.std.specs.Prelude.{◌≡◌, ◌≢◌, ◌⊎◌, ◌<◌, ◌≤◌, ◌+◌, ◌∷◌, ◌++◌, [], ℕ, List, Some, None, MatchBool, IfOk, OnOk};
+ghost use Rattle.std.specs.Prelude.{◌≡◌, ◌<◌, ◌≤◌, ◌+◌, ◌∷◌, ◌++◌, [], ℕ, List, false, MatchBool, IfOk, OnOk};
 ghost use Rattle.std.specs.FinMap.{get};
 ghost use Rattle.ipcz_base.specs.declared.profile.Profile.{Profile};
 ghost use Rattle.ipcz_node.specs.FirstPairs.{first_pairs_from, pairs_from};
 ghost use Rattle.ipcz_verdict.specs.declared.line.Line.{Line};
 ghost use Rattle.ipcz_verdict.specs.declared.line.Line.TheVariants as Line;
 ghost use Rattle.ipcz_verdict.specs.Ledger.{IsAllowed};
-ghost use Rattle.ipcz_verdict.specs.Desks.{BindsOnly, Decides, Desk, first_books, HasAllowed, may_open};
+ghost use Rattle.ipcz_verdict.specs.Searches.{agrees, bind_all, may_bind, may_mean};
+ghost use Rattle.ipcz_verdict.specs.Desks.{Decides, Desk, first_books, HasAllowed, may_open};
 
 use crate::line::Line;
 use crate::portal::Portal;
@@ -82,27 +83,51 @@ fn add_first_pairs(
 
 // ---- what names mean
 
-// Whether these names may mean these portals: each does already, or is new and is bound now.
-fn bind_all(labels: &mut Labels, names: &[Text], ends: &[End]) -> Result<bool, AllocError>
-    ensures { IfOk result (λ bound. BindsOnly labels.old names.now ends.now bound labels.new) }
+// Binds these names to these portals, as many as there are of both.
+fn bind_all(labels: &mut Labels, names: &[Text], ends: &[End]) -> Result<(), AllocError>
+    ensures { OnOk result (labels.new ≡ bind_all labels.old names.now ends.now) }
 {
     let [name, names @ ..] = names else {
-        return Ok(ends.is_empty());
+        return Ok(());
     };
     let [end, ends @ ..] = ends else {
-        return Ok(false);
+        return Ok(());
     };
-    if !may_mean(labels, name.as_str(), *end) {
-        return Ok(false);
-    }
     labels.bind(name.as_str(), *end)?;
     bind_all(labels, names, ends)
 }
 
+// Whether a name, which stands before these, means none of them that is another portal.
+fn agrees(name: &str, end: End, names: &[Text], ends: &[End]) -> bool
+    ensures { result ≡ agrees name.now end names.now ends.now }
+{
+    let [first, names @ ..] = names else {
+        return true;
+    };
+    let [other, ends @ ..] = ends else {
+        return true;
+    };
+    (first.as_str() != name || *other == end) && agrees(name, end, names, ends)
+}
+
+// Whether these names may mean these portals, all together: then they can be bound to them.
+fn may_bind(labels: &Labels, names: &[Text], ends: &[End]) -> bool
+    ensures { result ≡ may_bind labels.now names.now ends.now }
+{
+    let [name, names @ ..] = names else {
+        return ends.is_empty();
+    };
+    let [end, ends @ ..] = ends else {
+        return false;
+    };
+    may_mean(labels, name.as_str(), *end)
+        && agrees(name.as_str(), *end, names, ends)
+        && may_bind(labels, names, ends)
+}
+
 // Whether a name means a portal, or nothing yet.
 fn may_mean(labels: &Labels, name: &str, end: End) -> bool
-    ensures { MatchBool result ((get labels.now.names name.now ≡ None) ⊎ (get labels.now.names name.now ≡ Some end))
-        ((get labels.now.names name.now ≢ None) × (get labels.now.names name.now ≢ Some end)) }
+    ensures { result ≡ may_mean (get labels.now.names name.now) end }
 {
     match labels.end_of(name) {
         Some(bound) => bound == end,
@@ -118,11 +143,12 @@ impl Judge {
         &mut self,
         node: u8,
         at: &Text,
-        bytes: Bytes,
+        bytes: &[u8],
         portals: &[Text],
         number: u64,
     ) -> Result<bool, AllocError>
-        ensures { IfOk result (λ allowed. Decides self.old (Line.Put node at.now bytes portals.now number) allowed self.new) }
+        ensures decided { IfOk result (λ allowed. Decides self.old (Line.Put node at.now bytes.now portals.now number) allowed self.new) }
+        ensures kept { IfOk result (λ allowed. allowed ≡ false → self.new ≡ self.old) }
     {
         let Some(end) = self.labels.end_of(at.as_str()) else {
             return Ok(false);
@@ -130,6 +156,7 @@ impl Judge {
         let Some(ends) = self.labels.ends_of(portals)? else {
             return Ok(false);
         };
+        let bytes = Bytes::from_slice(self.alloc, bytes)?;
         let parcel = Parcel { bytes, ends };
         let allowed = calls::put(&mut self.portals, self.profile, node, end, parcel, number)?;
         Ok(allowed)
@@ -137,7 +164,8 @@ impl Judge {
 
     // A close.
     fn closed(&mut self, node: u8, at: &Text, number: u64) -> Result<bool, AllocError>
-        ensures { IfOk result (λ allowed. Decides self.old (Line.Closed node at.now number) allowed self.new) }
+        ensures decided { IfOk result (λ allowed. Decides self.old (Line.Closed node at.now number) allowed self.new) }
+        ensures kept { IfOk result (λ allowed. allowed ≡ false → self.new ≡ self.old) }
     {
         let Some(end) = self.labels.end_of(at.as_str()) else {
             return Ok(false);
@@ -155,7 +183,8 @@ impl Judge {
         portals: &[Text],
         number: u64,
     ) -> Result<bool, AllocError>
-        ensures { IfOk result (λ allowed. Decides self.old (Line.Got node at.now bytes.now portals.now number) allowed self.new) }
+        ensures decided { IfOk result (λ allowed. Decides self.old (Line.Got node at.now bytes.now portals.now number) allowed self.new) }
+        ensures kept { IfOk result (λ allowed. allowed ≡ false → self.new ≡ self.old) }
     {
         let Some(end) = self.labels.end_of(at.as_str()) else {
             return Ok(false);
@@ -164,9 +193,10 @@ impl Judge {
         else {
             return Ok(false);
         };
-        if !bind_all(&mut self.labels, portals, &ends)? {
+        if !may_bind(&self.labels, portals, &ends) {
             return Ok(false);
         }
+        bind_all(&mut self.labels, portals, &ends)?;
         calls::receive(&mut self.portals, node, end, &ends)?;
         Ok(true)
     }
@@ -183,7 +213,8 @@ impl Judge {
 
     // An open.
     fn opened(&mut self, node: u8, first: &Text, second: &Text) -> Result<bool, AllocError>
-        ensures { IfOk result (λ allowed. Decides self.old (Line.Opened node first.now second.now) allowed self.new) }
+        ensures decided { IfOk result (λ allowed. Decides self.old (Line.Opened node first.now second.now) allowed self.new) }
+        ensures kept { IfOk result (λ allowed. allowed ≡ false → self.new ≡ self.old) }
     {
         if !self.may_open(node, first, second) {
             return Ok(false);
@@ -281,50 +312,52 @@ impl Judge {
     }
 
     // Judges a line.
-    fn judge(&mut self, line: Line) -> Result<bool, AllocError>
-        ensures { IfOk result (λ allowed. Decides self.old line allowed self.new) }
+    fn judge(&mut self, line: &Line) -> Result<bool, AllocError>
+        ensures decided { IfOk result (λ allowed. Decides self.old line.now allowed self.new) }
+        ensures kept { IfOk result (λ allowed. allowed ≡ false → self.new ≡ self.old) }
     {
         match line {
             Line::Opened {
                 node,
                 first,
                 second,
-            } => self.opened(node, &first, &second),
+            } => self.opened(*node, first, second),
             Line::Put {
                 node,
                 at,
                 bytes,
                 portals,
                 number,
-            } => self.put(node, &at, bytes, portals.as_slice(), number),
+            } => self.put(*node, at, bytes.as_slice(), portals.as_slice(), *number),
             Line::Got {
                 node,
                 at,
                 bytes,
                 portals,
                 number,
-            } => self.got(node, &at, bytes.as_slice(), portals.as_slice(), number),
-            Line::Closed { node, at, number } => self.closed(node, &at, number),
-            Line::OpenRefused { node, why } => Ok(self.open_refused(node, why)),
+            } => self.got(*node, at, bytes.as_slice(), portals.as_slice(), *number),
+            Line::Closed { node, at, number } => self.closed(*node, at, *number),
+            Line::OpenRefused { node, why } => Ok(self.open_refused(*node, *why)),
             Line::PutRefused {
                 node,
                 at,
                 bytes,
                 portals,
                 why,
-            } => self.put_refused(node, &at, bytes.as_slice(), portals.as_slice(), why),
-            Line::GetRefused { node, at, why } => Ok(self.get_refused(node, &at, why)),
-            Line::CloseRefused { node, at, why } => Ok(self.close_refused(node, &at, why)),
+            } => self.put_refused(*node, at, bytes.as_slice(), portals.as_slice(), *why),
+            Line::GetRefused { node, at, why } => Ok(self.get_refused(*node, at, *why)),
+            Line::CloseRefused { node, at, why } => Ok(self.close_refused(*node, at, *why)),
         }
     }
 
     /// Judges the next line of the log: whether the log with it is allowed.
     ///
-    /// If it isn't, this line is the first that the rules don't allow, and the judge is done with. After an `Err` it is, too.
-    pub fn take(&mut self, line: Line) -> Result<bool, AllocError>
+    /// If it isn't, the judge stays as it was, and may be asked about another line in its place. After an `Err` it is done with.
+    pub fn take(&mut self, line: &Line) -> Result<bool, AllocError>
         ensures allowed { (nodes : ℕ) (profile : Profile) (log : List Line) → HasAllowed self.old nodes profile log →
-            IfOk result (λ allowed. MatchBool allowed (HasAllowed self.new nodes profile (log ++ line ∷ []))
-            (IsAllowed nodes profile (log ++ line ∷ []) → ⊥)) }
+            IfOk result (λ allowed. MatchBool allowed (HasAllowed self.new nodes profile (log ++ line.now ∷ []))
+            (IsAllowed nodes profile (log ++ line.now ∷ []) → ⊥)) }
+        ensures kept { IfOk result (λ allowed. allowed ≡ false → self.new ≡ self.old) }
     {
         self.judge(line)
     }

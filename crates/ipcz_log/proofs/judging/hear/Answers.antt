@@ -13,8 +13,8 @@ returns-then-branch c = λ nodes profile log has. (
       (c.in_ok-take.ensures.allowed nodes profile log has),
 )
 
-pub returns-else-branch : goal.returns-else-branch
-returns-else-branch c = λ nodes profile log has. (
+pub returns : goal.returns
+returns c = λ nodes profile log has. (
   c.in-Some.line,
   subst (λ o. IsLine c.args.bytes.now o) c.in-Some.is c.in_ok-line.ensures,
   subst (λ b. MatchBool b (HasAllowed c.take.new.self nodes profile (log ++ c.in-Some.line ∷ [])) (IsAllowed nodes profile (log ++ c.in-Some.line ∷ []) → ⊥)) c.if-branch.false

@@ -8,11 +8,11 @@ use Rattle.ipcz_base.specs.declared.side.Side.TheVariants.{A, B}
 use Rattle.ipcz_base.specs.Ends.{end_at}
 use Rattle.ipcz_script.specs.Labels.{bind}
 
-pub returns-then-not-may_open : goal.returns-then-not-may_open
-returns-then-not-may_open c = not_opened_line c.args.self.now c.args.self.now c.args.node c.args.first.now c.args.second.now (sym c.may_open.ensures ∙ c.if-not-may_open.true)
+pub returns-then-not-may_open-clause-decided : goal.returns-then-not-may_open-clause-decided
+returns-then-not-may_open-clause-decided c = not_opened_line c.args.self.now c.args.self.now c.args.node c.args.first.now c.args.second.now (sym c.may_open.ensures ∙ c.if-not-may_open.true)
 
-pub returns : goal.returns
-returns c =
+pub returns-clause-decided : goal.returns-clause-decided
+returns-clause-decided c =
     let more : c.in-Some.pairs ≡ c.self.inside.pairs + 1 = grind (arith, c.in-Some.ensures) in
     let first = c.in_ok-bind.ensures ∙ ap (λ name. bind c.self.inside.labels name (end_at c.self.inside.pairs A)) c.as_str.ensures.same in
     let second = c.in_ok-bind-2.ensures ∙ ap (λ name. bind c.bind.new.self name c.opposite.result) c.as_str-2.ensures.same

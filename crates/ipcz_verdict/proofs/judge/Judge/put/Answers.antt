@@ -10,20 +10,22 @@ use Rattle.ipcz_verdict.proofs.judge.Judge.put.Goals as goal
 use Rattle.ipcz_world.specs.declared.step.Reply.TheVariants.{Put}
 use Rattle.ipcz_verdict.specs.Ledger.{put_step}
 
-pub returns-in_default : goal.returns-in_default
-returns-in_default c = subst (λ (d : Desk). Decides d (lines.Put c.args.node c.args.at.now c.args.bytes c.args.portals.now c.args.number) false d) c.self.view_is
-    (put_unnamed (the_view c.self.inside) c.args.node c.args.at.now c.args.bytes c.args.portals.now c.args.number (sym (c.end_of.ensures.end ∙ ap (λ k. get c.self.inside.labels.names k) c.as_str.ensures.same) ∙ c.in_default.is))
+pub returns-in_default-clause-decided : goal.returns-in_default-clause-decided
+returns-in_default-clause-decided c = subst (λ (d : Desk). Decides d (lines.Put c.args.node c.args.at.now c.args.bytes.now c.args.portals.now c.args.number) false d) c.self.view_is
+    (put_unnamed (the_view c.self.inside) c.args.node c.args.at.now c.args.bytes.now c.args.portals.now c.args.number (sym (c.end_of.ensures.end ∙ ap (λ k. get c.self.inside.labels.names k) c.as_str.ensures.same) ∙ c.in_default.is))
 
-pub returns-in_default-2 : goal.returns-in_default-2
-returns-in_default-2 c = subst (λ (d : Desk). Decides d (lines.Put c.args.node c.args.at.now c.args.bytes c.args.portals.now c.args.number) false d) c.self.view_is
-    (put_some_unnamed (the_view c.self.inside) c.args.node c.args.at.now c.args.bytes c.args.portals.now c.args.number (sym c.in_ok-ends.ensures ∙ c.in_default-2.is))
+pub returns-in_default-2-clause-decided : goal.returns-in_default-2-clause-decided
+returns-in_default-2-clause-decided c = subst (λ (d : Desk). Decides d (lines.Put c.args.node c.args.at.now c.args.bytes.now c.args.portals.now c.args.number) false d) c.self.view_is
+    (put_some_unnamed (the_view c.self.inside) c.args.node c.args.at.now c.args.bytes.now c.args.portals.now c.args.number (sym c.in_ok-ends.ensures ∙ c.in_default-2.is))
 
-pub returns : goal.returns
-returns c =
-    subst (λ (s : List Portal). Decides c.args.self.now (lines.Put c.args.node c.args.at.now c.args.bytes c.args.portals.now c.args.number) c.in_ok-allowed.allowed (record (the_view c.self.inside) { portals = s }))
+pub returns-clause-decided : goal.returns-clause-decided
+returns-clause-decided c =
+    subst (λ (s : List Portal). Decides c.args.self.now (lines.Put c.args.node c.args.at.now c.args.bytes.now c.args.portals.now c.args.number) c.in_ok-allowed.allowed (record (the_view c.self.inside) { portals = s }))
     (sym (with_items_is c.self.inside.portals c.put.new.portals (c.put.auto.portals ∙ c.deref_mut.ensures.len)))
-    (subst (λ (d : Desk). Decides d (lines.Put c.args.node c.args.at.now c.args.bytes c.args.portals.now c.args.number) c.in_ok-allowed.allowed (record (the_view c.self.inside) { portals = c.put.new.portals })) c.self.view_is
-    (put_line (the_view c.self.inside) c.put.new.portals c.args.node c.args.at.now c.args.bytes c.args.portals.now c.args.number c.in-Some.end c.in-Some-2.ends c.in_ok-allowed.allowed
+    (subst (λ (d : Desk). Decides d (lines.Put c.args.node c.args.at.now c.args.bytes.now c.args.portals.now c.args.number) c.in_ok-allowed.allowed (record (the_view c.self.inside) { portals = c.put.new.portals })) c.self.view_is
+    (put_line (the_view c.self.inside) c.put.new.portals c.args.node c.args.at.now c.args.bytes.now c.args.portals.now c.args.number c.in-Some.end c.in-Some-2.ends c.in_ok-allowed.allowed
     (sym (c.end_of.ensures.end ∙ ap (λ k. get c.self.inside.labels.names k) c.as_str.ensures.same) ∙ c.in-Some.is) (sym c.in_ok-ends.ensures ∙ c.in-Some-2.is)
-    (subst (λ s. DecidesCall s (put_step c.self.inside.profile c.args.node c.in-Some.end c.args.bytes c.in-Some-2.ends) (Put c.args.number) c.in_ok-allowed.allowed c.put.new.portals)
-    c.deref_mut.ensures.value c.in_ok-allowed.ensures)))
+    (subst (λ s. DecidesCall s (put_step c.self.inside.profile c.args.node c.in-Some.end c.args.bytes.now c.in-Some-2.ends) (Put c.args.number) c.in_ok-allowed.allowed c.put.new.portals)
+    c.deref_mut.ensures.value
+    (subst (λ bytes. DecidesCall c.deref_mut.result.now (put_step c.self.inside.profile c.args.node c.in-Some.end bytes c.in-Some-2.ends) (Put c.args.number) c.in_ok-allowed.allowed c.put.new.portals)
+    c.in_ok-bytes.ensures.copy c.in_ok-allowed.ensures.decided))))
