@@ -15,6 +15,8 @@ import subprocess
 import sys
 
 KIT = "rattle-kit-13f logic dac8208d650f15bf"
+# An earlier kit, by which all is proved too.
+EARLIER_KIT = "rattle-kit-13b logic dac8208d650f15bf"
 PYTHON = (3, 11)
 # What a check may take, and how many at a time are of use.
 GIGABYTES = 5
@@ -70,7 +72,7 @@ def faults() -> list[str]:
 def remarks() -> list[str]:
     """What is otherwise than where the gate was last run, or left out."""
     said, memory, told = [], gigabytes(), kit()
-    if told not in (None, KIT):
+    if told not in (None, KIT, EARLIER_KIT):
         said.append(f"the kit is {told}, and all was proved with {KIT}: proofs may fail")
     if memory is not None and memory < GIGABYTES:
         said.append(f"there are {memory:.0f} GB of memory, and a check takes up to {GIGABYTES}")
