@@ -4,11 +4,13 @@
 
 Of each of COUNT scripts (200 if nothing is said), drawn from the seeds FIRST and up, the log of its transcript by tools/model.py must be allowed. Some copies of the
 log are changed in one place each: a line lost, doubled, or swapped with the next one; a number, a node, a name, the bytes, a portal or a refusal changed; some bytes
-spoiled. The program must say of each what tools/judge.py says, with its status. With `--folder` the logs and what is to be written are put
+spoiled. The first lines of the log, and of changed copies, are also judged as several logs, of which only the order within each is known: one of each
+node's lines, or of threads' that the seed draws. The program must say of each what tools/judge.py says, with its status. With `--folder` the logs and what is to be written are put
 there, for `rt try --cases FOLDER`, and no program is run.
 """
 import argparse
 import collections
+import contextlib
 import json
 import pathlib
 import random
@@ -24,6 +26,8 @@ from compare_with_model import of_any_calls
 from record_calls import log_of, written
 
 CHANGES = 6
+# (so few lines of several logs that all their orders can be tried)
+TOGETHER = 10
 
 
 def other(draw: random.Random, line: dict[str, Any], log: list[dict[str, Any]]) -> None:
@@ -75,12 +79,35 @@ def changed(draw: random.Random, log: list[dict[str, Any]]) -> bytes:
     return written(log).encode()
 
 
+def parted(draw: random.Random, text: bytes) -> bytes:
+    """The lines of a log as those of some logs: of each its own lines in their order, and in none between them."""
+    first, *lines = text.split(b"\n")[: TOGETHER + 1]
+    count, is_by_node = draw.randrange(1, 4), draw.randrange(2) == 0
+    logs: list[list[bytes]] = [[] for _ in range(count)]
+    for line in lines:
+        name = draw.randrange(count)
+        with contextlib.suppress(ValueError, AttributeError, TypeError):
+            value = json.loads(line)
+            if is_by_node:
+                name = value.get("node") % count
+            line = json.dumps(value | {"log": name}).encode()
+        logs[name].append(line)
+    with contextlib.suppress(ValueError, TypeError):
+        first = json.dumps(json.loads(first) | {"logs": count}).encode()
+    merged = [first]
+    while left := [log for log in logs if log]:
+        merged.append(draw.choice(left).pop(0))
+    return b"".join(line + b"\n" for line in merged)
+
+
 def logs_of(seed: int) -> list[bytes]:
-    """The log of a random script, and changed copies of it."""
+    """The log of a random script, changed copies of it, and the first lines of some as several logs."""
     draw = random.Random(seed)
     script = of_any_calls(draw)
     log = log_of(script, model.transcript(script)[0].splitlines())
-    return [written(log).encode()] + [changed(draw, log) for _ in range(CHANGES) if len(log) > 1]
+    copies = [changed(draw, log) for _ in range(CHANGES) if len(log) > 1]
+    fronts = [written(log[: TOGETHER + 1]).encode()] + [changed(draw, log[: TOGETHER + 1]) for _ in copies]
+    return [written(log).encode(), *copies, *(parted(draw, front) for front in fronts)]
 
 
 def compare(doc: str, name: str, count: int, logs_of: Callable[[int], list[bytes]], verdict: Callable[[bytes], str]) -> int:

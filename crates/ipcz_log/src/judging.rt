@@ -159,12 +159,7 @@ fn read_lines(
 }
 
 // What is said of the lines of several logs.
-fn judge_logs(
-    alloc: Global,
-    header: Header,
-    count: u8,
-    text: &[u8],
-) -> Result<Verdict, AllocError>
+fn judge_logs(alloc: Global, header: Header, count: u8, text: &[u8]) -> Result<Verdict, AllocError>
     requires some { 1 ≤ header.nodes }
     requires few { header.nodes ≤ 8 }
     requires count { count ≤ 64 }

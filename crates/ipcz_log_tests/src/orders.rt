@@ -140,13 +140,22 @@ fn refuses_what_no_order_allows(rt: HostRuntime) {
     assert_eq!(rt;
         found(
             rt.alloc(),
-            &[(0, put("a", 0)), (0, put("b", 1)), (1, got("b", 1)), (1, got("a", 0))],
+            &[
+                (0, put("a", 0)),
+                (0, put("b", 1)),
+                (1, got("b", 1)),
+                (1, got("a", 0))
+            ],
             1000
         ),
         Ok(Found::NoOrder(3))
     );
     assert_eq!(rt;
-        found(rt.alloc(), &[(0, Call::IsOver("0>1")), (1, put("a", 0))], 1000),
+        found(
+            rt.alloc(),
+            &[(0, Call::IsOver("0>1")), (1, put("a", 0))],
+            1000
+        ),
         Ok(Found::NoOrder(1))
     );
     // no line may be passed over, and none taken twice

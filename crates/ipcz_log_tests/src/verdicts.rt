@@ -146,7 +146,10 @@ fn judges_logs_without_an_order_between_them(rt: HostRuntime) {
         Ok(Verdict::NoOrder(6))
     );
     // one log, in its one order, and no number of logs
-    assert_eq!(rt; together(rt.alloc(), "{\"nodes\":2}", ""), Ok(Verdict::Refused(2)));
+    assert_eq!(rt;
+        together(rt.alloc(), "{\"nodes\":2}", ""),
+        Ok(Verdict::Refused(2))
+    );
     assert_eq!(rt;
         together(rt.alloc(), "{\"nodes\":2,\"logs\":\"two\"}", ""),
         Ok(Verdict::Refused(2))
@@ -162,7 +165,11 @@ fn tells_what_is_no_line_of_several_logs(rt: HostRuntime) {
     let two = "{\"nodes\":2,\"logs\":2}";
     assert_eq!(rt; together(rt.alloc(), two, "7"), Ok(Verdict::NoLog(6)));
     assert_eq!(rt;
-        together(rt.alloc(), two, "{\"node\":0,\"op\":\"open\",\"refused\":\"NoWord\"}"),
+        together(
+            rt.alloc(),
+            two,
+            "{\"node\":0,\"op\":\"open\",\"refused\":\"NoWord\"}"
+        ),
         Ok(Verdict::NoLog(6))
     );
     assert_eq!(rt;

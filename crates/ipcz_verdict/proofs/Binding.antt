@@ -1,18 +1,17 @@
 -- Names that are bound together: what is asked of them first, and what comes of it.
 use Rattle.std.specs.Prelude.{◌≡◌, ◌⊎◌, ℕ, Bool, true, false, cond, not, ◌&&◌, ◌||◌, bytes_eq, Option, Some, None, List, [], ◌∷◌, refl}
-use Rattle.std.proofs.Common.{ap, ap₂, ◌∙◌, sym, subst, inl, inr}
+use Rattle.std.proofs.Common.{ap, ap₂, ◌∙◌, sym, inl, inr}
 use Rattle.std.proofs.lemmas.Bool.{and_parts, and_from}
 use Rattle.std.proofs.lemmas.Map.Text.{is_eq-slice_cmp}
 use Rattle.std.proofs.lemmas.Slice.Eq.{bytes_eq-Decides}
-use Rattle.std.specs.Ordering.{nat_cmp}
-use Rattle.std.specs.Cmp.Lexicographic.{slice_cmp, nat_list_cmp_total}
+use Rattle.std.specs.Cmp.Lexicographic.{nat_list_cmp_total}
 use Rattle.std.specs.FinMap.{get, get-insert}
 use Rattle.ipcz_base.specs.declared.end.End.{End}
 use Rattle.ipcz_base.specs.Ends.{same_end}
 use Rattle.ipcz_script.specs.Labels.{Labels, bind}
 use Rattle.ipcz_verdict.specs.Ledger.{Binds}
 use Rattle.ipcz_verdict.specs.Searches.{agrees, bind_all, may_bind, may_mean}
-use Rattle.ipcz_verdict.proofs.Facts.{both, end_same, end_tells, is_not}
+use Rattle.ipcz_verdict.proofs.Facts.{both, end_same, end_tells}
 
 -- what a name means once another was bound
 bound_name : (b : Labels) (n : List ℕ) (e : End) (m : List ℕ) → get (bind b n e).names m ≡ cond (bytes_eq m n) (Some e) (get b.names m)

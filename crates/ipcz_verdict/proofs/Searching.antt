@@ -1,9 +1,8 @@
 -- A search for an order: what a line that is taken, one that isn't, and one that is taken back change.
-use Rattle.std.specs.Prelude.{◌≡◌, ◌≢◌, ◌⊎◌, ◌<◌, ◌≤◌, ◌+◌, ◌*◌, ◌/◌, ◌%◌, ℕ, zero, suc, Bool, true, false, cond, nat_eq, nat_lt, length, MatchBool, Option, Some, None, is_some, List, [], ◌∷◌, ◌++◌, map, take, drop, slice_get, slice_index_or, refl}
-use Rattle.std.proofs.Common.{arith, ap, ap₂, ◌∙◌, sym, subst, append_assoc, inl, inr}
+use Rattle.std.specs.Prelude.{◌≡◌, ◌<◌, ◌≤◌, ◌+◌, ◌/◌, ◌%◌, ℕ, zero, suc, Bool, true, false, cond, nat_eq, nat_lt, length, MatchBool, Option, Some, None, is_some, List, [], ◌∷◌, ◌++◌, take, drop, slice_get, slice_index_or, refl}
+use Rattle.std.proofs.Common.{arith, ap, ap₂, ◌∙◌, sym, subst, append_assoc}
 use Rattle.std.proofs.lemmas.Bool.Decides.{nat_tests}
 use Rattle.std.proofs.lemmas.List.{take_more}
-use Rattle.std.specs.Option.{unwrap_or}
 use Rattle.ipcz_base.specs.declared.profile.Profile.{Profile}
 use Rattle.ipcz_verdict.specs.declared.entry.Entry.{Entry}
 use Rattle.ipcz_verdict.specs.declared.line.Line.{Line}
@@ -13,7 +12,7 @@ use Rattle.ipcz_verdict.specs.Desks.{Desk, HasAllowed}
 use Rattle.ipcz_verdict.specs.Ledger.{IsAllowed}
 use Rattle.ipcz_verdict.specs.Searches.{AreTried, CanEnd, HasEntries, IsBack, IsSearch, IsStack, IsWith, NoneBelow, key_of, left_of, rank_of, taken_lines}
 use Rattle.ipcz_verdict.specs.Together.{AgreesWith, AreAllowed, calls_of, of_log}
-use Rattle.ipcz_verdict.proofs.Facts.{both, same_some, some_none}
+use Rattle.ipcz_verdict.proofs.Facts.{same_some, some_none}
 use Rattle.ipcz_verdict.proofs.Together.{append_nothing, eq_itself, calls-append, front_allowed, of_log-append, of_log-other, of_log-own, same_rest}
 
 -- ---- lists
@@ -35,11 +34,11 @@ next_is : (nodes : ℕ) (profile : Profile) (entries order : List Entry) (left :
 next_is nodes profile entries order left e parted can = (
   of_log e.log can.0,
   sym (same_rest (of_log e.log order) (e ∷ of_log e.log can.0) (left_of left e.log) (
-    ap (λ xs. of_log e.log order ++ xs) (sym (of_log-own e can.0))
-    ∙ sym (of_log-append e.log order (e ∷ can.0))
-    ∙ ap (of_log e.log) (sym (append_assoc order (e ∷ []) can.0))
-    ∙ can.1 e.log
-    ∙ sym (parted e.log))),
+      ap (λ xs. of_log e.log order ++ xs) (sym (of_log-own e can.0))
+      ∙ sym (of_log-append e.log order (e ∷ can.0))
+      ∙ ap (of_log e.log) (sym (append_assoc order (e ∷ []) can.0))
+      ∙ can.1 e.log
+      ∙ sym (parted e.log))),
 )
 
 next_within : (left : List (List Entry)) (e : Entry) (rest : List Entry) → length left ≡ 64 → left_of left e.log ≡ e ∷ rest → e.log < 64
@@ -122,8 +121,8 @@ pub skip_refused : (nodes : ℕ) (profile : Profile) (entries : List Entry) (jud
     IsSearch nodes profile entries judge order left (key + 1)
 skip_refused nodes profile entries judge order left key entry was some never = skipped nodes profile entries judge order left key was
     (λ e next can. never (subst (λ (x : Entry). IsAllowed nodes profile (calls_of (taken_lines order) ++ x.line ∷ [])) (same_some (ap (λ xs. slice_get xs 0) (sym next.first) ∙ some))
-        (front_allowed nodes profile (calls_of (taken_lines order) ++ e.line ∷ []) (calls_of can.0)
-        (subst (λ ls. IsAllowed nodes profile ls) (calls_more (taken_lines order) e can.0) can.2))))
+    (front_allowed nodes profile (calls_of (taken_lines order) ++ e.line ∷ []) (calls_of can.0)
+    (subst (λ ls. IsAllowed nodes profile ls) (calls_more (taken_lines order) e can.0) can.2))))
 
 -- ---- a line that is taken
 
@@ -237,7 +236,7 @@ pub done_beside : (nodes : ℕ) (profile : Profile) (entries : List Entry) (judg
     IsSearch nodes profile entries judge order left key → left_of left (key % 64) ≡ e ∷ rest → IsDone nodes profile entries order e (key + 1)
 done_beside nodes profile entries judge order left key e rest search first none = one_more nodes profile entries (taken_lines order) key search.below
     (λ x is can. none (subst (λ y. CanEnd nodes profile entries (taken_lines order ++ y ∷ []))
-        (heads (sym (next_at nodes profile entries order left key x search.stack is can).first ∙ first)) can))
+    (heads (sym (next_at nodes profile entries order left key x search.stack is can).first ∙ first)) can))
   where
     heads : {x y : Entry} {xs ys : List Entry} → x ∷ xs ≡ y ∷ ys → x ≡ y
     heads m = cc

@@ -1,15 +1,12 @@
 -- Orders of the lines of several logs.
-use Rattle.std.specs.Prelude.{◌≡◌, ◌<◌, ◌≤◌, ◌+◌, ℕ, Bool, true, false, cond, nat_eq, nat_lt, length, Option, Some, None, List, [], ◌∷◌, ◌++◌, map, slice_get, refl}
-use Rattle.std.proofs.Common.{arith, ap, ap₂, ◌∙◌, sym, subst, append_assoc}
+use Rattle.std.specs.Prelude.{◌≡◌, ℕ, Bool, true, false, cond, nat_eq, List, [], ◌∷◌, ◌++◌, refl}
+use Rattle.std.proofs.Common.{arith, ap}
 use Rattle.std.proofs.lemmas.Bool.Decides.{nat_tests}
-use Rattle.std.specs.Option.{unwrap_or}
 use Rattle.ipcz_base.specs.declared.profile.Profile.{Profile}
 use Rattle.ipcz_verdict.specs.declared.entry.Entry.{Entry}
 use Rattle.ipcz_verdict.specs.declared.line.Line.{Line}
-use Rattle.ipcz_verdict.specs.Ledger.{IsAllowed, Ledger, MayLog, MayRest, first_ledger}
-use Rattle.ipcz_verdict.specs.Searches.{left_of}
-use Rattle.ipcz_verdict.specs.Together.{AgreesWith, calls_of, of_log}
-use Rattle.ipcz_verdict.proofs.Facts.{both}
+use Rattle.ipcz_verdict.specs.Ledger.{IsAllowed, Ledger, MayLog, first_ledger}
+use Rattle.ipcz_verdict.specs.Together.{calls_of, of_log}
 use Rattle.ipcz_verdict.proofs.Turns.{no_rest}
 
 -- ---- lines of one log

@@ -73,13 +73,7 @@ fn rank_of(line: &Line) -> usize
 {
     match line {
         Line::Opened { .. } | Line::Got { .. } => 1,
-        Line::Put { portals, .. } => {
-            if portals.is_empty() {
-                1
-            } else {
-                2
-            }
-        }
+        Line::Put { portals, .. } => { if portals.is_empty() { 1 } else { 2 } }
         Line::Closed { .. } => 3,
         _ => 0,
     }

@@ -1,4 +1,4 @@
-use Rattle.std.proofs.Common.{List, ℕ, Option, Some, None, [], sym, subst, take}
+use Rattle.std.proofs.Common.{[], sym, subst, take}
 use Rattle.std.proofs.lemmas.Result.{IfOk-weaker}
 use Rattle.ipcz_log.specs.Verdicts.{IsHeader, IsSaidBehind, IsSaidOf, IsSaidOfLogs, IsVerdict, text_lines}
 use Rattle.ipcz_log.proofs.Hearing.{headed, headless}

@@ -1,4 +1,4 @@
-use Rattle.std.proofs.Common.{List, ℕ, Option, Some, None, [], sym, subst}
+use Rattle.std.proofs.Common.{List, subst}
 use Rattle.ipcz_verdict.specs.declared.entry.Entry.{Entry}
 use Rattle.ipcz_verdict.specs.declared.search.Found.{Found}
 use Rattle.ipcz_verdict.specs.Together.{IsFound}

@@ -1,4 +1,4 @@
-use Rattle.std.proofs.Common.{◌≡◌, ◌+◌, ◌++◌, ◌∷◌, ℕ, List, [], length, arith, ap, sym, subst, ◌∙◌}
+use Rattle.std.proofs.Common.{List, length, arith, ap, ◌∙◌}
 use Rattle.ipcz_verdict.specs.declared.entry.Entry.{Entry}
 use Rattle.ipcz_verdict.specs.Searches.{left_of}
 use Rattle.ipcz_verdict.proofs.Searching.{no_lines, none_more, one_longer}

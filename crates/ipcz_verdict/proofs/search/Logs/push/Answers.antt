@@ -13,8 +13,8 @@ returns c = record {
       let less : c.args.entry.log < length c.deref_mut.result.now = omega (arith, c.requires, here.count) in
       on_ok_weaker c.push_back.result
       (λ (is : IsWith c.deref_mut.result.now c.args.entry.log (left_of c.deref_mut.result.now c.args.entry.log ++ c.args.entry ∷ []) c.push_back.new.left).
-          subst (λ (q : List (List Entry)). HasEntries q (entries ++ c.args.entry ∷ []))
-          (sym (with_items_is c.self.inside.queues c.push_back.new.left (c.push_back.auto.left ∙ c.deref_mut.ensures.len)))
-          (pushed c.deref_mut.result.now c.push_back.new.left entries c.args.entry here is))
+      subst (λ (q : List (List Entry)). HasEntries q (entries ++ c.args.entry ∷ []))
+      (sym (with_items_is c.self.inside.queues c.push_back.new.left (c.push_back.auto.left ∙ c.deref_mut.ensures.len)))
+      (pushed c.deref_mut.result.now c.push_back.new.left entries c.args.entry here is))
       (c.push_back.ensures less);
 }

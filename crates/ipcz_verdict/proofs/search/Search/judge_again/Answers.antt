@@ -1,4 +1,4 @@
-use Rattle.std.proofs.Common.{List, length, take, arith, ap, sym, subst}
+use Rattle.std.proofs.Common.{List, length, take, arith, ap, subst}
 use Rattle.ipcz_verdict.specs.declared.search.Taken.{Taken}
 use Rattle.ipcz_verdict.specs.Desks.{HasAllowed}
 use Rattle.ipcz_verdict.specs.Searches.{taken_lines}

@@ -1,6 +1,5 @@
-use Rattle.std.proofs.Common.{◌≡◌, ◌+◌, ℕ, List, Option, Some, None, cond, true, false, MatchBool, ap, sym, subst, ◌∙◌}
-use Rattle.ipcz_verdict.specs.declared.entry.Entry.{Entry}
-use Rattle.ipcz_verdict.specs.Searches.{CanEnd, IsBack, IsSearch, IsStack, left_of, taken_lines}
+use Rattle.std.proofs.Common.{cond, subst}
+use Rattle.ipcz_verdict.specs.Searches.{IsBack, IsSearch}
 use Rattle.ipcz_verdict.proofs.Searching.{back_of, search_of}
 use Rattle.ipcz_verdict.proofs.search.Search.step.Goals as goal
 

@@ -1,7 +1,6 @@
-use Rattle.std.proofs.Common.{◌≡◌, ◌+◌, ◌++◌, ◌∷◌, ◌%◌, [], ℕ, List, Some, true, false, MatchBool, ap, sym, subst, ◌∙◌, slice_get}
+use Rattle.std.proofs.Common.{◌≡◌, ◌+◌, ◌++◌, ◌∷◌, ◌%◌, [], ℕ, List, Some, MatchBool, ap, sym, subst, ◌∙◌, slice_get}
 use Rattle.std.specs.Option.{option_copied}
 use Rattle.std.proofs.lemmas.List.{with_items_is}
-use Rattle.ipcz_base.specs.declared.profile.Profile.{Profile}
 use Rattle.ipcz_verdict.specs.declared.entry.Entry.{Entry}
 use Rattle.ipcz_verdict.specs.declared.search.Taken.{Taken}
 use Rattle.ipcz_verdict.specs.Desks.{Desk, HasAllowed}
