@@ -36,7 +36,7 @@ import mutations
 from compare_with_model import of_any_calls
 
 COLUMNS = ("refused there", "refused later", "no line", "allowed")
-# An order of acts is drawn slowly where there are many nodes, since each of a node's acts is tried on a copy of the world; scripts of eight nodes are run by ipcz_run.
+# Orders of acts are drawn for scripts of few nodes; those of eight nodes are run by ipcz_run.
 MOST_NODES = 4
 # Of the eight logs from this seed on some have a place for each kind of change.
 FIRST = 8
