@@ -27,7 +27,7 @@ from record_calls import log_of, written
 
 CHANGES = 6
 # (so few lines of several logs that all their orders can be tried)
-TOGETHER = 10
+TOGETHER = 7
 
 
 def other(draw: random.Random, line: dict[str, Any], log: list[dict[str, Any]]) -> None:

@@ -342,10 +342,14 @@ impl Logs {
         push_back(&mut self.queues, entry)
     }
 
-    /// Whether these lines are allowed together: looks for an order of them that keeps each log's own, and in which an implementation with so many nodes may
-    /// make these calls and get these answers.
+    /// Whether the lines of these logs are allowed together, by an implementation with so many nodes whose puts have this profile.
     ///
-    /// It takes `steps` steps at most, of which each takes a line, or takes one again after another order was tried.
+    /// They are if the machine allows them in some order that keeps each log's own (`Found::Order`), and else they aren't (`Found::NoOrder`). A step takes a line,
+    /// or takes one again after others were taken back; if `steps` of them weren't enough, nothing is told (`Found::Untold`). So logs of n lines want n + 1 steps at
+    /// least, and where lines of several logs may come in either order, to tell that there is no order takes as many as there are orders.
+    ///
+    /// Log 0 gets `a` as number 0 at `1>0`, and log 1 puts it at `0>1`: that is `Order`, in 3 steps, also if log 0 was read first. If log 1 puts `b`, it is
+    /// `NoOrder` with the number of the get.
     pub fn find_order(
         self,
         alloc: Global,
