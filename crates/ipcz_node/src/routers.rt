@@ -287,7 +287,7 @@ fn first_in(entries: &[(u64, Router)], from: u64, ends: &HeldEnds) -> Option<(u6
 fn is_ready_in(router: &Router, ends: &HeldEnds) -> bool
     ensures { result ≡ is_ready_in ends.now.ends router.now.router }
 {
-    router.is_open_terminal() && ends.has(router.end()) && router.has_come()
+    router.has_come() && router.is_open_terminal() && ends.has(router.end())
 }
 
 // The first entry from a serial on whose router is the open terminal of one of these ends, and where a get isn't `Empty`: its serial and that end.
