@@ -6,6 +6,7 @@ use ipcz_verdict::{Entry, Found, Line, Logs};
 use std::alloc::{AllocError, Global};
 
 // A parcel without portals that is put, or got, at a first pair's portal.
+#[derive(Drop)]
 struct Parcel {
     node: u8,
     at: &'static str,
@@ -14,6 +15,7 @@ struct Parcel {
 }
 
 // What stands in a log.
+#[derive(Drop)]
 enum Call {
     Put(Parcel),
     Got(Parcel),
@@ -55,13 +57,11 @@ fn line_of(alloc: Global, call: &Call) -> Result<Line, AllocError> {
 // What is found of these lines of logs on three nodes, which are numbered from 1 on, in so many steps.
 fn found(alloc: Global, calls: &[(u8, Call)], steps: u64) -> Result<Found, AllocError> {
     let mut logs = Logs::new(alloc)?;
-    let mut number = 0;
-    for (log, call) in calls {
-        number += 1;
+    for (i, (log, call)) in calls.iter().enumerate() {
         if *log < 64 {
             logs.push(Entry {
                 log: *log,
-                number,
+                number: (i as u64).saturating_add(1),
                 line: line_of(alloc, call)?,
             })?;
         }
