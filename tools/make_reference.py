@@ -80,7 +80,6 @@ PAGES = [
     Page("HUBS", "Hubs and portals", "Nodes that threads share, with a lock round each. `ipcz_fabric`. [THREADS.md](../THREADS.md) says how they are used.", [
         Section("Hub", "", "Hub", ["ipcz_fabric/src/hub.rt", "ipcz_fabric/src/selecting.rt"], r"\bhub"),
         Section("Workers", "", "", ["ipcz_fabric/src/workers.rt"], r""),
-        Section("A table that is named and used", "", "", ["ipcz_fabric/src/users.rt"], r""),
         Section("Caller", "Who calls the nodes of a hub, where all calls are to have one order.", "Caller", ["ipcz_fabric/src/caller.rt", "ipcz_fabric/src/selecting.rt", "ipcz_fabric/src/workers.rt"], r"\bcaller"),
         Section("Portal", "", "Portal", ["ipcz_fabric/src/portal.rt", "ipcz_fabric/src/scoped.rt"], r"\b(?:at|portal|only|peer)"),
         Section("ScopedPortal", "A portal that is closed when it is let go.", "ScopedPortal", ["ipcz_fabric/src/scoped.rt"], r"\bscoped"),

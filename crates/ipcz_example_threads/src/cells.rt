@@ -1,6 +1,8 @@
 //! Each thread owns the cell of a node, and takes the node's turns between its own calls. No lock stands between them.
+ghost use Rattle.std.specs.Prelude.{◌≡◌};
+
 use ipcz_base::{Bytes, End, Ends, Parcel, Refusal, Side};
-use ipcz_fabric::{CellsUser, Fabric, FabricName, NodeCell, Ticket};
+use ipcz_fabric::{Blank, Fabric, FabricName, NodeCell, Ticket};
 use ipcz_node::Happened;
 use std::alloc::Global;
 use std::sync::Wait;
@@ -152,21 +154,17 @@ fn both_talk<F: FabricName + Send + Sync, R: Threads + Wait + Sync>(
     }
 }
 
-/// Talks by the cells of a table of two nodes: gives what node 0 gets back from node 1.
-#[derive(Drop)]
-pub struct TalkByCells {
-    pub alloc: Global,
-}
-
-impl<R: Threads + Wait + Sync> CellsUser<R> for TalkByCells {
-    type Output = Result<Bytes, Refusal>;
-
-    fn use_cells<F: FabricName + Send + Sync>(
-        self,
-        rt: &R,
-        fabric: Fabric<F>,
-        mut cells: Vec<NodeCell<F>>,
-    ) -> Result<Bytes, Refusal> {
-        both_talk(rt, self.alloc, &fabric, cells.as_mut_slice())
-    }
+/// What node 0 gets back from node 1. `F` has to name the table of this blank.
+pub fn talk_by_cells<F: FabricName + Send + Sync, R: Threads + Wait + Sync>(
+    rt: &R,
+    alloc: Global,
+    blank: Blank,
+) -> Result<Bytes, Refusal>
+    requires { blank ≡ F.table }
+{
+    let (fabric, mut cells) = match blank.name::<F>() {
+        Ok(named) => named,
+        Err((why, _blank)) => return Err(why),
+    };
+    both_talk(rt, alloc, &fabric, cells.as_mut_slice())
 }

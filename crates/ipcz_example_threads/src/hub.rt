@@ -1,6 +1,8 @@
 //! Two threads share a hub, each with portals of its own, and a worker for each node takes its turns. A lock stands round each node's cell.
+ghost use Rattle.std.specs.Prelude.{◌≡◌};
+
 use ipcz_base::{Bytes, Refusal};
-use ipcz_fabric::{Arrival, FabricName, Gate, Hub, HubUser, Portal, work_waiting};
+use ipcz_fabric::{Arrival, Blank, FabricName, Gate, Hub, Portal, work_waiting};
 use std::alloc::Global;
 use std::sync::Wait;
 use std::sync::atomic::{AtomicU64, Ordering};
@@ -123,21 +125,21 @@ fn all_run<F: FabricName + Send + Sync, R: Threads + Wait + Clock + Sync>(
     answer
 }
 
-/// Talks by a hub of two nodes: gives what node 0 gets back from node 1.
-#[derive(Drop)]
-pub struct TalkByHub {
-    pub alloc: Global,
-}
-
-impl<R: Threads + Wait + Clock + Sync> HubUser<R> for TalkByHub {
-    type Output = Result<Bytes, Refusal>;
-
-    fn use_hub<F: FabricName + Send + Sync>(
-        self,
-        rt: &R,
-        hub: &Hub<F>,
-        portals: Vec<Portal<F>>,
-    ) -> Result<Bytes, Refusal> {
-        all_run(rt, self.alloc, hub, portals.as_slice())
-    }
+/// What node 0 gets back from node 1. `F` has to name the table of this blank.
+pub fn talk_by_hub<F: FabricName + Send + Sync, R: Threads + Wait + Clock + Sync>(
+    rt: &R,
+    alloc: Global,
+    blank: Blank,
+) -> Result<Bytes, Refusal>
+    requires { blank ≡ F.table }
+{
+    let (fabric, cells) = match blank.name::<F>() {
+        Ok(named) => named,
+        Err((why, _blank)) => return Err(why),
+    };
+    let (hub, portals) = match Hub::new(fabric, cells) {
+        Ok(made) => made,
+        Err((why, _fabric, _cells)) => return Err(why),
+    };
+    all_run(rt, alloc, &hub, portals.as_slice())
 }

@@ -5,17 +5,16 @@
 mod cells;
 mod hub;
 
-use cells::TalkByCells;
-use hub::TalkByHub;
-use ipcz_fabric::{start_lasting, with_cells, with_hub};
+use ipcz_fabric::start_lasting;
+use std::marker::Brand;
 use std::str;
 
 fn main(rt: HostRuntime) -> anyhow::Result<()> {
     let blank = start_lasting(rt.alloc(), 2, 8, u64::MAX)?;
-    let answer = with_cells(&rt, blank, TalkByCells { alloc: rt.alloc() })??;
+    let answer = cells::talk_by_cells::<Brand, _>(&rt, rt.alloc(), blank)?;
     println!(rt; "cells: {}", str::from_utf8(answer.as_slice())?)?;
     let blank = start_lasting(rt.alloc(), 2, 8, u64::MAX)?;
-    let answer = with_hub(&rt, blank, TalkByHub { alloc: rt.alloc() })??;
+    let answer = hub::talk_by_hub::<Brand, _>(&rt, rt.alloc(), blank)?;
     println!(rt; "hub: {}", str::from_utf8(answer.as_slice())?)?;
     Ok(())
 }

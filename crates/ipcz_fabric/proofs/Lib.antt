@@ -9,4 +9,3 @@ pub mod Books
 pub mod Replaying
 pub mod Standing
 pub mod TurnsCounted
-pub mod Beginning

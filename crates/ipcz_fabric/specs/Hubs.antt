@@ -12,7 +12,6 @@ use Rattle.ipcz_node.specs.Node.{Node}
 use Rattle.ipcz_node.specs.Finding.{IsNextHeld, IsNextReady}
 use Rattle.ipcz_cell.specs.TableNames.{TableName}
 use Rattle.ipcz_cell.specs.CellStates.{CellState}
-use Rattle.ipcz_cell.specs.Making.{AreFirst}
 use Rattle.ipcz_cell.specs.Opens.{OpensPair}
 use Rattle.ipcz_fabric.specs.Places.{CellWhere}
 use Rattle.ipcz_fabric.specs.Portals.{PortalValue, portal_at, portals_at}
@@ -37,10 +36,6 @@ AreFirstPortals [] portals = portals ≡ []
 AreFirstPortals (c ∷ cells) portals = (ends : List End) × (others : List PortalValue) × AreHeldFrom c.part.state 0 ends ×
     AreFirstPortals cells others ×
     (portals ≡ portals_at c.part.node ends ++ others)
-
--- these are the portals that the nodes of a table have at the start
-abbrev pub AreOpeningPortals : ℕ → List PortalValue → Type 0
-AreOpeningPortals count portals = (cells : List CellState) × AreFirst count count cells × AreFirstPortals cells portals
 
 -- so many portals more are those of the ends that callers of a node hold
 abbrev pub AddsHeld : Node → ℕ → List PortalValue → List PortalValue → Type 0

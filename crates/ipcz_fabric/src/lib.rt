@@ -11,7 +11,6 @@ mod portals;
 mod scoped;
 mod selecting;
 mod sorting;
-mod users;
 mod workers;
 
 pub use caller::Caller;
@@ -23,5 +22,4 @@ pub use portal::{Got, Portal, PortalPutRefused};
 pub use portals::{Arrival, Portals};
 pub use scoped::ScopedPortal;
 pub use selecting::NoneGot;
-pub use users::{CellsUser, HubUser, with_cells, with_hub};
 pub use workers::{Gate, Worker, run_worker, work, work_waiting};
