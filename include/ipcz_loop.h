@@ -121,6 +121,17 @@ IPCZ_LOOP_API ipcz_status ipcz_node_recv(ipcz_node *node, ipcz_portal at, ipcz_p
  *                   and with IPCZ_STRANGER if there is a portal in the list */
 IPCZ_LOOP_API ipcz_status ipcz_node_recv_any(ipcz_node *node, const ipcz_portal *portals, size_t count, ipcz_parcel *parcel, size_t *which, int timeout);
 
+/* Tells what ipcz_node_recv with a timeout of 0 would answer at a portal of the node, one call after the other. Nothing is taken, and another thread
+ * may take it before this one does.
+ *   status  where it is written
+ * IPCZ_STRANGER. */
+IPCZ_LOOP_API ipcz_status ipcz_node_look(ipcz_node *node, ipcz_portal at, ipcz_portal_status *status);
+
+/* Whether a portal of the node has arrived, as ipcz_cell_has_arrived tells. A portal that goes on travelling does so only once it has arrived.
+ *   arrived  where it is written
+ * IPCZ_STRANGER. */
+IPCZ_LOOP_API ipcz_status ipcz_node_has_arrived(ipcz_node *node, ipcz_portal at, bool *arrived);
+
 /* Closes a portal of the node. What was sent there still comes to the other one; what comes to it is discarded, with the portals in it.
  * IPCZ_STRANGER, IPCZ_OUT_OF_MEMORY. */
 IPCZ_LOOP_API ipcz_status ipcz_node_close(ipcz_node *node, ipcz_portal at);
@@ -505,6 +516,20 @@ IPCZ_LOOP_API ipcz_status ipcz_node_recv_any(ipcz_node *node, const ipcz_portal 
 
 IPCZ_LOOP_API ipcz_status ipcz_node_recv(ipcz_node *node, ipcz_portal at, ipcz_parcel *parcel, int timeout) {
     return ipcz_node_recv_any(node, &at, 1, parcel, IPCZ_NULL_, timeout);
+}
+
+IPCZ_LOOP_API ipcz_status ipcz_node_look(ipcz_node *node, ipcz_portal at, ipcz_portal_status *status) {
+    ipcz_node_begin_look_(node);
+    const ipcz_status told = ipcz_cell_look(&node->cell, at, status);
+    pthread_mutex_unlock(&node->lock);
+    return told;
+}
+
+IPCZ_LOOP_API ipcz_status ipcz_node_has_arrived(ipcz_node *node, ipcz_portal at, bool *arrived) {
+    ipcz_node_begin_look_(node);
+    const ipcz_status told = ipcz_cell_has_arrived(&node->cell, at, arrived);
+    pthread_mutex_unlock(&node->lock);
+    return told;
 }
 
 IPCZ_LOOP_API ipcz_status ipcz_node_close(ipcz_node *node, ipcz_portal at) {

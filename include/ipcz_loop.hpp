@@ -110,6 +110,20 @@ class Loop {
         // The same without waiting.
         Got try_recv(Parcel &parcel) { return recv_for(parcel, Time(0)); }
 
+        // What try_recv would give, one call after the other. Nothing is taken, and another thread may take it before this one does.
+        Status look() const {
+            Status status{};
+            check(node_ ? ::ipcz_node_look(node_, name_, &status) : ipcz_status{IPCZ_NOT_CREATED});
+            return status;
+        }
+
+        // Whether the portal has arrived, so that it leaves at most one router in its route if it travels on now.
+        bool has_arrived() const {
+            bool arrived = false;
+            check(node_ ? ::ipcz_node_has_arrived(node_, name_, &arrived) : ipcz_status{IPCZ_NOT_CREATED});
+            return arrived;
+        }
+
         // Closes the portal.
         void close() {
             check(node_ ? ::ipcz_node_close(node_, name_) : ipcz_status{IPCZ_NOT_CREATED});

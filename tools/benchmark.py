@@ -19,8 +19,8 @@ ratios; what it takes between two threads, and where these sleep while they have
 the processor. Each time is the least of 20 runs of 20,000 rounds, with the middle one. Where `chrt` may,
 the runs have real-time priority, so that a busy machine gives them processors of their own for the moment that they take.
 
-`peers` runs a parcel of ours, on one node and between two, in turn with what other queues take for a message of as many bytes (`peers.py`), and
-prints the ratios and the conditions: 25 runs of 20,000 of each, the least and the middle one.
+`peers` runs a parcel of ours, on one thread and between two, in turn with what other queues take for a message of as many bytes, with memory of its own
+and without (`peers.py`), and prints the ratios and the conditions: 16 runs of 20,000 of each, the least and the middle one.
 
 Each workload is made for a quarter, a half and the whole of 1,048,576 bytes, which is the longest script.
 The table has the `user` time in milliseconds (the least of five runs if a run is short) and the peak
@@ -35,14 +35,13 @@ parcel costs if 1, 10, 100 and 1,000 parcels wait before it. `largest` shows the
 import argparse
 import os
 import resource
-import shutil
 import subprocess
 import sys
 import tempfile
 from collections.abc import Callable, Sequence
 
 import asked
-from peers import peers
+from peers import KINDS, command, peers
 
 # The commands of the block with this number.
 Block = Callable[[int], list[str]]
@@ -343,36 +342,41 @@ def instructions(name: str, rounds: int, program: str = BENCH) -> int:
     return counted([program, name, str(rounds)])
 
 
-def each_of(command: list[str]) -> int | None:
-    """The instructions of one round of a command that takes a number of rounds, or none if they can't be counted."""
-    return round((counted([*command, "12000"]) - counted([*command, "2000"])) / 10000) if shutil.which("valgrind") else None
+# What of ours is measured beside other queues: on one thread, between two that poll, and there and back between these.
+OURS = {"one": [("one_node", BENCH), ("two_nodes", BENCH), ("cells", BENCH_THREADS), ("hub", BENCH_THREADS)],
+        "two": [("cells_on_threads", BENCH_THREADS), ("hub_on_threads", BENCH_THREADS)],
+        "back": [("round_trips", BENCH_THREADS), ("hub_round_trips", BENCH_THREADS)]}
+SAID = {"one": "one thread, put and got in turn", "two": "two threads that poll", "back": "there and back between two threads that poll"}
 
 
-def nanoseconds(command: list[str]) -> int:
-    return int(subprocess.run([*command, "20000"], stdout=subprocess.PIPE, check=True).stdout)
+def in_turn(commands: dict[str, list]) -> dict[str, list[int]]:
+    """What each command prints in 16 runs, in which they take turns, in order."""
+    before, found = prefix(), {name: [] for name in commands}
+    for _ in range(16):
+        for name, one in commands.items():
+            found[name].append(int(subprocess.run([*before, *one], stdout=subprocess.PIPE, check=True).stdout))
+    return {name: sorted(times) for name, times in found.items()}
 
 
 def show_peers() -> None:
-    if not os.path.exists(BENCH):
-        sys.exit("peers: ipcz_bench isn't built. `cd crates/ipcz_bench && rt run` builds it.")
+    for program in (BENCH, BENCH_THREADS):
+        if not os.path.exists(program):
+            sys.exit(f"peers: {program} isn't built. `rt run` in its crate's folder builds it.")
     with tempfile.TemporaryDirectory() as folder:
         others, lost = peers(folder)
         if not others:
             sys.exit("peers: there is nothing to compare with: neither cargo nor a C compiler builds a queue here.")
-        before = prefix()
-        commands = [*others, *[(name, [BENCH, name]) for name in ("one_node", "two_nodes")]]
-        times: dict[str, list[int]] = {name: [] for name, _ in commands}
-        for _ in range(25):
-            for name, command in commands:
-                times[name].append(nanoseconds([*before, *command]))
-        print("one thread; 16 bytes, put and got in turn; 25 runs of 20,000 of each, in turn; %d processors, load %.1f"
+        print("16 bytes; nanoseconds, the least and the middle of 16 runs of 20,000 of each, in turn; %d processors, load %.1f"
               % (os.cpu_count(), os.getloadavg()[0]))
         print("not built here: %s" % (", ".join(lost) or "none"))
-        base = others[0][0]
-        for name, command in commands:
-            count, all_times = each_of(command), sorted(times[name])
-            print("%-18s %6s instructions, %5d ns (the middle one: %d), %5.2f times %s"
-                  % (name, count or "?", all_times[0], all_times[12], all_times[0] / min(times[base]), base), flush=True)
+        for measure, ours in OURS.items():
+            print(f"{SAID[measure]}:", flush=True)
+            commands = {f"{peer[0]}, {kind}": command(peer, kind, measure, 20000) for peer in others for kind in KINDS}
+            commands |= {name: [program, name, "20000"] for name, program in ours}
+            times = in_turn(commands)
+            base = times.get("std, inline", times[next(iter(times))])
+            for name, found in times.items():
+                print("  %-28s %6d %6d  %5.2f times std's, inline" % (name, found[0], found[8], found[8] / base[8]), flush=True)
 
 
 def show_instructions() -> None:

@@ -110,8 +110,12 @@ def logs_of(seed: int) -> list[bytes]:
     return [written(log).encode(), *copies, *(parted(draw, front) for front in fronts)]
 
 
-def compare(doc: str, name: str, count: int, logs_of: Callable[[int], list[bytes]], verdict: Callable[[bytes], str]) -> int:
-    """Has a program and the judge of this name say what is to be said of the logs of so many seeds, by the arguments that `doc` tells of."""
+def compare(
+    doc: str, name: str, count: int, logs_of: Callable[[int], list[bytes]], verdict: Callable[[bytes], str],
+    also: Callable[[pathlib.Path, int], list[str]] = lambda program, seed: [],
+) -> int:
+    """Has a program and the judge of this name say what is to be said of the logs of so many seeds, by the arguments that `doc` tells of; `also` gives what
+    else is wrong with a program by a seed."""
     parser = asked.parser(doc)
     parser.add_argument("program")
     parser.add_argument("count", type=int, nargs="?", default=count)
@@ -141,6 +145,9 @@ def compare(doc: str, name: str, count: int, logs_of: Callable[[int], list[bytes
             if (done.stdout.decode(), done.returncode) != (wanted + "\n", 0 if wanted == "allowed" else 2):
                 print(f"{seed}.{number}: the program says {done.stdout.decode()!r}, status {done.returncode}; {name} {wanted!r}")
                 wrong += 1
+        for fault in also(program, seed) if program else []:
+            print(f"{seed}: {fault}")
+            wrong += 1
     print(", ".join(f"{times} {what}" for what, times in sorted(said.items())) + f"; {wrong} differ")
     return 1 if wrong else 0
 

@@ -2,9 +2,10 @@
 
     python3 tools/judge_events.py < LOG                          prints `allowed`, or the first line that isn't, with a text that is allowed in its place, and,
                                                                  of an act, each act that its node could take there
-    python3 tools/judge_events.py --run SCRIPT --seed N > LOG    runs a script in which each node takes any of its possible acts, as the seed draws
+    python3 tools/judge_events.py --run SCRIPT --seed N > LOG    runs a script in which each node takes any of its possible acts, as the seed draws, or the
+                                                                 act that a command of the script names
 
-What a log is tells docs/JUDGE.md, "Events". Nothing of it is proved.
+What a log is tells docs/JUDGE.md, "Events", and how a run is drawn its part "Drawing an order of acts". Nothing of it is proved.
 """
 import json
 import pathlib
@@ -279,11 +280,14 @@ class Draw:
         return among[(self.state >> 32) % len(among)]
 
 
+class NotPossible(Exception):
+    """A command asks for an act that its node can't take there: the lines that tell which it could take."""
+
+
 def drawn_act(world: World, number: int, draw: Draw) -> str:
-    """Takes some possible act of a node, but a rest of a router that rests already."""
-    routers = world.nodes[number].routers
-    act = draw.choice([act for act in world.possible(number) if act[0] != "rest" or routers[act[1]].flagged])
-    event = world.take(number, act)
+    """Takes some possible act of a node: a rest only if nothing else is possible."""
+    possible = world.possible(number)
+    event = world.take(number, draw.choice([act for act in possible if act[0] != "rest"] or possible))
     assert event is not None
     return event
 
@@ -307,39 +311,96 @@ def drawn_settle(world: World, most: int, draw: Draw) -> Iterator[dict[str, Any]
         yield {"node": number, "event": drawn_act(world, number, draw)}
 
 
-def log_of(script: dict[str, Any], seed: int) -> list[dict[str, Any]]:
-    """The log of a run of a script in which the seed draws which node acts next in a settle, and which of its possible acts a node takes."""
+def asked_act(world: World, number: int, words: str) -> dict[str, Any]:
+    """The act of a node that an event with these words begins with."""
+    act = named(words)
+    event = world.take(number, act) if act else None
+    if event is None:
+        raise NotPossible([f"possible: {beginning(act)}" for act in world.possible(number)])
+    return {"node": number, "event": event}
+
+
+def called(run: Run, command: list[Any]) -> dict[str, Any]:
+    """A call with its answer; a put has a list of portals, whether it has some or not."""
+    call = [*command, []] if command[0] == "put" and len(command) == 3 else command
+    return {"call": call, "answer": run.do(command)[0]}
+
+
+def lines_of_run(script: dict[str, Any], seed: int) -> Iterator[dict[str, Any]]:
+    """The lines of the log of a run, one after the other; NotPossible where the run ends at a command that asks for an act."""
     draw = Draw(seed)
     run = Run(script["nodes"], script["words"])
-    log: list[dict[str, Any]] = [{"nodes": script["nodes"], "words": script["words"], "seed": seed}]
-    for command in script["commands"]:
+    yield {"nodes": script["nodes"], "words": script["words"], "seed": seed}
+    for number, command in enumerate(script["commands"], 1):
         match command:
             case ["turn", node, most]:
-                log += drawn_turns(run.world, node, most, draw)
+                yield from drawn_turns(run.world, node, most, draw)
             case ["settle", most]:
-                log += drawn_settle(run.world, most, draw)
+                yield from drawn_settle(run.world, most, draw)
+            case ["act", node, words]:
+                try:
+                    yield asked_act(run.world, node, words)
+                except NotPossible as why:
+                    raise NotPossible([f"command {number}: not possible", *why.args[0]]) from why
             case _:
-                log.append({"call": command, "answer": run.do(command)[0]})
-    return log
+                yield called(run, command)
+
+
+def log_of(script: dict[str, Any], seed: int) -> list[dict[str, Any]]:
+    """The log of a run of a script in which the seed draws which node acts next in a settle, and which of its possible acts a node takes."""
+    return list(lines_of_run(script, seed))
 
 
 def written(log: list[dict[str, Any]]) -> str:
-    return "".join(json.dumps(line) + "\n" for line in log)
+    return "".join(json.dumps(line, ensure_ascii=False, separators=(",", ":"), sort_keys=True) + "\n" for line in log)
+
+
+def first_fault(script: Any) -> int | None:
+    """As of a script (tools/model.py), which may have commands that ask for acts."""
+    if type(script) is not dict or type(commands := script.get("commands")) is not list:
+        return model.first_fault(script)
+    nodes = script.get("nodes")
+    without = [["show"] if is_act(command, nodes) else command for command in commands]
+    return model.first_fault(script | {"commands": without})
+
+
+def is_act(command: Any, nodes: Any) -> bool:
+    match command:
+        case ["act", node, str()]:
+            return type(nodes) is int and model.is_number(node, 0, nodes - 1)
+    return False
+
+
+def output(script: bytes, seed: int) -> tuple[str, int]:
+    """What is written for the bytes of a script that is run by a seed, and the status."""
+    if len(script) > model.MOST_BYTES:
+        return "refused TooLong\n", 2
+    try:
+        value = model.read_json(script.decode())
+    except ValueError:
+        return "refused NotJson\n", 2
+    if (fault := first_fault(value)) is not None:
+        return f"refused BadShape {fault}\n", 2
+    log: list[dict[str, Any]] = []
+    try:
+        for line in lines_of_run(value, seed):
+            log.append(line)
+    except NotPossible as why:
+        return written(log) + "".join(f"{line}\n" for line in why.args[0]), 2
+    return written(log), 0
 
 
 def main() -> int:
     parser = asked.parser(__doc__)
-    parser.add_argument("--run", type=pathlib.Path, metavar="SCRIPT", help="a script whose run is drawn")
+    parser.add_argument("--run", type=pathlib.Path, metavar="SCRIPT", help="a script that is run")
     parser.add_argument("--seed", type=int, default=0, help="what draws the order of acts, a number below 2^64 (0)")
     given = parser.parse_args()
     if not 0 <= given.seed < 2**64:
         parser.error(f"the seed {given.seed} isn't from 0 to 2^64 - 1")
     if given.run:
-        value = model.read_json(given.run.read_text())
-        if model.first_fault(value) is not None:
-            sys.exit(f"{given.run} is no script")
-        print(written(log_of(value, given.seed)), end="")
-        return 0
+        text, status = output(given.run.read_bytes(), given.seed)
+        print(text, end="")
+        return status
     said = verdict(sys.stdin.read())
     print(said)
     return 0 if said == "allowed" else 2

@@ -141,7 +141,7 @@ def rattle_callers(below: str) -> Iterator[pathlib.Path]:
 
 def is_refusable(head: str) -> bool:
     result = head.partition("->")[2].split("\n")[0]
-    return "Refusal" in result or "Refused" in result or "Reply" in result
+    return any(word in result for word in ("Refusal", "Refused", "Reply", "Missed"))
 
 
 def when_refused(key: str) -> list[str]:

@@ -3,7 +3,9 @@
     python3 tools/refuse_growth.py PROGRAM < SCRIPT       a line of how the runs ended
     python3 tools/refuse_growth.py PROGRAM FILE.rt ..     each script of a table of cases; prints only what is wrong
     python3 tools/refuse_growth.py PROGRAM FILE.json ..   the same of one script, of which a bypass or a retiring sink must grow
+    python3 tools/refuse_growth.py JUDGE FILE ..          the same of a judge's program, of which each file is a log that wants memory
     python3 tools/refuse_growth.py --threads PROGRAM ..   the same with the argument `threads`; of a table, the scripts that are marked for it
+    python3 tools/refuse_growth.py --drawn JUDGE FILE ..  the same of the judge of events, which runs each file as a script in a drawn order of acts
     python3 tools/refuse_growth.py --retries PROGRAM      of `ipcz_faults`, which makes each refused call again; prints only what is wrong
     python3 tools/refuse_growth.py --counts PROGRAM       the same, and how many growths each of its lines told of
 
@@ -121,24 +123,31 @@ def try_retries(program: list, library: str, count: str, tells_counts: bool) -> 
 
 
 def scripts_of(table: str, on_threads: bool) -> list[str]:
-    """The script of a file, or those of a table of cases."""
+    """The script or the log of a file, or the scripts of a table of cases."""
     text = pathlib.Path(table).read_text()
-    if table.endswith(".json"):
+    if not table.endswith(".rt"):
         return [text]
     cases = [case for case in text.split("Case {") if not on_threads or "on_threads: true" in case]
     return [script for case in cases for script in re.findall(r'script: r#"(.*?)"#', case, re.S)]
 
 
-def try_tables(program: list, tables: list[str], on_threads: bool, library: str, count: str) -> None:
+def end_wanted(table: str, drawn: bool) -> str | None:
+    """The end that some run of a script of this file must have."""
+    if table.endswith(".rt"):
+        return None
+    return "with an unlock" if table.endswith(".json") and not drawn else "nothing written, status 3"
+
+
+def try_tables(program: list, tables: list[str], given, library: str, count: str) -> None:
     """Runs each script of these files, and stops at a run that is wrong."""
     for table in tables:
-        scripts = scripts_of(table, on_threads)
+        scripts, wanted = scripts_of(table, given.threads), end_wanted(table, given.drawn)
         if not scripts:
             sys.exit(f"no script stands in {table}")
         for script in scripts:
             _, ends = ends_of(program, script.encode(), library, count)
-            if table.endswith(".json") and not ends["with an unlock"]:
-                sys.exit(f"no bypass and no sink of {table} grew where it had locked")
+            if wanted and not ends[wanted]:
+                sys.exit(f"no run of {table} ended so: {wanted}")
 
 
 def main() -> None:
@@ -147,17 +156,19 @@ def main() -> None:
     parser.add_argument("tables", nargs="*", metavar="FILE")
     kinds = parser.add_mutually_exclusive_group()
     kinds.add_argument("--threads", action="store_true", help="run with the argument `threads`")
+    kinds.add_argument("--drawn", action="store_true", help="run with the arguments `run --seed 7`")
     kinds.add_argument("--retries", action="store_true", help="the program makes each refused call again")
     kinds.add_argument("--counts", action="store_true", help="the same, and tell how many growths each line told of")
     given = parser.parse_args()
-    program = [given.program, *(["threads"] if given.threads else [])]
+    words = ["threads"] if given.threads else ["run", "--seed", "7"] if given.drawn else []
+    program = [given.program, *words]
     with tempfile.TemporaryDirectory() as room:
         library, count = f"{room}/refuse_growth.so", f"{room}/count"
         subprocess.run(["cc", "-O1", "-shared", "-fPIC", "-o", library, HERE / "data/refuse_growth.c", "-ldl"], check=True)
         if given.retries or given.counts:
             try_retries(program, library, count, given.counts)
         elif given.tables:
-            try_tables(program, given.tables, given.threads, library, count)
+            try_tables(program, given.tables, given, library, count)
         else:
             growths, ends = ends_of(program, sys.stdin.buffer.read(), library, count)
             print(f"{growths} growths: " + ", ".join(f"{n} {end}" for end, n in ends.items()))

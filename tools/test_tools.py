@@ -2,7 +2,7 @@
 link of a page, and each part of a page that a page or a comment names, is there; no page is too long to be read in one go; what a page shows as out of a file stands in
 it; and the scripts that a page shows print, by the model, what stands beneath them, and those of docs/TOUR.md what a turned model prints; docs/reference
 and docs/theorem.html are what the sources say, and docs/SIZES.md is so nearly; the table of what is
-taken as given counts docs/trusted.txt, and no crate has an axiom of its own.
+taken as given counts docs/trusted.txt, and no crate has an axiom of its own; and each source file begins with what it is about.
 
     python3 tools/test_tools.py    prints what is otherwise, and fails if there is something
 
@@ -233,12 +233,18 @@ def faults_of_quotes() -> list[str]:
     return faults
 
 
+def faults_of_sources() -> list[str]:
+    """A source file that doesn't begin with what it is about."""
+    files = [path for path in sorted((TOP / "crates").glob("*/src/**/*.rt")) if not path.read_text().startswith("//!")]
+    return [f"{path.relative_to(TOP)} doesn't begin with `//!` and what it is about" for path in files]
+
+
 def main() -> None:
     asked.parser(__doc__).parse_args()
     tools = sorted(path.stem for path in HERE.glob("*.py") if path.stem not in SHARED)
     faults = [fault for tool in tools for fault in faults_of(tool)]
     faults += faults_of_a_missing_program() + faults_of_ready() + faults_of_the_model() + faults_of_events()
-    faults += faults_of_readme() + faults_of_links() + faults_of_pages() + faults_of_quotes() + faults_of_cases()
+    faults += faults_of_readme() + faults_of_links() + faults_of_pages() + faults_of_quotes() + faults_of_cases() + faults_of_sources()
     faults += try_pages.faults(try_pages.by_model) + tour.faults() + make_reference.faults() + make_theorem.faults() + count_sizes.faults() + trusted.faults()
     if faults:
         sys.exit("\n".join(faults))

@@ -127,8 +127,9 @@ def log_of(seed: int) -> tuple[dict[str, Any], ...]:
 def changed_logs(judge: pathlib.Path, seed: int) -> list[Tried]:
     """A log, and copies of it, each changed in a way of its own."""
     log, other = log_of(seed), log_of(seed + 1)
-    text = judge_events.written(list(log)).encode()
-    tried = [judged(judge, AS_IT_IS, seed, text, mutations.ALWAYS)]
+    tried = [judged(judge, AS_IT_IS, seed, judge_events.written(list(log)).encode(), mutations.ALWAYS)]
+    # (the changed copies are written as tools/mutations.py writes lines)
+    text = mutations.text_of([json.dumps(entry) for entry in log]).encode()
     for kind in mutations.KINDS:
         case = mutations.Case(random.Random(f"{seed} {kind.name}"), list(log), list(other))
         made = kind.change(case)

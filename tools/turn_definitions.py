@@ -38,7 +38,7 @@ QUEUES = "ipcz_router/specs/Acts.antt"
 TABLE = "ipcz_router/specs/ActTable.antt"
 ROUTER, ROUTING = "ipcz_router/specs/Router.antt", "ipcz_router/src/router.rt"
 ANSWERS, ANSWERING = "ipcz_world/specs/WordAnswers.antt", "ipcz_world/src/word_answers.rt"
-UPDATES = "ipcz_world/specs/Acts.antt"
+UPDATES = "ipcz_world/proofs/facts/Updates.antt"
 HANDS = "ipcz_node/specs/Hands.antt"
 LEAVING, LEFT, NODE_ACTING = "ipcz_node/specs/Acts.antt", "ipcz_node/proofs/Leaving.antt", "ipcz_node/src/state/acts.rt"
 HEARING, HEARD = "ipcz_router/specs/Hearing.antt", "ipcz_router/src/router/hearing.rt"
@@ -260,8 +260,8 @@ TURNS = {
         (ACTED, "try_answer word_by_plan commit on_router", "try_answer tried_word commit on_router"),
         (
             ACTED,
-            "use Rattle.ipcz_word.specs.Word.{Plan,",
-            "use Rattle.ipcz_world.specs.WordAnswers.{tried_word}\nuse Rattle.ipcz_word.specs.Word.{Plan,",
+            "use Rattle.ipcz_world.specs.WordAnswers.{word_after, try_answer}",
+            "use Rattle.ipcz_world.specs.WordAnswers.{word_after, try_answer, tried_word}",
         ),
         (WORD_ACTS, "x = wait (word_at w i) r.end.side", "x = word_at w i"),
         (ROUTER_WAKERS, "(fail_lock r) i (wait (word_at w i) r.end.side)", "(fail_lock r) i (word_at w i)"),

@@ -101,6 +101,24 @@ static void data(ipcz_node *left, ipcz_node *right, ipcz_portal kept, ipcz_porta
     say(ipcz_node_set_data(left, kept, &two));
 }
 
+static void looks(ipcz_node *left, ipcz_node *right, ipcz_portal kept, ipcz_portal sent) {
+    ipcz_portal_status status;
+    bool arrived = false;
+    printf("\nlooks:");
+    say(ipcz_node_look(left, sent, &status));
+    say(ipcz_node_look(right, sent, &status));
+    tell("next", status.next);
+    tell("waiting", status.waiting);
+    tell("bytes", status.size);
+    tell("portals", status.count);
+    tell("closed", status.peer_closed);
+    say(ipcz_node_has_arrived(right, kept, &arrived));
+    say(ipcz_node_has_arrived(left, kept, &arrived));
+    tell("at home", arrived);
+    say(ipcz_node_has_arrived(right, sent, &arrived));
+    tell("moved", arrived);
+}
+
 static void portals(ipcz_node *left, ipcz_node *right) {
     ipcz_portal kept, sent;
     size_t which = 9;
@@ -112,6 +130,8 @@ static void portals(ipcz_node *left, ipcz_node *right) {
     printf("\nof two:");
     say(ipcz_node_recv_any(right, two, 2, &parcel, &which, 0));
     say(ipcz_node_send(left, kept, "moved", 5, NULL, 0));
+    looks(left, right, kept, sent);
+    printf("\nreceived at:");
     say(ipcz_node_recv_any(right, two, 2, &parcel, &which, -1));
     tell(text, which);
     say(ipcz_node_recv_any(right, two, 0, &parcel, NULL, -1));

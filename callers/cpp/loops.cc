@@ -49,6 +49,9 @@ static void portals(const Loop &loop) {
     other.first(0).recv(parcel);
     std::cout << "sent: " << bool(pair.second) << ", came: " << parcel.portals.size() << ", peer: ";
     moved.send("first");
+    const ipcz::Status status = parcel.portals[0].look();
+    std::cout << status.waiting << " of " << status.size << " (arrived " << parcel.portals[0].has_arrived() << ", gone: "
+              << refusal([&] { pair.second.look(); }) << ") ";
     std::size_t which = 9;
     Loop::Portal first = other.first(0);
     Loop::Portal came = std::move(parcel.portals[0]);

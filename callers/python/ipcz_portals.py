@@ -28,7 +28,7 @@ from types import TracebackType
 from typing import NamedTuple, Optional, Union
 
 __version__ = "0.2.0"
-__all__ = ["Loop", "Node", "Portal", "Parcel", "Status", "Refused", "PeerClosed", "Stopped", "MAX_BYTES", "MAX_NODES", "MAX_PORTALS"]
+__all__ = ["Loop", "Node", "Portal", "Parcel", "Look", "Status", "Refused", "PeerClosed", "Stopped", "MAX_BYTES", "MAX_NODES", "MAX_PORTALS"]
 
 MAX_BYTES = 65536
 MAX_NODES = 64
@@ -86,6 +86,12 @@ class _Parcel(ctypes.Structure):
     ]
 
 
+class _Status(ctypes.Structure):
+    _fields_ = [
+        ("next", ctypes.c_uint64), ("waiting", ctypes.c_uint64), ("size", ctypes.c_size_t), ("count", ctypes.c_size_t), ("peer_closed", ctypes.c_bool),
+    ]
+
+
 def _library() -> ctypes.CDLL:
     named, beside = os.environ.get("IPCZ_LIBRARY"), pathlib.Path(__file__).with_name("libipcz_loop.so")
     found = named or (str(beside) if beside.is_file() else ctypes.util.find_library("ipcz_loop"))
@@ -104,6 +110,8 @@ def _library() -> ctypes.CDLL:
         ("ipcz_node_open", ctypes.c_uint32, [at, ctypes.POINTER(_Name), ctypes.POINTER(_Name)]),
         ("ipcz_node_send", ctypes.c_uint32, [at, _Name, ctypes.c_char_p, size, ctypes.POINTER(_Name), size]),
         ("ipcz_node_recv_any", ctypes.c_uint32, [at, ctypes.POINTER(_Name), size, ctypes.POINTER(_Parcel), ctypes.POINTER(size), ctypes.c_int]),
+        ("ipcz_node_look", ctypes.c_uint32, [at, _Name, ctypes.POINTER(_Status)]),
+        ("ipcz_node_has_arrived", ctypes.c_uint32, [at, _Name, ctypes.POINTER(ctypes.c_bool)]),
         ("ipcz_node_close", ctypes.c_uint32, [at, _Name]),
         ("ipcz_node_fd", ctypes.c_int, [at]),
         ("ipcz_node_wait", ctypes.c_uint32, [at, ctypes.c_int]),
@@ -139,6 +147,17 @@ class Parcel(NamedTuple):
     number: int
     bytes: bytes
     portals: list[Portal]
+
+
+class Look(NamedTuple):
+    """What `try_recv` would give at a portal, one call after the other: the number of the next parcel, whether it has come or not; how many have come; how many
+    bytes and portals the next has, 0 if none waits; and whether the peer is closed behind them."""
+
+    next: int
+    waiting: int
+    size: int
+    portal_count: int
+    peer_closed: bool
 
 
 class _Handle:
@@ -317,6 +336,18 @@ class Portal:
             if parcel is not None:
                 return parcel
             await self._node._moved()
+
+    def look(self) -> Look:
+        """Tells what `try_recv` would give. Nothing is taken, and another thread may take it before this one does."""
+        status = _Status()
+        _check(_C.ipcz_node_look(self._node._at, self._own(), ctypes.byref(status)))
+        return Look(status.next, status.waiting, status.size, status.count, status.peer_closed)
+
+    def has_arrived(self) -> bool:
+        """Whether the portal has arrived, so that it leaves at most one router in its route if it travels on now."""
+        arrived = ctypes.c_bool()
+        _check(_C.ipcz_node_has_arrived(self._node._at, self._own(), ctypes.byref(arrived)))
+        return arrived.value
 
     def close(self) -> None:
         """Closes the portal. What was sent there still comes to the other one; what comes to it is discarded."""

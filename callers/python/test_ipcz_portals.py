@@ -62,6 +62,19 @@ class OnOneThread(unittest.TestCase):
         self.refused(Status.STRANGER, node.recv_any, [self.left])
         self.refused(Status.STRANGER, node.recv_any, [])
 
+    def test_looks(self) -> None:
+        kept, sent = self.loop.node(0).open()
+        self.assertEqual(self.right.look(), (0, 0, 0, 0, False))
+        self.left.send(b"carry", [sent])
+        kept.send(b"one")
+        self.assertEqual(self.right.look(), (0, 1, 5, 1, False))
+        came, = self.right.recv().portals
+        self.assertEqual(came.look(), (0, 1, 3, 0, False))
+        self.assertTrue(came.has_arrived())
+        kept.close()
+        self.assertEqual(came.look(), (0, 1, 3, 0, True))
+        self.refused(Status.NOT_CREATED, sent.look)
+
     def test_a_forgotten_portal_is_closed(self) -> None:
         kept, sent = self.loop.node(0).open()
         del sent

@@ -10,6 +10,7 @@ from __future__ import annotations
 
 import collections
 import json
+import signal
 import sys
 from collections.abc import Callable
 from typing import Any
@@ -219,5 +220,7 @@ def run(script: dict[str, Any]) -> list[dict[str, Any]]:
 
 
 if __name__ == "__main__":
+    # A judge stops reading at the first line that it refuses, and this ends then without a word.
+    signal.signal(signal.SIGPIPE, signal.SIG_DFL)
     for each in run(json.load(sys.stdin)):
         print(json.dumps(each))

@@ -231,6 +231,16 @@ func (n *Node) call(call func() error) error {
 	return err
 }
 
+// Looks at the node, and changes nothing.
+func (n *Node) lookAt(look func() error) error {
+	n.beginLook()
+	defer n.lock.Unlock()
+	if err := look(); err != portals.NotCreated {
+		return err
+	}
+	return portals.Stopped
+}
+
 func (n *Node) endCall() {
 	n.calls++
 	retries := n.calls%retryAfter == 1

@@ -54,6 +54,31 @@ func TestLimits(t *testing.T) {
 	refused(t, left.Send(make([]byte, 65537)), portals.TooMany)
 }
 
+func TestLooks(t *testing.T) {
+	loop, left, right := two(t)
+	kept, sent, err := loop.Node(0).Open()
+	must(t, err)
+	must(t, left.Send([]byte("carry"), sent))
+	must(t, kept.Send([]byte("one")))
+	seen, err := right.Look()
+	must(t, err)
+	if seen != (portals.Look{Waiting: 1, Size: 5, Count: 1}) {
+		t.Fatalf("a look tells %v", seen)
+	}
+	came, err := right.TryRecv()
+	must(t, err)
+	arrived, err := came.Portals[0].HasArrived()
+	must(t, err)
+	must(t, kept.Close())
+	seen, err = came.Portals[0].Look()
+	must(t, err)
+	if !arrived || seen != (portals.Look{Waiting: 1, Size: 3, PeerClosed: true}) {
+		t.Fatalf("%v, and a look tells %v", arrived, seen)
+	}
+	_, err = sent.Look()
+	refused(t, err, portals.Stranger)
+}
+
 func TestBytes(t *testing.T) {
 	_, left, right := two(t)
 	_, err := right.TryRecv()

@@ -46,6 +46,24 @@ func (p *Portal) TryRecv() (Parcel, error) {
 	return p.node.received(p.node.receive(nil, []portals.Portal{p.name}))
 }
 
+// Look tells what TryRecv would give, one call after the other. Nothing is taken, and another goroutine may take it before this one does. Stranger, Stopped.
+func (p *Portal) Look() (seen portals.Look, err error) {
+	err = p.node.lookAt(func() error {
+		seen, err = p.node.cell.Look(p.name)
+		return err
+	})
+	return seen, err
+}
+
+// HasArrived tells whether the portal has arrived, so that it leaves at most one router in its route if it travels on now. Stranger, Stopped.
+func (p *Portal) HasArrived() (arrived bool, err error) {
+	err = p.node.lookAt(func() error {
+		arrived, err = p.node.cell.HasArrived(p.name)
+		return err
+	})
+	return arrived, err
+}
+
 // Parcels gives the parcels that come, until a Recv is refused or the context is done; then the channel is closed. A parcel that nobody took from the channel when
 // the context is done is lost, and its portals are closed.
 func (p *Portal) Parcels(ctx context.Context) <-chan Parcel {

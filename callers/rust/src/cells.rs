@@ -147,7 +147,8 @@ impl Cell {
     /// can send its next. Only at these nodes can a turn have become possible. Of acts that end at a refusal it tells what those before have touched.
     pub fn acts_touching(&mut self, limit: u64, touched: &mut u64) -> Result<u64, Refused> {
         let (mut acts, mut nodes) = (0, 0);
-        let status = unsafe { raw::ipcz_cell_acts_touching(&mut self.0, limit, &mut acts, &mut nodes) };
+        let status =
+            unsafe { raw::ipcz_cell_acts_touching(&mut self.0, limit, &mut acts, &mut nodes) };
         *touched |= nodes;
         answer(status)?;
         Ok(acts)

@@ -14,6 +14,7 @@ pub mod nodes;
 mod raw;
 #[forbid(unsafe_code)]
 mod table;
+pub mod typed;
 
 use std::fmt;
 

@@ -18,7 +18,7 @@
 //!
 //! The archive below is proved; this module isn't. It is safe Rust, and tested.
 use crate::table::{after, Answer, Table, Until};
-use crate::{first_portal, Portal as Name, Refused};
+use crate::{first_portal, Portal as Name, Refused, Status};
 use std::fmt;
 use std::future::Future;
 use std::pin::Pin;
@@ -234,6 +234,18 @@ impl Portal {
     /// The same without sleeping: `Empty` if nothing has come.
     pub fn try_recv(&self) -> Result<Parcel, Refused> {
         self.recv_until(Until::Now)
+    }
+
+    /// Tells what [`Portal::try_recv`] would give, one call after the other. Nothing is taken, and another thread may take it before this one does. `Stranger`.
+    pub fn look(&self) -> Result<Status, Refused> {
+        let table = &self.node.table;
+        table.look_at(self.node.number, |cell| cell.look(self.name))
+    }
+
+    /// Whether the portal has arrived, so that it leaves at most one router in its route if it travels on now. `Stranger`.
+    pub fn has_arrived(&self) -> Result<bool, Refused> {
+        let table = &self.node.table;
+        table.look_at(self.node.number, |cell| cell.has_arrived(self.name))
     }
 
     /// The same for a task, which is woken when the node has moved. It may be dropped at any time, and no parcel is lost.

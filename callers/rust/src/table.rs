@@ -175,6 +175,14 @@ impl Table {
         answer
     }
 
+    /// Looks at a node, and changes nothing.
+    pub fn look_at<T>(&self, node: u8, look: impl FnOnce(&mut Cell) -> T) -> T {
+        let mut state = self.begin_look(node);
+        let told = look(&mut state.cell);
+        release(state);
+        told
+    }
+
     fn end_call(&self, node: u8, mut state: MutexGuard<'_, State>) {
         let retries = state.retries();
         let mut touched = 0;

@@ -100,7 +100,10 @@ fn calls_of_a_cell_are_refused() -> Result<(), Refused> {
     assert_eq!((cell.word(0), cell.word(1)), (Some(3), None));
     assert_eq!(cell.ready(), []);
     let status = cell.look(left())?;
-    assert_eq!((status.next, status.waiting, status.peer_closed), (0, 0, false));
+    assert_eq!(
+        (status.next, status.waiting, status.peer_closed),
+        (0, 0, false)
+    );
     assert_eq!(cell.has_arrived(left()), Ok(true));
     cell.close(left())?;
     assert_eq!(cell.look(left()), Err(Refused::Stranger));

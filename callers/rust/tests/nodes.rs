@@ -1,5 +1,5 @@
 use ipcz_portals::nodes::{Loop, Node, Parcel, Portal};
-use ipcz_portals::Refused;
+use ipcz_portals::{Refused, Status};
 use std::future::Future;
 use std::sync::Arc;
 use std::task::{Context, Poll, Wake};
@@ -38,6 +38,28 @@ fn parcels_have_any_bytes() -> Result<(), Refused> {
     assert_eq!(right.recv()?.bytes, b"");
     let parcel = right.recv()?;
     assert_eq!((parcel.number, parcel.bytes), (1, wide));
+    Ok(())
+}
+
+#[test]
+fn a_look_takes_nothing() -> Result<(), Refused> {
+    let (nodes, left, right) = pair()?;
+    let (kept, sent) = nodes.node(0).open()?;
+    assert_eq!(right.look()?, Status::default());
+    left.send_with(b"carry", [sent])?;
+    kept.send(b"one")?;
+    let seen = right.look()?;
+    assert_eq!(
+        (seen.next, seen.waiting, seen.size, seen.count),
+        (0, 1, 5, 1)
+    );
+    let Parcel { portals, .. } = right.recv()?;
+    let seen = portals[0].look()?;
+    assert_eq!((seen.next, seen.waiting, seen.peer_closed), (0, 1, false));
+    assert!(portals[0].has_arrived()? && kept.has_arrived()?);
+    drop(kept);
+    assert!(portals[0].look()?.peer_closed);
+    assert_eq!(portals[0].recv()?.bytes, b"one");
     Ok(())
 }
 

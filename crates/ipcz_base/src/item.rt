@@ -1,3 +1,4 @@
+//! Items: what routers queue and send to each other.
 ghost use Rattle.std.specs.Prelude.{◌≡◌};
 ghost use Rattle.ipcz_base.specs.Items.{is_mark, is_gone_item, sizes_in};
 

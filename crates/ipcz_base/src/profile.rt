@@ -1,3 +1,5 @@
+//! What the bytes of a parcel may be.
+
 /// Which bytes a put takes (docs/PROTOCOL.md, "Parcels and items").
 #[derive(Clone, Copy, Debug, PartialEq, Eq)]
 pub enum Profile {

@@ -1,3 +1,4 @@
+//! What a look at a portal tells.
 use crate::parcel::Sizes;
 
 /// What a look at a portal tells: what gets at it would answer, one after the other.

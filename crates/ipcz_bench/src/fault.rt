@@ -1,3 +1,4 @@
+//! How a measurement fails.
 use ipcz_base::Refusal;
 use std::alloc::{AllocError, AllocFailed};
 use std::io;

@@ -1,3 +1,4 @@
+//! How reading and writing as a whole fail.
 use std::alloc::{AllocError, AllocFailed};
 
 /// Why reading or writing as a whole was given up (docs/PROTOCOL.md, "Devices").

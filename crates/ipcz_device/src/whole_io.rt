@@ -1,3 +1,4 @@
+//! Reading all of an input, and writing all of an output.
 ghost use Rattle.std.specs.Prelude.{◌≡◌, ◌<◌, ◌≤◌, length, take, false, is_err, OnOk, IfOk, IfErr, IfSome, if◌then◌else◌};
 ghost use Rattle.std.specs.Io.KnownBytes.{Appends, Consumes, IsAtEnd};
 ghost use Rattle.ipcz_device.specs.declared.fault.Fault.TheVariants as fault;

@@ -1,3 +1,4 @@
+//! A place for a link end that takes half the room of an `Option`.
 ghost use Rattle.std.specs.Prelude.{◌≡◌};
 
 use ipcz_base::{LinkEnd, LinkId, Side};

@@ -103,7 +103,7 @@ act_one w n a b name one two = absurd (omega (arith, ap letter name))
 -- ---- the act that is found
 
 -- what could be taken is possible
-can_be : (w : World) (n : ℕ) (act : Act) (event : Happened) (v : World) → IsActed w n act event v → can_act w n act ≡ true
+pub can_be : (w : World) (n : ℕ) (act : Act) (event : Happened) (v : World) → IsActed w n act event v → can_act w n act ≡ true
 can_be w n act event v is = possible is.node is.possible
   where
     possible : n < w.count → can_take w n act ≡ true → can_act w n act ≡ true

@@ -1,7 +1,12 @@
+pub mod Drawing
 pub mod Hearing
 pub mod Judging
 pub mod Naming
 pub mod Outputs
 pub mod Reading
 pub mod Rules
+pub mod RunOutputs
+pub mod Runs
+pub mod Schedules
 pub mod Verdicts
+pub mod Written

@@ -64,7 +64,7 @@ status (Err faults.OutOfMemory) = 3
 
 -- the line that unknown arguments print
 abbrev pub usage : List ℕ
-usage = line (codes "usage: ipcz_judge_events [--help] < LOG")
+usage = line (codes "usage: ipcz_judge_events [--help] < LOG, or ipcz_judge_events run [--seed N] < SCRIPT")
 
 -- what the program is for
 abbrev pub help : List ℕ
@@ -72,6 +72,8 @@ help = usage ++ line [] ++ line (codes "Reads a log of the calls and events of a
     ++ line (codes "status 0 if they do, and else with status 2 and the first line that they don't allow, or that is none of a log.")
     ++ line (codes "Of one that they don't allow a second line tells a text that is allowed in its place, if one is known; and of an act")
     ++ line (codes "further lines tell each act that its node could take there.")
+    ++ line [] ++ line (codes "With run it reads a script, runs it in an order of acts that the seed N draws (0 if none is given), and writes a log of its calls and events: ends with")
+    ++ line (codes "status 0, or with status 2 if it is no script or asks for an act that isn't possible.")
 
 -- a text was written, with this status, or after a failed write some front of it, with the status 1
 abbrev pub Writes : List ℕ → ℕ → Option (List ℕ) → Option (List ℕ) → Bool → ℕ → Type 0

@@ -1,3 +1,4 @@
+//! The lines of a log with events.
 use ipcz_script::{Command, Text};
 
 /// One line of a log with events (docs/JUDGE.md, "Events").

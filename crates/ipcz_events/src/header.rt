@@ -1,3 +1,4 @@
+//! The first line of a log with events.
 ghost use Rattle.std.specs.Prelude.{◌≡◌, IfSome};
 ghost use Rattle.serde_json.specs.View.{view};
 ghost use Rattle.ipcz_script.specs.ScriptLimits.{HasScriptLimits};

@@ -1,3 +1,4 @@
+//! What is said of a line of a text.
 use ipcz_base::{Bytes, Sequence};
 use ipcz_node::Act;
 

@@ -1,3 +1,4 @@
+//! What is said of a line of a log.
 use ipcz_base::Bytes;
 
 /// What is said of the next line of a log with events.

@@ -53,7 +53,7 @@ fn compared(printed: Vec<u8>, text: &str) -> Judged
 }
 
 // The text of an event.
-fn printed(alloc: Global, event: &Happened) -> Result<Vec<u8>, AllocError>
+pub(crate) fn printed(alloc: Global, event: &Happened) -> Result<Vec<u8>, AllocError>
     ensures { IfOk result (λ text. text.items ≡ event_text event.now) }
 {
     let mut text = Vec::new(alloc);
@@ -71,7 +71,7 @@ fn without_last(text: &[u8]) -> &[u8]
 }
 
 // The line that a call's answer prints, without its line feed.
-fn answered(
+pub(crate) fn answered(
     alloc: Global,
     titles: &Titles,
     command: &Command,
@@ -89,6 +89,7 @@ fn answered(
 fn act_of(session: &Session, node: u8, name: Named) -> Option<Act>
     requires bits { NameHasBits name }
     ensures some { IfSome result (λ act. ActHasBits act) }
+    ensures named { IfSome result (λ act. name_of act ≡ name) }
     ensures only { (act : Act) → name_of act ≡ name → can_act session.now.world node act ≡ true → result ≡ Some act }
 {
     match name {
@@ -122,8 +123,9 @@ fn judge_call(
 }
 
 // The only act of a node that the text of an event can begin with, if some can.
-fn act_begun(session: &Session, node: u8, text: &str) -> Option<Act>
+pub(crate) fn act_begun(session: &Session, node: u8, text: &str) -> Option<Act>
     ensures some { IfSome result (λ act. ActHasBits act) }
+    ensures named { IfSome result (λ act. BeginsWith text.now act) }
     ensures only { (act : Act) → ActHasBits act → BeginsWith text.now act → can_act session.now.world node act ≡ true → result ≡ Some act }
 {
     match named_in(text.as_bytes()) {

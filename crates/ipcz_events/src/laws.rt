@@ -2,6 +2,8 @@
 
 ghost use Rattle.ipcz_events.specs.Judging.{ToldWordsName};
 ghost use Rattle.ipcz_events.specs.Rules.{AllowedAreRuns, EventsTellActs};
+ghost use Rattle.ipcz_events.specs.RunOutputs.{RunsAreJudged};
+ghost use Rattle.ipcz_events.specs.Runs.{RunsAreAllowed};
 
 /// A log that is allowed is a run of the relation of steps from the new world, in which each turn takes some possible act; so the theorem holds
 /// of it.
@@ -19,4 +21,14 @@ pub fn events_tell_acts()
 /// by it.
 pub fn told_words_name_acts()
     ensures { ToldWordsName }
+{}
+
+/// The log of a run whose order of acts a seed draws, or that asks for acts, is allowed.
+pub fn logs_of_runs_are_allowed()
+    ensures { RunsAreAllowed }
+{}
+
+/// What is written of a run that ends with its script is a log that is judged to be allowed, if the texts of its lines are UTF-8.
+pub fn what_is_written_is_judged_allowed()
+    ensures { RunsAreJudged }
 {}

@@ -1,13 +1,19 @@
 //! The program `ipcz_judge_events`, but for its arguments and devices.
 
-ghost use Rattle.std.specs.Prelude.{◌≡◌, ◌↔◌, ◌++◌, false, Ok, OnErr, OnOk, IsErrOf, IfOk, IsTrue, codes};
+ghost use Rattle.std.specs.Prelude.{◌≡◌, ◌↔◌, ◌++◌, ℕ, false, Ok, OnErr, OnOk, IsErrOf, IfOk, IsTrue, codes};
+ghost use Rattle.ipcz_script.specs.Transcript.{ReadsAndWritesBy};
 ghost use Rattle.ipcz_events.specs.Outputs.{acts_text, help, Judges, IsText, line, place_text, ReadsAndWrites, status, usage, verdict_text, Writes};
+ghost use Rattle.ipcz_events.specs.RunOutputs.{IsRunOutput, RunsScript, run_status};
 
+use crate::ending::Ending;
 use crate::log_text::judge_log;
+use crate::ran::Ran;
+use crate::run_text::run_output;
 use crate::telling::push_act;
 use crate::verdict::Verdict;
 use ipcz_base::Bytes;
 use ipcz_device::{Device, read_up_to, write_whole};
+use ipcz_lines::number;
 use ipcz_node::Act;
 use ipcz_script::RunFault;
 use std::alloc::{AllocError, Global};
@@ -17,16 +23,21 @@ use std::io::{self, ErrorKind, Read, Write};
 
 const MOST_READ: usize = 1_073_741_825;
 
-const USAGE: &[u8] = b"usage: ipcz_judge_events [--help] < LOG\n";
+const MOST_OF_A_SCRIPT: usize = 1_048_577;
+
+const USAGE: &[u8] =
+    b"usage: ipcz_judge_events [--help] < LOG, or ipcz_judge_events run [--seed N] < SCRIPT\n";
 
 const HELP: &[u8] =
-    b"usage: ipcz_judge_events [--help] < LOG\n\nReads a log of the calls and events of another implementation, a JSON value a line, and says whether the rules allow it: ends with\nstatus 0 if they do, and else with status 2 and the first line that they don't allow, or that is none of a log.\nOf one that they don't allow a second line tells a text that is allowed in its place, if one is known; and of an act\nfurther lines tell each act that its node could take there.\n";
+    b"usage: ipcz_judge_events [--help] < LOG, or ipcz_judge_events run [--seed N] < SCRIPT\n\nReads a log of the calls and events of another implementation, a JSON value a line, and says whether the rules allow it: ends with\nstatus 0 if they do, and else with status 2 and the first line that they don't allow, or that is none of a log.\nOf one that they don't allow a second line tells a text that is allowed in its place, if one is known; and of an act\nfurther lines tell each act that its node could take there.\n\nWith run it reads a script, runs it in an order of acts that the seed N draws (0 if none is given), and writes a log of its calls and events: ends with\nstatus 0, or with status 2 if it is no script or asks for an act that isn't possible.\n";
 
 /// What the arguments of the program ask for.
 #[derive(Clone, Copy, Debug, PartialEq, Eq)]
 pub enum Asked {
     /// There is none: a log is judged.
     Log,
+    /// There is the one word `run`, or `run --seed N`: a script is run in an order of acts that this seed draws, 0 if none is given.
+    Run(u64),
     /// There is the one word `--help` or `-h`: what the program does.
     Help,
     /// There are others: how the program is called.
@@ -43,14 +54,30 @@ pub fn asked_for(rt: &(impl Env + Alloc)) -> Result<Asked, AllocError> {
         Err(_) => return Ok(Asked::Usage),
     };
     let _name = arguments.next();
-    let Some(word) = arguments.next() else {
-        return Ok(Asked::Log);
-    };
-    let is_help = word.as_str() == "--help" || word.as_str() == "-h";
-    if is_help && arguments.next().is_none() {
-        Ok(Asked::Help)
-    } else {
-        Ok(Asked::Usage)
+    let first = arguments.next();
+    let second = arguments.next();
+    let third = arguments.next();
+    if arguments.next().is_some() {
+        return Ok(Asked::Usage);
+    }
+    Ok(asked_by(
+        first.as_ref().map(|word| word.as_bytes()),
+        second.as_ref().map(|word| word.as_bytes()),
+        third.as_ref().map(|word| word.as_bytes()),
+    ))
+}
+
+// What the first three words ask for, if there are no more.
+fn asked_by(first: Option<&[u8]>, second: Option<&[u8]>, third: Option<&[u8]>) -> Asked {
+    match (first, second, third) {
+        (None, _, _) => Asked::Log,
+        (Some(b"--help" | b"-h"), None, _) => Asked::Help,
+        (Some(b"run"), None, _) => Asked::Run(0),
+        (Some(b"run"), Some(b"--seed"), Some(digits)) => match number(digits) {
+            Some(seed) => Asked::Run(seed),
+            None => Asked::Usage,
+        },
+        _ => Asked::Usage,
     }
 }
 
@@ -73,8 +100,8 @@ fn push_place(out: &mut Vec<u8>, told: &Option<Bytes>) -> io::Result<()>
     }
 }
 
-// Adds the lines that tell acts.
-fn push_acts(out: &mut Vec<u8>, acts: &[Act]) -> io::Result<()>
+/// Adds the lines that tell acts.
+pub(crate) fn push_acts(out: &mut Vec<u8>, acts: &[Act]) -> io::Result<()>
     ensures { OnOk result (out.new.items ≡ out.old.items ++ acts_text acts.now) }
 {
     for act in acts {
@@ -178,10 +205,67 @@ fn judge_to_status<R: Read, W: Write>(
     status_of(check(alloc, reader, writer))
 }
 
+/// Reads a script to its end, runs it in an order of acts that a seed draws, and writes the log of that, whole and in one go at its end
+/// (docs/JUDGE.md, "Drawing an order of acts").
+///
+/// At most 1,048,577 bytes are read. Bytes that are no script make one line that says why; behind the log of one with a command that asks for an
+/// act that its node can't take there, some lines tell which it is, and which acts the node could take. The faults are those of `check`.
+pub fn run_drawn<R: Read, W: Write>(
+    alloc: Global,
+    seed: u64,
+    reader: &mut Device<R>,
+    writer: &mut Device<W>,
+) -> Result<Ran, RunFault>
+    requires reader_works { reader.old.failed ≡ false }
+    requires writer_works { writer.old.failed ≡ false }
+    ensures run { ReadsAndWritesBy (IsRunOutput seed) (R.remaining reader.old.inner) (R.remaining reader.new.inner)
+        (W.contents writer.old.inner) (W.contents writer.new.inner) result }
+    ensures read { IsErrOf result RunFault.Read ↔ IsTrue reader.new.failed }
+    ensures write { IsErrOf result RunFault.Write ↔ IsTrue writer.new.failed }
+{
+    let input = read_up_to(alloc, reader, MOST_OF_A_SCRIPT)?;
+    let Ok((ran, text)) = run_output(alloc, &input, seed) else {
+        return Err(RunFault::OutOfMemory);
+    };
+    let Ok(()) = write_whole(writer, &text) else {
+        return Err(RunFault::Write);
+    };
+    Ok(ran)
+}
+
+// The status of a run: 0 each command was obeyed, 1 a read or write failed, 2 one couldn't be obeyed or there is no script, 3 want of memory.
+#[tactic(auto, unfolding(crate::specs::RunOutputs::run_status))]
+fn status_of_run(ending: Result<Ran, RunFault>) -> u8
+    ensures { result ≡ run_status ending }
+{
+    match ending {
+        Ok(Ran::Ended(Ending::Whole)) => 0,
+        Err(RunFault::Read | RunFault::Write) => 1,
+        Ok(Ran::Ended(Ending::Stopped { .. }) | Ran::Refused(_)) => 2,
+        Err(RunFault::OutOfMemory) => 3,
+    }
+}
+
+// Runs the script that the reader gives, and gives the status.
+fn run_to_status<R: Read, W: Write>(
+    alloc: Global,
+    seed: u64,
+    reader: &mut Device<R>,
+    writer: &mut Device<W>,
+) -> u8
+    requires reader_works { reader.old.failed ≡ false }
+    requires writer_works { writer.old.failed ≡ false }
+    ensures { RunsScript seed (R.remaining reader.old.inner) (R.remaining reader.new.inner)
+        (W.contents writer.old.inner) (W.contents writer.new.inner) reader.new.failed writer.new.failed result }
+{
+    status_of_run(run_drawn(alloc, seed, reader, writer))
+}
+
 /// The program but for its arguments and devices, which it is given: it judges the log that the reader gives, and answers the status
 /// (docs/JUDGE.md, "Statuses").
 ///
-/// `asked` is what `asked_for` answered. If the help is asked for, it is written, nothing is read, and the status is 0; if the
+/// `asked` is what `asked_for` answered. If a run is, the script that the reader gives is run as by `run_drawn`; the status is 0 if each command was
+/// obeyed, 1 if a read or a write failed, 2 if one couldn't be obeyed or the bytes are no script, and 3 if no memory was found. If the help is asked for, it is written, nothing is read, and the status is 0; if the
 /// usage is, its line is written, nothing is read, and the status is 2; and 1 if a write failed. If no memory was found to look at the
 /// arguments, nothing is read or written, and the status is 3. Else the status is 0 if the log is allowed, 1 if a read or a
 /// write failed, 2 if a line of it isn't allowed or is none, and 3 if no memory was found.
@@ -195,6 +279,8 @@ pub fn run_program<R: Read, W: Write>(
     requires writer_works { writer.old.failed ≡ false }
     ensures log { asked ≡ Ok Asked.Log → Judges (R.remaining reader.old.inner) (R.remaining reader.new.inner)
         (W.contents writer.old.inner) (W.contents writer.new.inner) reader.new.failed writer.new.failed result }
+    ensures drawn { (seed : ℕ) → asked ≡ Ok (Asked.Run seed) → RunsScript seed (R.remaining reader.old.inner) (R.remaining reader.new.inner)
+        (W.contents writer.old.inner) (W.contents writer.new.inner) reader.new.failed writer.new.failed result }
     ensures help { asked ≡ Ok Asked.Help →
         Writes help 0 (W.contents writer.old.inner) (W.contents writer.new.inner) writer.new.failed result }
     ensures usage { asked ≡ Ok Asked.Usage →
@@ -205,6 +291,7 @@ pub fn run_program<R: Read, W: Write>(
 {
     match asked {
         Ok(Asked::Log) => judge_to_status(alloc, reader, writer),
+        Ok(Asked::Run(seed)) => run_to_status(alloc, seed, reader, writer),
         Ok(Asked::Help) => write_text(writer, HELP, 0),
         Ok(Asked::Usage) => write_text(writer, USAGE, 2),
         Err(AllocError) => 3,

@@ -1,3 +1,4 @@
+//! What a judge says of a whole text.
 use ipcz_base::{Bytes, Sequence};
 use ipcz_node::Act;
 

@@ -29,7 +29,10 @@ fn get<F: FabricName, R: Wait + Clock>(
     hub: &Hub<F>,
     at: &Portal<F>,
 ) -> Result<Arrival<F>, Refusal> {
-    at.get_timeout(rt, hub, Duration::from_secs(10))
+    match at.get_timeout(rt, hub, Duration::from_secs(10)) {
+        Ok(arrival) => Ok(arrival),
+        Err(missed) => Err(missed.why()),
+    }
 }
 
 // Node 0: opens a pair, sends one portal away and a text after it, and gets the answer.

@@ -11,6 +11,7 @@ use Rattle.ipcz_rule.specs.declared.history.Call.{Call}
 use Rattle.ipcz_rule.specs.declared.history.Call.TheVariants as calls
 use Rattle.ipcz_rule.specs.declared.history.CallerView.{CallerView}
 use Rattle.ipcz_cell.specs.TableNames.{TableName}
+use Rattle.ipcz_fabric.specs.declared.missed.Missed.{Missed}
 use Rattle.ipcz_fabric.specs.Portals.{PortalValue, IsRefusedTake}
 use Rattle.ipcz_fabric.specs.Replays.{Extends, ExtendsInTurn}
 use Rattle.ipcz_fabric.specs.Selecting.{AreEmpty, IsFirst, LooksInVain, LooksOnce, LooksOnceInVain, LooksUntil, tries, vain_get, vain_looks}
@@ -65,7 +66,7 @@ looked_at t portals place p c d e within is so_far answer last Answered answered
 }
 
 -- a look that found all Empty
-pub looked_in_vain : {A E : Type 0} (place : E → Option ℕ) (why : E → Refusal) (t : TableName) (portals : List PortalValue) (Given : A → Type 0) (r : Result A E)
+pub looked_in_vain : {A E : Type 0} (place : E → Option ℕ) (why : E → Missed) (t : TableName) (portals : List PortalValue) (Given : A → Type 0) (r : Result A E)
     (empty : Bool) (c c' : CallerView) → MatchResult r (λ a. empty ≡ false) (λ e. MatchBool empty (place e ≡ None) (place e ≢ None)) → empty ≡ true →
     MatchResult r Given (λ e. LooksOnceInVain t portals (place e) (why e) c c') → ExtendsInTurn t (map vain_get portals) c c'
 looked_in_vain place why t portals Given (Ok a) empty c c' tells is looks = absurd (cc)
@@ -102,7 +103,7 @@ pub looks_before : (t : TableName) (portals : List PortalValue) (vain : ℕ) (c 
 looks_before t portals vain c d e look others = subst (λ (l : List (ℕ × Call)). ExtendsInTurn t l c e) (sym (looks_turned portals vain))
     (in_turn_both t (map vain_get portals) (vain_looks vain portals) c d e look others)
 
-pub looked_before : {A E : Type 0} (place : E → Option ℕ) (why : E → Refusal) (at : A → ℕ) (Answered : A → PortalValue → Result (ℕ × parcels.Parcel) Refusal → Type 0)
+pub looked_before : {A E : Type 0} (place : E → Option ℕ) (why : E → Missed) (at : A → ℕ) (Answered : A → PortalValue → Result (ℕ × parcels.Parcel) Refusal → Type 0)
     (t : TableName) (portals : List PortalValue) (c d e : CallerView) (r : Result A E) → ExtendsInTurn t (map vain_get portals) c d →
     MatchResult r (λ a. LooksUntil t portals (at a) (Answered a) d e) (λ x. LooksInVain t portals (place x) (why x) d e) →
     MatchResult r (λ a. LooksUntil t portals (at a) (Answered a) c e) (λ x. LooksInVain t portals (place x) (why x) c e)

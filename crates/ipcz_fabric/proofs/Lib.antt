@@ -3,9 +3,11 @@ pub mod Portaling
 pub mod Holding
 pub mod HubAnswers
 pub mod Locking
-pub mod Taking
+pub mod Stops
+mod Taking
 pub mod AskedInTurn
 pub mod Books
+pub mod Chairs
 pub mod Replaying
 pub mod Standing
 pub mod TurnsCounted

@@ -2,6 +2,8 @@ pub mod Places
 pub mod Portals
 pub mod Selecting
 pub mod Sorting
+pub mod Stopping
 pub mod Replays
 pub mod Hubs
+pub mod Waiting
 pub mod Workers

@@ -6,8 +6,12 @@ use Rattle.ipcz_base.specs.declared.refusal.Refusal.TheVariants.{Empty}
 use Rattle.ipcz_rule.specs.declared.history.Call.{Call}
 use Rattle.ipcz_rule.specs.declared.history.Call.TheVariants as calls
 use Rattle.ipcz_rule.specs.declared.history.CallerView.{CallerView}
+use Rattle.ipcz_rule.specs.Histories.{at_node}
 use Rattle.ipcz_cell.specs.TableNames.{TableName}
 use Rattle.ipcz_fabric.specs.Portals.{PortalValue, IsRefusedTake}
+use Rattle.ipcz_fabric.specs.declared.missed.Missed.{Missed}
+use Rattle.ipcz_fabric.specs.declared.missed.Missed.TheVariants.{Refused}
+use Rattle.ipcz_fabric.specs.Stopping.{IsMissed, TellsStop, refusal_of, stop_in}
 use Rattle.ipcz_fabric.specs.Replays.{ExtendsInTurn, IsParcelOf}
 
 -- a get at each of these portals is Empty
@@ -18,10 +22,10 @@ AreEmpty t portals = All (λ p. IsRefusedTake t p.node p.end Empty) portals
 abbrev pub IsFirst : TableName → List PortalValue → ℕ → (PortalValue → Type 0) → Type 0
 IsFirst t portals place Answers = (p : PortalValue) × (slice_get portals place ≡ Some p) × AreEmpty t (take place portals) × Answers p
 
--- why no parcel was got: the portal at a place refuses the get, and not because it is Empty; or all are
-abbrev pub IsNoneGot : TableName → List PortalValue → Option ℕ → Refusal → Type 0
-IsNoneGot t portals (Some place) why = IsFirst t portals place (λ p. IsRefusedTake t p.node p.end why × (why ≢ Empty))
-IsNoneGot t portals None why = (why ≡ Empty) × AreEmpty t portals
+-- why no parcel was got: the portal at a place refuses the get, and not because it is Empty, or its node is stopped; or all are Empty
+abbrev pub IsNoneGot : TableName → List PortalValue → Option ℕ → Missed → Type 0
+IsNoneGot t portals (Some place) why = IsFirst t portals place (λ p. IsMissed t p.node p.end why × (why ≢ Refused Empty))
+IsNoneGot t portals None why = (why ≡ Refused Empty) × AreEmpty t portals
 
 -- a get at a portal that was Empty, at its node
 abbrev pub vain_get : PortalValue → ℕ × Call
@@ -53,15 +57,16 @@ pub record LooksOnce (t : TableName) (portals : List PortalValue) (place : ℕ) 
   pub answered : Answered portal answer
   pub made : ExtendsInTurn t (map vain_get (take place portals) ++ (portal.node, calls.Taken portal.end answer) ∷ []) c c'
 
--- and it gave no parcel: the portal at a place refuses the get, or all were Empty
-abbrev pub LooksOnceInVain : TableName → List PortalValue → Option ℕ → Refusal → CallerView → CallerView → Type 0
-LooksOnceInVain t portals (Some place) why c c' = LooksOnce t portals place (λ p answer. answer ≡ Err why) c c'
+-- and it gave no parcel: the portal at a place refuses the get, or its node is stopped behind it; or all were Empty
+abbrev pub LooksOnceInVain : TableName → List PortalValue → Option ℕ → Missed → CallerView → CallerView → Type 0
+LooksOnceInVain t portals (Some place) why c c' =
+    LooksOnce t portals place (λ p answer. (answer ≡ Err (refusal_of why)) × TellsStop (stop_in (at_node p.node c'.seen)) why) c c'
 LooksOnceInVain t portals None why c c' = ExtendsInTurn t (map vain_get portals) c c'
 
 -- the caller's next calls were looks at these portals, each in vain but for the last, in which the get at the portal of a place was answered so
 abbrev pub LooksUntil : TableName → List PortalValue → ℕ → (PortalValue → Result (ℕ × parcels.Parcel) Refusal → Type 0) → CallerView → CallerView → Type 0
 LooksUntil t portals place Answered c c' = (vain : ℕ) × (d : CallerView) × ExtendsInTurn t (vain_looks vain portals) c d × LooksOnce t portals place Answered d c'
 
--- and they gave no parcel: in the last the portal at a place refuses the get, or all were Empty in the last, too
-abbrev pub LooksInVain : TableName → List PortalValue → Option ℕ → Refusal → CallerView → CallerView → Type 0
+-- and they gave no parcel: in the last the portal at a place refuses the get, or its node is stopped, or all were Empty in the last, too
+abbrev pub LooksInVain : TableName → List PortalValue → Option ℕ → Missed → CallerView → CallerView → Type 0
 LooksInVain t portals place why c c' = (vain : ℕ) × (d : CallerView) × ExtendsInTurn t (vain_looks vain portals) c d × LooksOnceInVain t portals place why d c'

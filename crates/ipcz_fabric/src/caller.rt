@@ -1,20 +1,24 @@
 //! Callers: each knows what its calls were answered, and the beginnings of the nodes' histories in which they stand.
-ghost use Rattle.std.specs.Prelude.{◌≡◌, ◌≢◌, ◌<◌, ◌≤◌, ℕ, None, Ok, Err, MatchBool, MatchResult, All, IfOk, IfErr, OnOk, length, vec_len};
+ghost use Rattle.std.specs.Prelude.{◌≡◌, ◌<◌, ◌≤◌, ℕ, None, Ok, Err, MatchResult, All, IfOk, IfErr, OnOk, length, vec_len};
 ghost use Rattle.ipcz_rule.specs.declared.history.Call.TheVariants as calls;
 ghost use Rattle.ipcz_fabric.specs.Places.{IsCellOf};
 ghost use Rattle.ipcz_fabric.specs.Hubs.{AreTurnAnswers, ArePair, ExtendsByOpen, ExtendsByRetry, ExtendsByTurn, IsAskingAnswer, IsOpenAnswer, IsOpenRefusal, IsRetryAnswer};
 ghost use Rattle.ipcz_fabric.specs.Hubs.{IsTurnAnswer, IsTurnRefusal, LeavesOpened};
 ghost use Rattle.ipcz_fabric.specs.Portals.{ends_of, parcel_refusal};
 ghost use Rattle.ipcz_fabric.specs.Portals.{IsPut, IsPutRefusal, IsRefusedPut, IsGot, IsGetRefusal, IsRefusedGet};
-ghost use Rattle.ipcz_fabric.specs.Portals.{IsTaken, IsTakeRefusal, IsRefusedTake, IsClosed, IsCloseRefusal, IsRefusedClose};
+ghost use Rattle.ipcz_fabric.specs.Portals.{IsTaken, IsClosed, IsCloseRefusal, IsRefusedClose};
 ghost use Rattle.ipcz_fabric.specs.Replays.{Extends, ExtendsInTurn, GetsParcel};
 ghost use Rattle.ipcz_fabric.specs.Selecting.{WaitsForParcel, tries};
+ghost use Rattle.ipcz_fabric.specs.Stopping.{IsMissed, IsMissing, TellsStop, answer_of, refusal_of, stop_in};
+ghost use Rattle.ipcz_rule.specs.Histories.{at_node};
 
 use crate::deadline::{Deadline, Patience};
 use crate::desk::Desk;
 use crate::hub::{Hub, turn_asking_here};
+use crate::missed::{Missed, is_empty, stop_of};
 use crate::portal::{Got, Portal, PortalPutRefused};
 use crate::portals::{Arrival, arrival_of};
+use crate::rest::{Rest, sleep_at};
 use ipcz_base::{Bytes, Parcel, Profile, Refusal};
 use ipcz_cell::{CallerSeat, Fabric, FabricName, Retry};
 use ipcz_node::Happened;
@@ -64,13 +68,10 @@ fn open_here<F: FabricName>(
     }
 }
 
-// Whether a get has found that nothing has come.
-fn is_empty(taken: &Result<(u64, Parcel), Refusal>) -> bool
-    ensures { MatchBool result (taken.now ≡ Err Refusal.Empty) (taken.now ≢ Err Refusal.Empty) }
-{
-    match taken {
-        Err(Refusal::Empty) => true,
-        _ => false,
+// Wakes all that sleep for a node whose turn was refused so that it is stopped: they are told.
+fn wake_if_stopped<A, F: FabricName>(hub: &Hub<F>, node: u8, answer: &Result<A, Refusal>) {
+    if stop_of(answer).is_some() {
+        hub.notify_all(node);
     }
 }
 
@@ -120,7 +121,9 @@ impl<F: FabricName> Caller<F> {
         ensures none { F.table.count ≤ node → self.new ≡ self.old }
     {
         if node < hub.nodes() {
-            return hub.lock(rt, node).turn(hub.fabric(), &mut self.seat);
+            let answer = hub.lock(rt, node).turn(hub, &mut self.seat);
+            wake_if_stopped(hub, node, &answer);
+            return answer;
         }
         Err(Refusal::Stranger)
     }
@@ -147,7 +150,9 @@ impl<F: FabricName> Caller<F> {
         if node >= hub.nodes() {
             return Err(Refusal::Stranger);
         }
-        hub.lock(rt, node).acts(hub.fabric(), &mut self.seat, limit)
+        let answer = hub.lock(rt, node).acts(hub, &mut self.seat, limit);
+        wake_if_stopped(hub, node, &answer);
+        answer
     }
 
     /// Lets a proxy of a node ask again for the slot of its bypass, as [`Hub::retry`].
@@ -184,7 +189,9 @@ impl<F: FabricName> Caller<F> {
         if node >= hub.nodes() {
             return (Err(Refusal::Stranger), false);
         }
-        turn_asking_here(&mut hub.lock(rt, node), hub.fabric(), &mut self.seat)
+        let (answer, asks_again) = turn_asking_here(&mut hub.lock(rt, node), hub, &mut self.seat);
+        wake_if_stopped(hub, node, &answer);
+        (answer, asks_again)
     }
 
     /// Puts a parcel of a profile at a portal, as [`Portal::put_as`].
@@ -300,40 +307,61 @@ impl<F: FabricName> Caller<F> {
         rt: &R,
         hub: &Hub<F>,
         portal: &Portal<F>,
-    ) -> Result<(u64, Parcel), Refusal>
+    ) -> Result<(u64, Parcel), Missed>
         ensures taken { IfOk result (IsTaken F.table portal.now.node portal.now.end) }
-        ensures refused { IfErr result (IsRefusedTake F.table portal.now.node portal.now.end) }
-        ensures extends { Extends F.table portal.now.node (calls.Taken portal.now.end result) self.old self.new }
+        ensures refused { IfErr result (IsMissed F.table portal.now.node portal.now.end) }
+        ensures extends { Extends F.table portal.now.node (calls.Taken portal.now.end (answer_of result)) self.old self.new }
+        ensures stop { IfErr result (TellsStop (stop_in (at_node portal.now.node self.new.seen))) }
     {
         let node = portal.place();
         hub.lock(rt, node)
             .take(hub.fabric(), &mut self.seat, portal.end())
     }
 
-    // Takes the next parcel, and sleeps while there is none, as long as there is patience. The bell is watched before each look that a sleep may
-    // follow, so that no parcel is missed between the two.
+    // Takes the next parcel, as `take`, behind a sleep, if there was one. If there is none and it may sleep, it tells where: a place is taken under the
+    // same hold of the lock, so that no parcel is missed between the two.
+    fn take_or_sit<R: Wait>(
+        &mut self,
+        rt: &R,
+        hub: &Hub<F>,
+        portal: &Portal<F>,
+        slept: Option<Rest>,
+        may_sleep: bool,
+    ) -> (Result<(u64, Parcel), Missed>, Option<Rest>)
+        ensures taken { IfOk result.0 (IsTaken F.table portal.now.node portal.now.end) }
+        ensures refused { IfErr result.0 (IsMissed F.table portal.now.node portal.now.end) }
+        ensures extends { Extends F.table portal.now.node (calls.Taken portal.now.end (answer_of result.0)) self.old self.new }
+        ensures stop { IfErr result.0 (TellsStop (stop_in (at_node portal.now.node self.new.seen))) }
+    {
+        let node = portal.place();
+        hub.lock(rt, node)
+            .take_or_sit(hub, &mut self.seat, portal.end(), slept, may_sleep)
+    }
+
+    // Takes the next parcel, and sleeps while there is none, as long as there is patience.
     fn take_patiently<R: Wait, P: Patience>(
         &mut self,
         rt: &R,
         hub: &Hub<F>,
         portal: &Portal<F>,
         patience: &P,
-    ) -> Result<(u64, Parcel), Refusal>
+    ) -> Result<(u64, Parcel), Missed>
         ensures taken { IfOk result (IsTaken F.table portal.now.node portal.now.end) }
-        ensures refused { IfErr result (IsRefusedTake F.table portal.now.node portal.now.end) }
-        ensures over { result ≡ Err Refusal.Empty → P.over }
-        ensures extends { (vain : ℕ) × ExtendsInTurn F.table (tries vain portal.now result) self.old self.new }
+        ensures refused { IfErr result (IsMissed F.table portal.now.node portal.now.end) }
+        ensures over { result ≡ Err (Missed.Refused Refusal.Empty) → P.over }
+        ensures extends { (vain : ℕ) × ExtendsInTurn F.table (tries vain portal.now (answer_of result)) self.old self.new }
+        ensures stop { IfErr result (TellsStop (stop_in (at_node portal.now.node self.new.seen))) }
     {
         let node = portal.node();
-        let news = hub.fabric().news();
+        let mut slept = None;
         for _try in rt.forever() {
             let left = patience.left();
-            let ticket = news.watch(node);
-            let taken = self.take(rt, hub, portal);
+            let (taken, rest) = self.take_or_sit(rt, hub, portal, slept, !left.is_zero());
             if left.is_zero() || !is_empty(&taken) {
                 return taken;
             }
-            news.sleep(rt, node, ticket, left);
+            sleep_at(rt, hub, node, rest, left);
+            slept = rest;
         }
         unreachable!()
     }
@@ -345,10 +373,11 @@ impl<F: FabricName> Caller<F> {
         hub: &Hub<F>,
         portal: &Portal<F>,
         limit: Duration,
-    ) -> Result<(u64, Parcel), Refusal>
+    ) -> Result<(u64, Parcel), Missed>
         ensures taken { IfOk result (IsTaken F.table portal.now.node portal.now.end) }
-        ensures refused { IfErr result (IsRefusedTake F.table portal.now.node portal.now.end) }
-        ensures extends { (vain : ℕ) × ExtendsInTurn F.table (tries vain portal.now result) self.old self.new }
+        ensures refused { IfErr result (IsMissed F.table portal.now.node portal.now.end) }
+        ensures extends { (vain : ℕ) × ExtendsInTurn F.table (tries vain portal.now (answer_of result)) self.old self.new }
+        ensures stop { IfErr result (TellsStop (stop_in (at_node portal.now.node self.new.seen))) }
     {
         let first = self.take(rt, hub, portal);
         if !is_empty(&first) {
@@ -357,7 +386,8 @@ impl<F: FabricName> Caller<F> {
         self.take_patiently(rt, hub, portal, &Deadline::new(rt, limit))
     }
 
-    /// Takes the next parcel at a portal, and sleeps while there is none, as [`Portal::get_timeout`]. Each try is a call.
+    /// Takes the next parcel at a portal, and sleeps while there is none, as [`Portal::get_timeout`]. Each try is a call. If it is told that the node is
+    /// stopped, the last turn before the last try was refused so in the node's history, as far as the caller has seen it then.
     ///
     /// Refused as that.
     ///
@@ -368,20 +398,21 @@ impl<F: FabricName> Caller<F> {
         hub: &Hub<F>,
         portal: &Portal<F>,
         limit: Duration,
-    ) -> Result<Arrival<F>, Refusal>
+    ) -> Result<Arrival<F>, Missed>
         ensures got { IfOk result (λ a. IsGot F.table portal.now.node portal.now.end a.n a.bytes a.portals) }
         ensures here { IfOk result (λ a. All (λ p. p.node ≡ portal.now.node) a.portals) }
         ensures few { IfOk result (λ a. length a.portals ≤ 8) }
-        ensures why { IfErr result IsTakeRefusal }
-        ensures refused { IfErr result (IsRefusedTake F.table portal.now.node portal.now.end) }
+        ensures why { IfErr result IsMissing }
+        ensures refused { IfErr result (IsMissed F.table portal.now.node portal.now.end) }
         ensures extends { MatchResult result
             (λ a. WaitsForParcel F.table portal.now a.n a.bytes a.portals self.old self.new)
-            (λ why. (vain : ℕ) × ExtendsInTurn F.table (tries vain portal.now (Err why)) self.old self.new) }
+            (λ e. (vain : ℕ) × ExtendsInTurn F.table (tries vain portal.now (Err (refusal_of e))) self.old self.new) }
+        ensures stop { IfErr result (TellsStop (stop_in (at_node portal.now.node self.new.seen))) }
     {
         let node = portal.place();
         match self.take_timeout(rt, hub, portal, limit) {
             Ok((n, parcel)) => Ok(arrival_of(node, n, parcel)),
-            Err(refusal) => Err(refusal),
+            Err(missed) => Err(missed),
         }
     }
 

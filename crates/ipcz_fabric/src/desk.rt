@@ -1,11 +1,11 @@
 //! Desks: what lies behind a node's lock. It is the node's cell, whose history tells how its state was reached.
-ghost use Rattle.std.specs.Prelude.{◌≡◌, ◌<◌, ℕ, Result, Ok, Err, true, MatchResult, None, Some, unwrap_or, OnOk, IfOk, IfErr};
+ghost use Rattle.std.specs.Prelude.{◌≡◌, ◌<◌, ℕ, Result, Ok, Err, true, MatchResult, None, Some, is_some, slice_index_or, unwrap_or, OnOk, IfOk, IfErr};
 ghost use Rattle.ipcz_node.specs.Calls.{put_refusal, put_number, get_refusal, got_at, close_refusal, next_sizes};
 ghost use Rattle.ipcz_node.specs.Arriving.{arrival_of};
 ghost use Rattle.ipcz_node.specs.Finding.{IsNextReady};
 ghost use Rattle.ipcz_node.specs.Looking.{IsLook};
 ghost use Rattle.ipcz_rule.specs.declared.history.Call.TheVariants as calls;
-ghost use Rattle.ipcz_rule.specs.Histories.{entry_of, noted};
+ghost use Rattle.ipcz_rule.specs.Histories.{at_node, entry_of, noted};
 ghost use Rattle.ipcz_rule.specs.Steps.{put_part, close_part};
 ghost use Rattle.ipcz_cell.specs.Callers.{IsWritten};
 ghost use Rattle.ipcz_cell.specs.CellStates.{CellState};
@@ -18,18 +18,28 @@ ghost use Rattle.ipcz_cell.specs.TurnEnds.{Turns};
 ghost use Rattle.ipcz_fabric.specs.Places.{IsCellOf, IsRefusedInOrder};
 ghost use Rattle.ipcz_fabric.specs.Portals.{ends_of, has_ends, wants_list};
 ghost use Rattle.ipcz_fabric.specs.Replays.{Extends, IsNotedCell, Leaves, LeavesPart, PutsAt, entered};
+ghost use Rattle.ipcz_fabric.specs.Stopping.{TellsStop, answer_of, refusal_of, stop_in};
+ghost use Rattle.ipcz_fabric.specs.declared.chair.Chair.TheVariants as kinds;
+ghost use Rattle.ipcz_fabric.specs.Waiting.{woken_chair, is_answered};
 
+use crate::chair_bells::ChairBells;
 use crate::hub::Hub;
+use crate::missed::{Missed, is_empty, missed_at, stop_of};
 use crate::portal::{Portal, PortalPutRefused};
+use crate::rest::Rest;
+use crate::waiting_room::WaitingRoom;
 use ipcz_base::{Bytes, End, Parcel, PortalStatus, Profile, Refusal, Sizes};
 use ipcz_cell::{CallName, CallerSeat, Fabric, FabricName, NodeCell, Retry};
 use ipcz_node::Happened;
 use std::marker::{Brand, Model};
 
-/// A node's cell. What its callers call it answers, and then it is written down as theirs.
+/// A node's cell. What its callers call it answers, and then it is written down as theirs. Beside it stands why the last turn has stopped the node, if
+/// it has.
 #[derive(Drop)]
 pub(crate) struct Desk<F: FabricName> {
     cell: NodeCell<F>,
+    stop: Option<Refusal>,
+    room: WaitingRoom,
 }
 
 impl<F: FabricName> Model for Desk<F> {
@@ -38,6 +48,8 @@ impl<F: FabricName> Model for Desk<F> {
     ghost use Rattle.std.specs.Coded.{codes};
     ghost use Rattle.ipcz_cell.specs.CellStates.{CellState};
     ghost use Rattle.ipcz_fabric.specs.Replays.{IsReached};
+    ghost use Rattle.ipcz_fabric.specs.Stopping.{stop_in};
+    ghost use Rattle.std.specs.Prelude.{◌≡◌};
 
     ghost Value = { CellState };
 
@@ -45,7 +57,7 @@ impl<F: FabricName> Model for Desk<F> {
 
     ghost view = { λ d. d.cell };
 
-    ghost invariant = { λ d. IsReached F.table d.cell.part };
+    ghost invariant = { λ d. IsReached F.table d.cell.part × (d.stop ≡ stop_in d.cell.part.history) };
 }
 
 /// Which call a put is, by what it is answered.
@@ -91,6 +103,68 @@ fn told<F: FabricName>(put: &Result<u64, PortalPutRefused<F>>) -> Result<u64, Re
     }
 }
 
+// Wakes those who wait at an end where something has come, or all, if the node is stopped. If nobody sits there, nothing is looked at.
+#[inline(always)]
+#[tactic(auto, using(crate::proofs::Chairs::none_woken))]
+fn wake_waiting<F: FabricName>(
+    room: &mut WaitingRoom,
+    cell: &NodeCell<F>,
+    stop: Option<Refusal>,
+    bells: &ChairBells,
+)
+    ensures { (k : ℕ) → slice_index_or room.new k kinds.Free ≡ woken_chair (is_answered cell.now.part.state) (is_some stop) (slice_index_or room.old k kinds.Free) }
+{
+    if room.taken() > 0 {
+        room.wake(cell, stop.is_some(), bells, cell.node());
+    }
+}
+
+// The same behind a turn, if it has handled a message or was refused.
+#[inline(always)]
+fn wake_after<F: FabricName>(
+    answer: &Result<Happened, Refusal>,
+    room: &mut WaitingRoom,
+    cell: &NodeCell<F>,
+    stop: Option<Refusal>,
+    bells: &ChairBells,
+) {
+    if matches!(answer, Ok(Happened::Hand { .. }) | Err(_)) {
+        wake_waiting(room, cell, stop, bells);
+    }
+}
+
+// Takes a place for a sleep at an end.
+fn rest_at<F: FabricName>(room: &mut WaitingRoom, hub: &Hub<F>, node: u8, at: End) -> Rest {
+    match room.sit(at) {
+        Some(place) => Rest::Chair {
+            place,
+            number: hub.chairs().watch(node, place),
+        },
+        None => Rest::Crowd(hub.fabric().news().watch(node)),
+    }
+}
+
+// Leaves the place of a sleep, if there was one, and takes one for the next at an end, if there is to be one.
+fn move_on<F: FabricName>(
+    room: &mut WaitingRoom,
+    hub: &Hub<F>,
+    node: u8,
+    at: End,
+    slept: Option<Rest>,
+    is_to_sleep: bool,
+) -> Option<Rest> {
+    if let Some(Rest::Chair { place, .. }) = slept {
+        room.leave(place);
+    }
+    let rest = if is_to_sleep {
+        Some(rest_at(room, hub, node, at))
+    } else {
+        None
+    };
+    hub.chairs().tell_taken(node, room.taken());
+    rest
+}
+
 // Puts a parcel at a portal of a cell's node, and writes it down, as the call that P names.
 fn put_noted<F: FabricName, P: PutName>(
     cell: &mut NodeCell<F>,
@@ -129,7 +203,11 @@ impl<F: FabricName> Desk<F> {
         let mut cell = cell;
         let mut me = fabric.caller();
         note_as::<F, Brand, _, _>(&mut cell, fabric, &mut me, &(), &());
-        Desk { cell }
+        Desk {
+            cell,
+            stop: None,
+            room: WaitingRoom::new(),
+        }
     }
 
     // The cell.
@@ -177,25 +255,24 @@ impl<F: FabricName> Desk<F> {
     }
 
     // Takes one turn of the node.
-    pub(crate) fn turn(
-        &mut self,
-        fabric: &Fabric<F>,
-        me: &mut CallerSeat<F>,
-    ) -> Result<Happened, Refusal>
+    pub(crate) fn turn(&mut self, hub: &Hub<F>, me: &mut CallerSeat<F>) -> Result<Happened, Refusal>
         requires { IsCellOf F.table self.old.part.node self.old }
         ensures did { Leaves me.old.id (calls.Turned result) (λ done. Turns F.table self.old result done) self.new }
         ensures here { self.new.part.node ≡ self.old.part.node }
         ensures extends { Extends F.table self.old.part.node (calls.Turned result) me.old me.new }
     {
+        let fabric = hub.fabric();
         let answer = self.cell.turn(fabric);
         note_as::<F, Brand, _, _>(&mut self.cell, fabric, me, &(), &answer);
+        self.stop = stop_of(&answer);
+        wake_after(&answer, &mut self.room, &self.cell, self.stop, hub.chairs());
         answer
     }
 
     // Takes turns of the node, one after the other.
     pub(crate) fn acts(
         &mut self,
-        fabric: &Fabric<F>,
+        hub: &Hub<F>,
         me: &mut CallerSeat<F>,
         limit: u64,
     ) -> Result<u64, Refusal>
@@ -203,8 +280,11 @@ impl<F: FabricName> Desk<F> {
         ensures did { Leaves me.old.id (calls.Acted limit result) (λ done. RunsTurns F.table limit self.old result done) self.new }
         ensures extends { Extends F.table self.old.part.node (calls.Acted limit result) me.old me.new }
     {
+        let fabric = hub.fabric();
         let answer = self.cell.acts(fabric, limit);
         note_as::<F, Brand, _, _>(&mut self.cell, fabric, me, &limit, &answer);
+        self.stop = stop_of(&answer);
+        wake_waiting(&mut self.room, &self.cell, self.stop, hub.chairs());
         answer
     }
 
@@ -290,24 +370,47 @@ impl<F: FabricName> Desk<F> {
         note_as::<F, Brand, _, _>(&mut self.cell, fabric, me, &at, &());
     }
 
-    // Takes the next parcel at an end, without room for its portals.
+    // Takes the next parcel at an end, without room for its portals. If there is none, it tells whether the node is stopped.
     pub(crate) fn take(
         &mut self,
         fabric: &Fabric<F>,
         me: &mut CallerSeat<F>,
         at: End,
-    ) -> Result<(u64, Parcel), Refusal>
+    ) -> Result<(u64, Parcel), Missed>
         ensures allowed { OnOk result (get_refusal self.old.part.state at ≡ None) }
         ensures parcel { IfOk result (λ g. got_at self.old.part.state at ≡ Some g) }
-        ensures why { IfErr result (λ e. get_refusal self.old.part.state at ≡ Some e) }
+        ensures why { IfErr result (λ e. get_refusal self.old.part.state at ≡ Some (refusal_of e)) }
         ensures left { MatchResult result
-            (λ _. LeavesPart me.old.id (calls.Taken at result) (got_part at self.old.part) self.old self.new)
-            (λ _. LeavesPart me.old.id (calls.Taken at result) self.old.part self.old self.new) }
-        ensures extends { Extends F.table self.old.part.node (calls.Taken at result) me.old me.new }
+            (λ _. LeavesPart me.old.id (calls.Taken at (answer_of result)) (got_part at self.old.part) self.old self.new)
+            (λ _. LeavesPart me.old.id (calls.Taken at (answer_of result)) self.old.part self.old self.new) }
+        ensures extends { Extends F.table self.old.part.node (calls.Taken at (answer_of result)) me.old me.new }
+        ensures stop { IfErr result (TellsStop (stop_in (at_node self.old.part.node me.new.seen))) }
     {
         let answer = self.cell.get(fabric, at);
         note_as::<F, Brand, _, _>(&mut self.cell, fabric, me, &at, &answer);
-        answer
+        missed_at(answer, self.stop)
+    }
+
+    // Takes the next parcel at an end, as `take`, behind a sleep, if there was one. If there is none and the get is to sleep, it tells where.
+    pub(crate) fn take_or_sit(
+        &mut self,
+        hub: &Hub<F>,
+        me: &mut CallerSeat<F>,
+        at: End,
+        slept: Option<Rest>,
+        may_sleep: bool,
+    ) -> (Result<(u64, Parcel), Missed>, Option<Rest>)
+        ensures allowed { OnOk result.0 (get_refusal self.old.part.state at ≡ None) }
+        ensures parcel { IfOk result.0 (λ g. got_at self.old.part.state at ≡ Some g) }
+        ensures why { IfErr result.0 (λ e. get_refusal self.old.part.state at ≡ Some (refusal_of e)) }
+        ensures extends { Extends F.table self.old.part.node (calls.Taken at (answer_of result.0)) me.old me.new }
+        ensures stop { IfErr result.0 (TellsStop (stop_in (at_node self.old.part.node me.new.seen))) }
+    {
+        let taken = self.take(hub.fabric(), me, at);
+        let is_to_sleep = may_sleep && is_empty(&taken);
+        let node = self.cell.node();
+        let rest = move_on(&mut self.room, hub, node, at, slept, is_to_sleep);
+        (taken, rest)
     }
 
     // Closes an end.

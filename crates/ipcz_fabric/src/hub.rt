@@ -8,6 +8,7 @@ ghost use Rattle.ipcz_fabric.specs.Hubs.{AddsFirst, AddsHeld, AreFirstPortals, A
 ghost use Rattle.ipcz_fabric.specs.Hubs.{AreTurnAnswers, ExtendsByTurn, IsOpenAnswer, IsOpenRefusal, IsReadyAnswer, IsRetryAnswer, IsTurnAnswer, IsTurnRefusal, TurnsAsking, is_again, is_idle};
 
 use crate::caller::Caller;
+use crate::chair_bells::ChairBells;
 use crate::desk::Desk;
 use crate::portal::Portal;
 use crate::sorting::{cells_at, empty_places, put_in_place};
@@ -27,6 +28,7 @@ use std::time::Duration;
 pub struct Hub<F: FabricName> {
     fabric: Fabric<F>,
     cells: Vec<Mutex<Desk<F>>>,
+    chairs: ChairBells,
     alloc: Global,
 }
 
@@ -139,14 +141,15 @@ fn is_again(found: Retry) -> bool
 // Takes one turn of a desk's node. Behind an idle one it lets a proxy that waits for a slot ask again, and tells whether one does.
 pub(crate) fn turn_asking_here<F: FabricName>(
     desk: &mut Desk<F>,
-    fabric: &Fabric<F>,
+    hub: &Hub<F>,
     me: &mut CallerSeat<F>,
 ) -> (Result<Happened, Refusal>, bool)
     requires { IsCellOf F.table desk.old.part.node desk.old }
     ensures did { TurnsAsking F.table me.old.id desk.old result.0 result.1 desk.new }
     ensures extends { ExtendsByTurn F.table desk.old.part.node result.0 me.old me.new }
 {
-    let answer = desk.turn(fabric, me);
+    let fabric = hub.fabric();
+    let answer = desk.turn(hub, me);
     if is_idle(&answer) {
         let _node = desk.node();
         let found = desk.retry(fabric, me);
@@ -179,6 +182,9 @@ impl<F: FabricName> Hub<F> {
         let Ok(room) = Vec::with_capacity(alloc, cells.len()) else {
             return Err((Refusal::OutOfMemory, fabric, cells));
         };
+        let Ok(chairs) = ChairBells::new(alloc, cells.len()) else {
+            return Err((Refusal::OutOfMemory, fabric, cells));
+        };
         let mut portals = Vec::new(alloc);
         if add_first(cells.as_slice(), &mut portals).is_err() {
             return Err((Refusal::OutOfMemory, fabric, cells));
@@ -187,6 +193,7 @@ impl<F: FabricName> Hub<F> {
         let hub = Hub {
             fabric,
             cells,
+            chairs,
             alloc,
         };
         Ok((hub, portals))
@@ -220,6 +227,11 @@ impl<F: FabricName> Hub<F> {
     // The table.
     pub(crate) fn fabric(&self) -> &Fabric<F> {
         &self.fabric
+    }
+
+    // The chairs of gets that sleep, with their bells.
+    pub(crate) fn chairs(&self) -> &ChairBells {
+        &self.chairs
     }
 
     // Where its lists take memory.
@@ -343,11 +355,28 @@ impl<F: FabricName> Hub<F> {
     }
 
     /// Wakes all that sleep for a node: `turn_or_wait` and `work_waiting`, which then asks its gate again, and `Portal::get_timeout`, which
-    /// looks again. Where none sleeps it costs four loads. It is never refused, and does nothing for a node that isn't there.
+    /// looks again. Where none sleeps it costs five loads. It is never refused, and does nothing for a node that isn't there.
     ///
     /// So a thread that sets a flag calls `hub.notify_all(0)` behind it, for the workers of node 0 to look at it.
     pub fn notify_all(&self, node: u8) {
         self.fabric.notify_all(node);
+        self.chairs.wake_all(node);
+    }
+
+    /// How many gets sleep at a node now, each on a bell of its own, 64 at most: `Portal::get_timeout` and `Caller::get_timeout`. Those beyond 64
+    /// aren't counted, nor is `Hub::get_any`. One that is woken counts until it has looked. Of a node that isn't there it is 0.
+    ///
+    /// Where a thread sleeps in `portal.get_timeout(rt, &hub, limit)` at node 1, `hub.sleepers(1)` is 1.
+    pub fn sleepers(&self, node: u8) -> u64 {
+        self.chairs.taken(node)
+    }
+
+    /// How often a get that slept at a node on a bell of its own was woken since the hub was made, since something had come at its end or the node was
+    /// stopped. One that wakes otherwise, by `notify_all`, at its time or for no reason, isn't counted. Of a node that isn't there it is 0.
+    ///
+    /// Where 57 gets have slept at node 1 and each was given a parcel, `hub.wakes(1)` is 57.
+    pub fn wakes(&self, node: u8) -> u64 {
+        self.chairs.wakes(node)
     }
 
     // How many nodes there are.
@@ -378,6 +407,7 @@ impl<F: FabricName> Hub<F> {
         let Hub {
             fabric,
             cells,
+            chairs: _,
             alloc: _,
         } = self;
         let places = unlock_all(&fabric, cells, empty_places(count, places));

@@ -3,14 +3,20 @@
 #![tactic(auto)]
 
 mod caller;
+mod chair;
+mod chair_bells;
+mod comings;
 mod deadline;
 mod desk;
 mod hub;
+mod missed;
 mod portal;
 mod portals;
+mod rest;
 mod scoped;
 mod selecting;
 mod sorting;
+mod waiting_room;
 mod workers;
 
 pub use caller::Caller;
@@ -18,6 +24,7 @@ pub use hub::Hub;
 pub use ipcz_cell::{
     Bells, Blank, Fabric, FabricName, NodeCell, Retry, Ticket, finish, start, start_lasting,
 };
+pub use missed::Missed;
 pub use portal::{Got, Portal, PortalPutRefused};
 pub use portals::{Arrival, Portals};
 pub use scoped::ScopedPortal;

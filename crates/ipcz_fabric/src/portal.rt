@@ -6,13 +6,14 @@ ghost use Rattle.ipcz_rule.specs.Steps.{put_part, close_part};
 ghost use Rattle.ipcz_fabric.specs.Places.{IsRefusedInOrder};
 ghost use Rattle.ipcz_fabric.specs.Portals.{ends_of, portals_at, parcel_refusal, wants_list};
 ghost use Rattle.ipcz_fabric.specs.Portals.{IsPut, IsPutRefusal, IsRefusedPut, IsGot, IsGotHere, IsGetRefusal, IsRefusedGetHere, IsRefusedGet};
-ghost use Rattle.ipcz_fabric.specs.Portals.{IsTakeRefusal, IsRefusedTake};
+ghost use Rattle.ipcz_fabric.specs.Stopping.{IsMissed, IsMissing};
 ghost use Rattle.ipcz_fabric.specs.Portals.{HasArrivedOrNot, IsSeen};
 ghost use Rattle.ipcz_fabric.specs.Portals.{IsClosed, IsCloseRefusal, IsRefusedClose};
 ghost use Rattle.ipcz_fabric.specs.Replays.{Extends, GetsParcel, LeavesParcel, LeavesPart};
 
 use crate::desk::Desk;
 use crate::hub::Hub;
+use crate::missed::Missed;
 use crate::portals::Arrival;
 use ipcz_base::{Bytes, End, Ends, Parcel, PortalStatus, Profile, Refusal};
 use ipcz_cell::{CallerSeat, FabricName, NodeCell};
@@ -376,9 +377,11 @@ impl<F: FabricName> Portal<F> {
     /// Takes the next parcel, as `get`, and sleeps while there is none, for no longer than `limit` in all; `Duration::MAX` is without end.
     /// Workers have to take the turns of the nodes meanwhile.
     ///
-    /// It takes no memory, and is never refused `OutOfMemory`: its portals are made as they are taken out. Refused `Stranger` if the node's
-    /// callers don't hold the portal's end, `PeerClosed` if the peer is closed and all that was put there was got, and `Empty` if a last
-    /// try, at the end of its time, has found no parcel. A clock that can't be read ends the wait.
+    /// It takes no memory, and is never refused `OutOfMemory`: its portals are made as they are taken out. [`Missed::Refused`] with `Stranger` if the
+    /// node's callers don't hold the portal's end, `PeerClosed` if the peer is closed and all that was put there was got, and `Empty` if a last
+    /// try, at the end of its time, has found no parcel. A clock that can't be read ends the wait. [`Missed::Stopped`] if nothing has come and the
+    /// last turn of the node was refused `OutOfMemory` or `NumbersEnd`: workers of the node end then, so that nobody serves it until somebody takes
+    /// its turns again, and the wait ends at once. Of other nodes, from which the parcel is to come, it isn't told.
     ///
     /// So `portal.get_timeout(rt, hub, Duration::from_secs(1))` waits for a second at most.
     pub fn get_timeout<R: Wait + Clock>(
@@ -386,12 +389,12 @@ impl<F: FabricName> Portal<F> {
         rt: &R,
         hub: &Hub<F>,
         limit: Duration,
-    ) -> Result<Arrival<F>, Refusal>
+    ) -> Result<Arrival<F>, Missed>
         ensures got { IfOk result (λ a. IsGot F.table self.now.node self.now.end a.n a.bytes a.portals) }
         ensures here { IfOk result (λ a. All (λ p. p.node ≡ self.now.node) a.portals) }
         ensures few { IfOk result (λ a. length a.portals ≤ 8) }
-        ensures why { IfErr result IsTakeRefusal }
-        ensures refused { IfErr result (IsRefusedTake F.table self.now.node self.now.end) }
+        ensures why { IfErr result IsMissing }
+        ensures refused { IfErr result (IsMissed F.table self.now.node self.now.end) }
     {
         hub.caller().get_timeout(rt, hub, self, limit)
     }

@@ -6,6 +6,7 @@ ghost use Rattle.ipcz_fabric.specs.Selecting.{GivesParcel, IsFirst, IsNoneGot, L
 use crate::caller::Caller;
 use crate::deadline::{Deadline, Patience};
 use crate::hub::Hub;
+use crate::missed::Missed;
 use crate::portal::Portal;
 use crate::portals::{Arrival, arrival_of};
 use ipcz_base::Refusal;
@@ -16,9 +17,16 @@ use std::time::{Clock, Duration};
 /// Why a get at several portals has given no parcel.
 #[derive(Clone, Copy, Debug, PartialEq, Eq)]
 pub struct NoneGot {
-    /// The place in the list of the portal that refuses the get; none if each of them is `Empty`.
+    /// The place in the list of the portal that refuses the get, or whose node is stopped; none if each of them is `Empty`.
     pub place: Option<usize>,
-    pub why: Refusal,
+    pub why: Missed,
+}
+
+// Whether nothing has come at a portal, and none of its node's turns says that nothing will.
+fn is_empty(why: Missed) -> bool
+    ensures { MatchBool result (why ≡ Missed.Refused Refusal.Empty) (why ≢ Missed.Refused Refusal.Empty) }
+{
+    matches!(why, Missed::Refused(Refusal::Empty))
 }
 
 // Whether each portal was empty.
@@ -46,20 +54,19 @@ impl<F: FabricName> Caller<F> {
         for (place, portal) in portals.iter().enumerate() {
             match self.take(rt, hub, portal) {
                 Ok((n, parcel)) => return Ok((place, arrival_of(portal.node(), n, parcel))),
-                Err(why) => match why {
-                    Refusal::Empty => {}
-                    _ => {
+                Err(why) => {
+                    if !is_empty(why) {
                         return Err(NoneGot {
                             place: Some(place),
                             why,
                         });
                     }
-                },
+                }
             }
         }
         Err(NoneGot {
             place: None,
-            why: Refusal::Empty,
+            why: Missed::Refused(Refusal::Empty),
         })
     }
 
@@ -129,8 +136,9 @@ impl<F: FabricName> Hub<F> {
     /// look. Who wants all to have their turn puts the one that was served last at the end of the list.
     ///
     /// It takes no memory. `place` tells the portal that refuses the get: `Stranger` if the node's callers don't hold its end, `PeerClosed` if its peer is
-    /// closed and all that was put there was got; take it out of the list then. Without a place all were `Empty` in a last look, at the end of the
-    /// time. So is an empty list. A clock that can't be read ends the wait.
+    /// closed and all that was put there was got; take it out of the list then. Or nothing has come there and the last turn of its node was refused, so
+    /// that its workers have ended ([`Missed::Stopped`]). Without a place all were `Empty` in a last look, at the end of the time. So is an empty list.
+    /// A clock that can't be read ends the wait.
     ///
     /// So `hub.get_any(rt, &portals, Duration::from_secs(1))` is `Ok((1, arrival))` where the first parcel comes at `portals[1]`.
     pub fn get_any<R: Wait + Clock>(

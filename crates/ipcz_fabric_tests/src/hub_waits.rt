@@ -3,7 +3,7 @@ ghost use Rattle.std.specs.Prelude.{◌≡◌};
 
 use crate::hub_tables::{both, hub_of};
 use ipcz_base::{Bytes, Refusal};
-use ipcz_fabric::{Blank, FabricName, Gate, Hub, Portal, start, work_waiting};
+use ipcz_fabric::{Blank, FabricName, Gate, Hub, Missed, Portal, start, work_waiting};
 use std::alloc::Global;
 use std::marker::Brand;
 use std::sync::Wait;
@@ -224,11 +224,11 @@ fn right_does<F: FabricName, R: Wait + Clock>(
         Case::Driven => portal_gets_three(rt, hub, portal),
         Case::Close => {
             let got = portal.get_timeout(rt, hub, long());
-            matches!(got, Err(Refusal::PeerClosed))
+            matches!(got, Err(Missed::Refused(Refusal::PeerClosed)))
         }
         Case::Nothing => {
             let got = portal.get_timeout(rt, hub, short());
-            matches!(got, Err(Refusal::Empty))
+            matches!(got, Err(Missed::Refused(Refusal::Empty)))
         }
     }
 }

@@ -15,6 +15,8 @@ mod counts;
 #[cfg(test)]
 mod ends;
 #[cfg(test)]
+mod getters;
+#[cfg(test)]
 mod hub_tables;
 #[cfg(test)]
 mod hub_waits;

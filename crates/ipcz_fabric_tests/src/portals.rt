@@ -3,7 +3,7 @@ ghost use Rattle.std.specs.Prelude.{◌≡◌};
 
 use crate::hub_tables::{hub_of, sends};
 use ipcz_base::{Bytes, End, Refusal};
-use ipcz_fabric::{Blank, FabricName, Gate, Hub, Portal, start, work};
+use ipcz_fabric::{Blank, FabricName, Gate, Hub, Missed, Portal, start, work};
 use std::alloc::Global;
 use std::marker::Brand;
 use std::sync::Wait;
@@ -255,7 +255,7 @@ fn arrives<F: FabricName, R: Wait + Clock>(rt: &R, hub: &Hub<F>, alloc: Global) 
     let (a, b) = hub.open_pair(rt, 0).ok()?;
     let (moved, peer) = hub.open_pair(rt, 0).ok()?;
     let early = b.get_timeout(rt, hub, Duration::ZERO);
-    let is_early = matches!(early, Err(Refusal::Empty));
+    let is_early = matches!(early, Err(Missed::Refused(Refusal::Empty)));
     let end = goes_twice(rt, hub, alloc, &a, &b, moved)?;
     Some(is_early && end == peer.end().opposite())
 }

@@ -3,7 +3,7 @@ ghost use Rattle.std.specs.Prelude.{◌≡◌};
 
 use crate::hub_tables::{both, hub_of};
 use ipcz_base::{Bytes, Refusal};
-use ipcz_fabric::{Blank, FabricName, Hub, Portal, start};
+use ipcz_fabric::{Blank, FabricName, Hub, Missed, Portal, start};
 use std::alloc::Global;
 use std::marker::Brand;
 use std::sync::Wait;
@@ -33,7 +33,7 @@ fn told<F: FabricName, R: Wait + Clock>(
     hub: &Hub<F>,
     portals: &[Portal<F>],
     limit: Duration,
-) -> (Option<usize>, Option<Refusal>) {
+) -> (Option<usize>, Option<Missed>) {
     match hub.get_any(rt, portals, limit) {
         Ok((place, _)) => (Some(place), None),
         Err(none) => (none.place, Some(none.why)),
@@ -58,7 +58,7 @@ fn answers<F: FabricName, R: Wait + Clock>(
     rt: &R,
     alloc: Global,
     blank: Blank,
-) -> Option<[(Option<usize>, Option<Refusal>); 4]>
+) -> Option<[(Option<usize>, Option<Missed>); 4]>
     requires { blank ≡ F.table }
 {
     let (hub, firsts) = hub_of::<F>(blank)?;
@@ -82,15 +82,15 @@ fn answers<F: FabricName, R: Wait + Clock>(
 fn answers_of<R: Wait + Clock>(
     rt: &R,
     alloc: Global,
-) -> Option<[(Option<usize>, Option<Refusal>); 4]> {
+) -> Option<[(Option<usize>, Option<Missed>); 4]> {
     let blank = start(alloc, 2, 4).ok()?;
     answers::<Brand, R>(rt, alloc, blank)
 }
 
 #[test]
 fn a_get_at_several_portals_tells_which(rt: HostRuntime) {
-    let empty = (None, Some(Refusal::Empty));
-    let closed = (Some(0), Some(Refusal::PeerClosed));
+    let empty = (None, Some(Missed::Refused(Refusal::Empty)));
+    let closed = (Some(0), Some(Missed::Refused(Refusal::PeerClosed)));
     assert_eq!(rt;
         answers_of(&rt, rt.alloc()),
         Some([empty, (Some(1), None), closed, empty])

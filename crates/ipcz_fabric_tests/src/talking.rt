@@ -4,7 +4,7 @@ ghost use Rattle.std.specs.Prelude.{◌≡◌};
 use crate::hub_tables::{both, hub_of};
 use crate::selecting::list_of;
 use ipcz_base::{Bytes, Profile, Refusal};
-use ipcz_fabric::{Blank, Caller, FabricName, Gate, Hub, Portal, Retry, start};
+use ipcz_fabric::{Blank, Caller, FabricName, Gate, Hub, Missed, Portal, Retry, start};
 use ipcz_node::Happened;
 use std::alloc::Global;
 use std::marker::Brand;
@@ -64,7 +64,7 @@ fn waits_for_it<F: FabricName, R: Wait + Clock>(
     let (a, b) = caller.open_pair(rt, hub, 0).ok()?;
     let early = matches!(
         caller.get_timeout(rt, hub, &b, Duration::ZERO),
-        Err(Refusal::Empty)
+        Err(Missed::Refused(Refusal::Empty))
     );
     caller.put(rt, hub, &a, Bytes::new(), Vec::new(alloc)).ok()?;
     caller.acts(rt, hub, 0, 100).ok()?;
@@ -84,9 +84,9 @@ fn selects_it<F: FabricName, R: Wait + Clock>(rt: &R, hub: &Hub<F>, alloc: Globa
     let got = caller.get_any(rt, hub, &list, Duration::ZERO);
     let late = caller.get_any(rt, hub, &list, Duration::ZERO);
     Some(
-        matches!(early, Err(none) if none.place.is_none() && none.why == Refusal::Empty)
+        matches!(early, Err(none) if none.place.is_none() && none.why == Missed::Refused(Refusal::Empty))
             && matches!(&got, Ok((1, arrival)) if arrival.n == 0)
-            && matches!(late, Err(none) if none.place.is_none() && none.why == Refusal::Empty),
+            && matches!(late, Err(none) if none.place.is_none() && none.why == Missed::Refused(Refusal::Empty)),
     )
 }
 

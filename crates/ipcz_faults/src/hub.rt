@@ -5,11 +5,12 @@ ghost use Rattle.std.specs.Prelude.{◌≡◌};
 use crate::cells::{finish_again, make_again, name};
 use crate::met::{Met, Wrong};
 use ipcz_base::{Bytes, Refusal};
-use ipcz_fabric::{Blank, Fabric, FabricName, Got, Hub, NodeCell, Portal};
+use ipcz_fabric::{Blank, Fabric, FabricName, Got, Hub, Missed, NodeCell, Portal};
 use ipcz_node::Happened;
 use std::alloc::{AllocError, Global};
 use std::marker::Brand;
 use std::sync::Wait;
+use std::time::{Clock, Duration};
 
 // More turns than a node takes between two calls of the row.
 const TURNS: u32 = 30;
@@ -134,18 +135,43 @@ fn close<F: FabricName, R: Wait>(
     }
 }
 
-// Takes a turn of a node, a second time if no memory was found.
-fn turn<F: FabricName, R: Wait>(
+// Whether a get that may sleep is told that the node of a portal, to which nothing comes, is stopped for want of memory.
+fn is_stopped<F: FabricName, R: Wait + Clock>(rt: &R, hub: &Hub<F>, quiet: &Portal<F>) -> bool {
+    let missed = quiet.get_timeout(rt, hub, Duration::ZERO);
+    matches!(missed, Err(Missed::Stopped(Refusal::OutOfMemory)))
+}
+
+// Takes a turn of a node that no memory was found for, a second time. In between the node is stopped, and not behind it. A portal of node 0 is asked, to
+// which nothing comes.
+fn turn_again<F: FabricName, R: Wait + Clock>(
     rt: &R,
     hub: &Hub<F>,
     node: u8,
+    quiet: &Portal<F>,
+) -> Result<Happened, Wrong> {
+    if node == 0 && !is_stopped(rt, hub, quiet) {
+        return Err(Wrong::Answer);
+    }
+    let happened = hub.turn(rt, node).map_err(|_| Wrong::RefusedAgain)?;
+    if is_stopped(rt, hub, quiet) {
+        return Err(Wrong::Answer);
+    }
+    Ok(happened)
+}
+
+// Takes a turn of a node, a second time if no memory was found.
+fn turn<F: FabricName, R: Wait + Clock>(
+    rt: &R,
+    hub: &Hub<F>,
+    node: u8,
+    quiet: &Portal<F>,
     met: &mut Met,
 ) -> Result<(), Wrong> {
     let happened = match hub.turn(rt, node) {
         Ok(happened) => happened,
         Err(Refusal::OutOfMemory) => {
             met.add_refused();
-            hub.turn(rt, node).map_err(|_| Wrong::RefusedAgain)?
+            turn_again(rt, hub, node, quiet)?
         }
         Err(_) => return Err(Wrong::Answer),
     };
@@ -156,10 +182,15 @@ fn turn<F: FabricName, R: Wait>(
 }
 
 // Takes turns of both nodes, until they have nothing to do.
-fn act<F: FabricName, R: Wait>(rt: &R, hub: &Hub<F>, met: &mut Met) -> Result<(), Wrong> {
+fn act<F: FabricName, R: Wait + Clock>(
+    rt: &R,
+    hub: &Hub<F>,
+    quiet: &Portal<F>,
+    met: &mut Met,
+) -> Result<(), Wrong> {
     for _turn in 0..TURNS {
-        turn(rt, hub, 0, met)?;
-        turn(rt, hub, 1, met)?;
+        turn(rt, hub, 0, quiet, met)?;
+        turn(rt, hub, 1, quiet, met)?;
     }
     Ok(())
 }
@@ -202,7 +233,7 @@ fn both<F: FabricName>(mut portals: Vec<Portal<F>>) -> Option<(Portal<F>, Portal
 }
 
 // Opens a pair on node 0, sends its portal of side B to node 1, puts a byte at the other, gets it there, and closes what got it.
-fn move_one<F: FabricName, R: Wait>(
+fn move_one<F: FabricName, R: Wait + Clock>(
     rt: &R,
     hub: &Hub<F>,
     alloc: Global,
@@ -213,18 +244,18 @@ fn move_one<F: FabricName, R: Wait>(
     let (kept, moved) = open(rt, hub, met)?;
     let portals = one(alloc, moved, met)?;
     put(rt, hub, &here, byte(alloc, met)?, portals, met)?;
-    act(rt, hub, met)?;
+    act(rt, hub, &here, met)?;
     let Some(came) = get(rt, hub, &there, met)?.portals.pop() else {
         return Err(Wrong::Answer);
     };
     put(rt, hub, &kept, byte(alloc, met)?, Vec::new(alloc), met)?;
-    act(rt, hub, met)?;
+    act(rt, hub, &here, met)?;
     let _parcel = get(rt, hub, &came, met)?;
     close(rt, hub, came, met)
 }
 
 // Runs the row on the hub of a table of two nodes; the world that its cells come back to has claimed a word for each pair and the bypass.
-fn run_on<F: FabricName, R: Wait>(
+fn run_on<F: FabricName, R: Wait + Clock>(
     rt: &R,
     alloc: Global,
     blank: Blank,
@@ -248,7 +279,7 @@ fn run_on<F: FabricName, R: Wait>(
 }
 
 /// Moves a portal on a hub: how often memory was refused on the way, or what is wrong.
-pub fn run_on_hub<R: Wait>(rt: &R, alloc: Global) -> Result<Met, Wrong> {
+pub fn run_on_hub<R: Wait + Clock>(rt: &R, alloc: Global) -> Result<Met, Wrong> {
     let mut met = Met::none();
     let blank = make_again(alloc, 2, 4, &mut met)?;
     run_on::<Brand, R>(rt, alloc, blank, &mut met)?;

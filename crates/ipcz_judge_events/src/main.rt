@@ -1,5 +1,6 @@
 //! `ipcz_judge_events` reads from standard input a log of the calls and of the nodes' acts of another implementation, and writes to standard output
-//! whether the rules allow it, and if not, which is the first line that they don't (docs/JUDGE.md, "Events").
+//! whether the rules allow it, and if not, which is the first line that they don't (docs/JUDGE.md, "Events"). With the argument `run` it reads a script,
+//! and writes the log of a run of it whose order of acts is drawn.
 //!
 //! All but its arguments and devices stands in `ipcz_events`.
 #![tactic(auto)]

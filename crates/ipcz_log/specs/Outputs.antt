@@ -1,12 +1,13 @@
 -- The status that the program ends with, its texts, and what it has read and written by then.
-use Rattle.std.specs.Prelude.{ℕ, ◌≡◌, ◌≤◌, ◌+◌, ◌↔◌, ◌++◌, ◌∷◌, [], Bool, true, false, IsTrue, IsErrOf, List, length, Option, Result, Ok, Err, codes}
+use Rattle.std.specs.Prelude.{ℕ, ◌≡◌, ◌↔◌, ◌++◌, ◌∷◌, [], Bool, true, false, IsTrue, IsErrOf, List, Option, Result, Ok, Err, codes}
 use Rattle.std.specs.Fmt.{decimal}
-use Rattle.std.specs.Io.KnownBytes.{Appends, Consumes, IsAtEnd, Keeps}
-use Rattle.ipcz_device.specs.WholeIo.{AppendsFront, ConsumesAtMost}
+use Rattle.std.specs.Io.KnownBytes.{Appends, Keeps}
+use Rattle.ipcz_device.specs.WholeIo.{AppendsFront}
 use Rattle.ipcz_script.specs.declared.run_fault.RunFault.{RunFault}
 use Rattle.ipcz_script.specs.declared.run_fault.RunFault.TheVariants as faults
 use Rattle.ipcz_log.specs.declared.verdict.Verdict.{Verdict}
 use Rattle.ipcz_log.specs.declared.verdict.Verdict.TheVariants as verdicts
+use Rattle.ipcz_log.specs.Pieces.{ConsumesSome, HoldsOfInput}
 use Rattle.ipcz_log.specs.Verdicts.{IsVerdict}
 
 -- a text, and a newline
@@ -21,24 +22,13 @@ IsText (verdicts.NoOrder n) text = text ≡ codes "line " ++ (decimal n ++ line 
 IsText verdicts.Untold text = text ≡ line (codes "no order found in ten million steps")
 IsText (verdicts.NoLog n) text = text ≡ codes "line " ++ (decimal n ++ line (codes ": no line of a log"))
 
--- how many bytes a log may have
-abbrev pub most_bytes : ℕ
-most_bytes = 1073741824
-
--- the bytes that were read: all there are, or one more than a log may have
-pub record IsInput (before after : Option (List ℕ)) (input : List ℕ) : Type 0 where
-  pub taken : Consumes before after input
-  pub most : length input ≤ most_bytes + 1
-  pub whole : length input ≤ most_bytes → IsAtEnd after
-
--- what was read and written, by the answer: the verdict's line, or after a failed write some front of it, and else nothing
+-- what was read and written, by the answer: the line of the verdict on all that there was to read, or after a failed write some front of it, and else nothing
 abbrev pub ReadsAndWrites : Option (List ℕ) → Option (List ℕ) → Option (List ℕ) → Option (List ℕ) → Result Verdict RunFault → Type 0
-ReadsAndWrites before after old new (Ok verdict) =
-    (input : List ℕ) × (text : List ℕ) × IsInput before after input × IsVerdict input verdict × IsText verdict text × Appends old new text
+ReadsAndWrites before after old new (Ok verdict) = (text : List ℕ) × HoldsOfInput before after (λ input. IsVerdict input verdict) × IsText verdict text × Appends old new text
 ReadsAndWrites before after old new (Err faults.Write) =
-    (input : List ℕ) × (verdict : Verdict) × (text : List ℕ) × IsInput before after input × IsVerdict input verdict × IsText verdict text × AppendsFront old new text
-ReadsAndWrites before after old new (Err faults.Read) = ConsumesAtMost before after (most_bytes + 1) × Keeps old new
-ReadsAndWrites before after old new (Err faults.OutOfMemory) = ConsumesAtMost before after (most_bytes + 1) × Keeps old new
+    (verdict : Verdict) × (text : List ℕ) × HoldsOfInput before after (λ input. IsVerdict input verdict) × IsText verdict text × AppendsFront old new text
+ReadsAndWrites before after old new (Err faults.Read) = ConsumesSome before after × Keeps old new
+ReadsAndWrites before after old new (Err faults.OutOfMemory) = ConsumesSome before after × Keeps old new
 
 -- the status after a log: 0 allowed, 1 a read or a write failed, 2 refused or no log, 3 want of memory, 4 not told
 unfoldable pub status : Result Verdict RunFault → ℕ

@@ -6,7 +6,7 @@ use Rattle.ipcz_script.specs.Reading.{IsJson}
 use Rattle.ipcz_verdict.specs.declared.entry.Entry.{Entry}
 use Rattle.ipcz_verdict.specs.declared.line.Line.{Line}
 use Rattle.ipcz_verdict.specs.Ledger.{IsAllowed}
-use Rattle.ipcz_verdict.specs.Together.{AreAllowed}
+use Rattle.ipcz_verdict.specs.Together.{AreAllowed, HasFronts, IsNextSomewhere}
 use Rattle.ipcz_log.specs.declared.header.Header.{Header}
 use Rattle.ipcz_log.specs.declared.verdict.Verdict.{Verdict}
 use Rattle.ipcz_log.specs.declared.verdict.Verdict.TheVariants as verdicts
@@ -52,11 +52,15 @@ IsSaidOf nodes profile log number (l ∷ ls) verdict =
     ⊎ ((line : Line) × IsLine l (Some line) × (IsAllowed nodes profile (log ++ line ∷ []) → ⊥) × (verdict ≡ verdicts.Refused number))
     ⊎ (IsLine l None × (verdict ≡ verdicts.NoLog number))
 
+-- so many steps are taken to find an order
+abbrev pub most_steps : ℕ
+most_steps = 10000000
+
 -- what is said of several logs that have these lines, of which only the order within each log is known
 abbrev pub IsSaidTogether : ℕ → Profile → List Entry → Verdict → Type 0
 IsSaidTogether nodes profile entries verdicts.Allowed = AreAllowed nodes profile entries
-IsSaidTogether nodes profile entries (verdicts.NoOrder number) = AreAllowed nodes profile entries → ⊥
-IsSaidTogether nodes profile entries verdicts.Untold = Unit {0}
+IsSaidTogether nodes profile entries (verdicts.NoOrder number) = (AreAllowed nodes profile entries → ⊥) × IsNextSomewhere nodes profile entries number
+IsSaidTogether nodes profile entries verdicts.Untold = HasFronts nodes profile entries most_steps
 IsSaidTogether nodes profile entries other = ⊥
 
 -- what is said of the lines that are left, if these went before; they are numbered from a number on. Each is a line of one of so many logs, and all together

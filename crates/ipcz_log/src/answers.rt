@@ -1,3 +1,4 @@
+//! Reading what a line says that a call answered.
 ghost use Rattle.std.specs.Prelude.{◌≡◌, option_map};
 ghost use Rattle.serde_json.specs.View.{view};
 ghost use Rattle.ipcz_log.specs.Logs.{answer_in, number_in, refusal_named, text_in};

@@ -1,3 +1,4 @@
+//! Reading the first line of a log.
 ghost use Rattle.std.specs.Prelude.{◌≡◌, ◌≤◌, IfSome};
 ghost use Rattle.serde_json.specs.View.{view};
 ghost use Rattle.ipcz_log.specs.Logs.{header_in, logs_in, profile_in};

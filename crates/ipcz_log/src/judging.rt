@@ -1,18 +1,23 @@
-ghost use Rattle.std.specs.Prelude.{◌≡◌, ◌≤◌, ◌<◌, ◌+◌, [], ℕ, length, drop, option_map, IfOk, IfSome};
+//! Judging a log line by line as it is read, and several logs once all of them are read.
+ghost use Rattle.std.specs.Prelude.{◌≡◌, ◌≤◌, ◌<◌, [], ℕ, List, Option, false, option_map, if◌then◌else◌, IfErr, IfOk, IfSome, OnOk};
 ghost use Rattle.serde_json.specs.View.{view};
 ghost use Rattle.ipcz_base.specs.declared.profile.Profile.{Profile};
+ghost use Rattle.ipcz_device.specs.declared.fault.Fault.TheVariants as fault;
 ghost use Rattle.ipcz_script.specs.Reading.{IsJson};
-ghost use Rattle.ipcz_verdict.specs.Desks.{HasAllowed};
 ghost use Rattle.ipcz_verdict.specs.Searches.{HasEntries};
-ghost use Rattle.ipcz_log.specs.Steps.{AreRead, JudgesLine};
-ghost use Rattle.ipcz_log.specs.Verdicts.{IsEntry, IsHeader, IsLine, IsSaidOf, IsSaidOfLogs, IsVerdict, line_len, text_lines};
+ghost use Rattle.ipcz_log.specs.Pieces.{ConsumesSome, HoldsOfInput};
+ghost use Rattle.ipcz_log.specs.Steps.{AreRead, Goes, JudgesLine};
+ghost use Rattle.ipcz_log.specs.Verdicts.{IsEntry, IsHeader, IsLine, IsSaidOf, IsSaidOfLogs, IsVerdict};
 
 use crate::header::{Header, header_in};
+use crate::lines::Lines;
 use crate::reading::{entry_in, line_in};
 use crate::verdict::Verdict;
+use ipcz_device::{Device, Fault};
 use ipcz_verdict::{Entry, Found, Judge, Line, Logs};
 use serde_json::Value;
 use std::alloc::{AllocError, Global};
+use std::io::Read;
 
 // The most steps of a search for an order of several logs.
 const MOST_STEPS: u64 = 10_000_000;
@@ -23,19 +28,6 @@ pub(crate) enum Heard {
     Allowed,
     Refused,
     NoLine,
-}
-
-// How many bytes stand before the first newline, or at all.
-fn line_len(text: &[u8]) -> usize
-    ensures len { result ≡ line_len text.now }
-    ensures within { result ≤ length text.now }
-{
-    for i in 0..text.len() {
-        if text[i] == b'\n' {
-            return i;
-        }
-    }
-    text.len()
 }
 
 // The JSON value that the bytes are, if they are one.
@@ -85,33 +77,30 @@ fn hear(alloc: Global, judge: &mut Judge, bytes: &[u8]) -> Result<Heard, AllocEr
     }
 }
 
-// The bytes behind the first line and its newline.
-fn behind(text: &[u8], len: usize) -> &[u8]
-    requires { len ≤ length text.now }
-    ensures { result.now ≡ drop (len + 1) text.now }
+// What is said of the lines of one log.
+fn judge_lines<R: Read>(
+    alloc: Global,
+    header: Header,
+    lines: &mut Lines,
+    reader: &mut Device<R>,
+) -> Result<Verdict, Fault>
+    requires some { 1 ≤ header.nodes }
+    requires few { header.nodes ≤ 8 }
+    requires works { reader.old.failed ≡ false }
+    ensures said { (before : Option (List ℕ)) → Goes before (R.remaining reader.old.inner) lines.old (IsSaidOf header.nodes header.profile [] 2) →
+        IfOk result (λ verdict. HoldsOfInput before (R.remaining reader.new.inner) (λ input. IsVerdict input verdict)) }
+    ensures taken { ConsumesSome (R.remaining reader.old.inner) (R.remaining reader.new.inner) }
+    ensures ok { OnOk result (reader.new.failed ≡ false) }
+    ensures fault { IfErr result (λ why. why ≡ (if reader.new.failed then fault.Read else fault.OutOfMemory)) }
 {
-    if len < text.len() {
-        &text[len + 1..]
-    } else {
-        &[]
-    }
-}
-
-// What is said of the lines of a text.
-fn judge_lines(alloc: Global, judge: &mut Judge, text: &[u8]) -> Result<Verdict, AllocError>
-    ensures { (nodes : ℕ) (profile : Profile) → HasAllowed judge.old nodes profile [] →
-        IfOk result (λ verdict. IsSaidOf nodes profile [] 2 (text_lines text.now) verdict) }
-{
-    let mut rest = text;
+    let mut judge = Judge::new(alloc, header.nodes, header.profile)?;
     let mut number = 2u64;
-    while !rest.is_empty() {
-        let len = line_len(rest);
-        match hear(alloc, judge, &rest[..len])? {
+    'judging: while lines.next(reader)? {
+        match hear(alloc, &mut judge, lines.line())? {
             Heard::Allowed => {}
             Heard::Refused => return Ok(Verdict::Refused(number)),
             Heard::NoLine => return Ok(Verdict::NoLog(number)),
         }
-        rest = behind(rest, len);
         number = number.checked_add(1).ok_or(AllocError)?;
     }
     Ok(Verdict::Allowed)
@@ -133,40 +122,54 @@ fn read_entry(
     entry_in(alloc, count, number, &value)
 }
 
-// Reads the lines of a text, of so many logs, or says which is the first that is no line of one.
-fn read_lines(
+// Reads the lines of so many logs, or says which is the first that is no line of one.
+fn read_lines<R: Read>(
     alloc: Global,
     logs: &mut Logs,
     count: u8,
-    text: &[u8],
-) -> Result<Option<u64>, AllocError>
-    requires { count ≤ 64 }
-    ensures { HasEntries logs.old [] → (nodes : ℕ) (profile : Profile) →
-        IfOk result (λ wrong. AreRead nodes profile count (text_lines text.now) logs.new wrong) }
+    lines: &mut Lines,
+    reader: &mut Device<R>,
+) -> Result<Option<u64>, Fault>
+    requires count { count ≤ 64 }
+    requires works { reader.old.failed ≡ false }
+    ensures read { (before : Option (List ℕ)) (nodes : ℕ) (profile : Profile) → HasEntries logs.old [] →
+        Goes before (R.remaining reader.old.inner) lines.old (IsSaidOfLogs nodes profile count [] 2) →
+        IfOk result (λ wrong. AreRead before (R.remaining reader.new.inner) nodes profile logs.new wrong) }
+    ensures taken { ConsumesSome (R.remaining reader.old.inner) (R.remaining reader.new.inner) }
+    ensures ok { OnOk result (reader.new.failed ≡ false) }
+    ensures fault { IfErr result (λ why. why ≡ (if reader.new.failed then fault.Read else fault.OutOfMemory)) }
 {
-    let mut rest = text;
     let mut number: u64 = 2;
-    while !rest.is_empty() {
-        let len = line_len(rest);
-        let Some(entry) = read_entry(alloc, count, number, &rest[..len])? else {
+    'collecting: while lines.next(reader)? {
+        let Some(entry) = read_entry(alloc, count, number, lines.line())? else {
             return Ok(Some(number));
         };
         logs.push(entry)?;
-        rest = behind(rest, len);
         number = number.checked_add(1).ok_or(AllocError)?;
     }
     Ok(None)
 }
 
-// What is said of the lines of several logs.
-fn judge_logs(alloc: Global, header: Header, count: u8, text: &[u8]) -> Result<Verdict, AllocError>
+// What is said of the lines of several logs, all of which are read before.
+fn judge_logs<R: Read>(
+    alloc: Global,
+    header: Header,
+    count: u8,
+    lines: &mut Lines,
+    reader: &mut Device<R>,
+) -> Result<Verdict, Fault>
     requires some { 1 ≤ header.nodes }
     requires few { header.nodes ≤ 8 }
     requires count { count ≤ 64 }
-    ensures { IfOk result (λ verdict. IsSaidOfLogs header.nodes header.profile count [] 2 (text_lines text.now) verdict) }
+    requires works { reader.old.failed ≡ false }
+    ensures said { (before : Option (List ℕ)) → Goes before (R.remaining reader.old.inner) lines.old (IsSaidOfLogs header.nodes header.profile count [] 2) →
+        IfOk result (λ verdict. HoldsOfInput before (R.remaining reader.new.inner) (λ input. IsVerdict input verdict)) }
+    ensures taken { ConsumesSome (R.remaining reader.old.inner) (R.remaining reader.new.inner) }
+    ensures ok { OnOk result (reader.new.failed ≡ false) }
+    ensures fault { IfErr result (λ why. why ≡ (if reader.new.failed then fault.Read else fault.OutOfMemory)) }
 {
     let mut logs = Logs::new(alloc)?;
-    if let Some(number) = read_lines(alloc, &mut logs, count, text)? {
+    if let Some(number) = read_lines(alloc, &mut logs, count, lines, reader)? {
         return Ok(Verdict::NoLog(number));
     }
     match logs.find_order(alloc, header.nodes, header.profile, MOST_STEPS)? {
@@ -176,18 +179,26 @@ fn judge_logs(alloc: Global, header: Header, count: u8, text: &[u8]) -> Result<V
     }
 }
 
-/// What is said of some bytes: whether they are a log, and one that the promise allows, and if not, which is the first line that isn't.
-pub fn judge_log(alloc: Global, bytes: &[u8]) -> Result<Verdict, AllocError>
-    ensures { IfOk result (λ verdict. IsVerdict bytes.now verdict) }
+/// What is said of what a reader gives: whether it is a log, and one that the promise allows, and if not, which is the first line that isn't.
+///
+/// One log is judged line by line, as it comes, and read up to the first line that decides; of it no more is kept than one line, and what was read together with
+/// its end. Of several logs all lines are kept, up to the first that is none. The answer is `Fault::Read` if a read fails, and `Fault::OutOfMemory` if no memory
+/// is found, or a line has more than 1,073,741,824 bytes.
+pub fn judge_log<R: Read>(alloc: Global, reader: &mut Device<R>) -> Result<Verdict, Fault>
+    requires works { reader.old.failed ≡ false }
+    ensures verdict { IfOk result (λ verdict.
+        HoldsOfInput (R.remaining reader.old.inner) (R.remaining reader.new.inner) (λ input. IsVerdict input verdict)) }
+    ensures taken { ConsumesSome (R.remaining reader.old.inner) (R.remaining reader.new.inner) }
+    ensures ok { OnOk result (reader.new.failed ≡ false) }
+    ensures fault { IfErr result (λ why. why ≡ (if reader.new.failed then fault.Read else fault.OutOfMemory)) }
 {
-    let len = line_len(bytes);
-    let Some(header) = read_header(alloc, &bytes[..len])? else {
+    let mut lines = Lines::new(alloc);
+    lines.next(reader)?;
+    let Some(header) = read_header(alloc, lines.line())? else {
         return Ok(Verdict::NoLog(1));
     };
-    let text = behind(bytes, len);
-    if let Some(count) = header.logs {
-        return judge_logs(alloc, header, count, text);
+    match header.logs {
+        Some(count) => judge_logs(alloc, header, count, &mut lines, reader),
+        None => judge_lines(alloc, header, &mut lines, reader),
     }
-    let mut judge = Judge::new(alloc, header.nodes, header.profile)?;
-    judge_lines(alloc, &mut judge, text)
 }

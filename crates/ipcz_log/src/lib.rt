@@ -4,6 +4,7 @@
 mod answers;
 mod header;
 mod judging;
+mod lines;
 pub mod program;
 mod reading;
 mod verdict;

@@ -5,14 +5,12 @@ ghost use Rattle.ipcz_log.specs.Outputs.{help, Judges, IsText, ReadsAndWrites, s
 
 use crate::judging::judge_log;
 use crate::verdict::Verdict;
-use ipcz_device::{Device, read_up_to, write_whole};
+use ipcz_device::{Device, write_whole};
 use ipcz_script::RunFault;
 use std::alloc::{AllocError, Global};
 use std::env;
 use std::env::Env;
 use std::io::{ErrorKind, Read, Write};
-
-const MOST_READ: usize = 1_073_741_825;
 
 const USAGE: &[u8] = b"usage: ipcz_judge [--help] < LOG\n";
 
@@ -64,10 +62,10 @@ fn text_of(alloc: Global, verdict: Verdict) -> Result<String, AllocError>
     }
 }
 
-/// Reads a log to its end, judges it, and writes what is said of it.
+/// Reads a log up to what decides it, judges it, and writes what is said of it.
 ///
-/// At most 1,073,741,825 bytes are read. `RunFault::Read` and `RunFault::Write` say that the reader or the writer has failed;
-/// `RunFault::OutOfMemory` that no memory was found, in which case nothing was written, as after a failed read.
+/// `RunFault::Read` and `RunFault::Write` say that the reader or the writer has failed; `RunFault::OutOfMemory` that no memory was found, or that a line has more
+/// than 1,073,741,824 bytes. In both cases nothing was written, as after a failed read.
 pub fn check<R: Read, W: Write>(
     alloc: Global,
     reader: &mut Device<R>,
@@ -80,8 +78,7 @@ pub fn check<R: Read, W: Write>(
     ensures read { IsErrOf result RunFault.Read ↔ IsTrue reader.new.failed }
     ensures write { IsErrOf result RunFault.Write ↔ IsTrue writer.new.failed }
 {
-    let input = read_up_to(alloc, reader, MOST_READ)?;
-    let verdict = judge_log(alloc, &input)?;
+    let verdict = judge_log(alloc, reader)?;
     let text = text_of(alloc, verdict)?;
     let Ok(()) = write_whole(writer, text.as_bytes()) else {
         return Err(RunFault::Write);

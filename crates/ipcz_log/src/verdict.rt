@@ -1,3 +1,5 @@
+//! What a judge of calls says of a log.
+
 /// What a judge says of a log.
 #[derive(Clone, Copy, Debug, PartialEq, Eq)]
 pub enum Verdict {

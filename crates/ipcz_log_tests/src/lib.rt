@@ -4,6 +4,8 @@
 #[cfg(test)]
 mod orders;
 #[cfg(test)]
+mod pieces;
+#[cfg(test)]
 mod statuses;
 #[cfg(test)]
 mod verdicts;

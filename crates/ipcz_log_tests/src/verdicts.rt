@@ -1,5 +1,6 @@
 //! What is said of logs.
 
+use ipcz_device::{Device, Fault};
 use ipcz_log::{Verdict, judge_log};
 use std::alloc::{AllocError, Global};
 
@@ -59,10 +60,15 @@ const NO_LINES: [&str; 12] = [
     "{\"node\":0,\"op\":\"put\",\"at\":\"0>1\",\"bytes\":\"\",\"portals\":[1],\"n\":2}",
 ];
 
+// What is said of a text.
+fn judged(alloc: Global, text: &str) -> Result<Verdict, Fault> {
+    judge_log(alloc, &mut Device::new(text.as_bytes()))
+}
+
 // The first log that isn't judged so.
 fn first_other(alloc: Global, logs: &[&str], want: Verdict) -> Option<usize> {
     for (i, log) in logs.iter().enumerate() {
-        if judge_log(alloc, log.as_bytes()) != Ok(want) {
+        if judged(alloc, log) != Ok(want) {
             return Some(i);
         }
     }
@@ -70,9 +76,9 @@ fn first_other(alloc: Global, logs: &[&str], want: Verdict) -> Option<usize> {
 }
 
 // What is said of the three lines with one more.
-fn behind_puts(alloc: Global, line: &str) -> Result<Verdict, AllocError> {
+fn behind_puts(alloc: Global, line: &str) -> Result<Verdict, Fault> {
     let text = format!(in alloc; "{PUT}{line}\n")?;
-    judge_log(alloc, text.as_bytes())
+    judged(alloc, text.as_str())
 }
 
 // The first line that isn't judged so behind the three.
@@ -119,9 +125,9 @@ const TWO_LOGS: &str =
     "{\"log\":0,\"node\":1,\"op\":\"get\",\"at\":\"1>0\",\"bytes\":\"a\",\"n\":0}\n{\"log\":0,\"node\":1,\"op\":\"get\",\"at\":\"1>0\",\"refused\":\"Empty\"}\n{\"log\":1,\"node\":0,\"op\":\"put\",\"at\":\"0>1\",\"bytes\":\"a\",\"n\":0}\n{\"log\":1,\"node\":0,\"op\":\"put\",\"at\":\"0>1\",\"bytes\":\"b\",\"n\":1}\n";
 
 // What is said of the two logs under a header, with a line more.
-fn together(alloc: Global, header: &str, line: &str) -> Result<Verdict, AllocError> {
+fn together(alloc: Global, header: &str, line: &str) -> Result<Verdict, Fault> {
     let text = format!(in alloc; "{header}\n{TWO_LOGS}{line}")?;
-    judge_log(alloc, text.as_bytes())
+    judged(alloc, text.as_str())
 }
 
 #[test]
@@ -199,9 +205,9 @@ fn long_log(alloc: Global, puts: u64) -> Result<String, AllocError> {
 }
 
 // What is said of a log of so many puts and gets.
-fn long_verdict(alloc: Global, puts: u64) -> Result<Verdict, AllocError> {
+fn long_verdict(alloc: Global, puts: u64) -> Result<Verdict, Fault> {
     let log = long_log(alloc, puts)?;
-    judge_log(alloc, log.as_bytes())
+    judged(alloc, log.as_str())
 }
 
 #[test]

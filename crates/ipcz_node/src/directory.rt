@@ -1,3 +1,4 @@
+//! A node's routers, filed by all that they are looked up by.
 ghost use Rattle.std.specs.Prelude.{◌≡◌, ◌+◌, ◌<◌, ◌≤◌, ◌-◌, ◌^◌, Some, true};
 ghost use Rattle.std.specs.Prelude.{is_some, OnOk, OnErr, IfErr, IsSomeAnd, option_copied, option_map};
 ghost use Rattle.std.specs.FinMap.{get, empty};

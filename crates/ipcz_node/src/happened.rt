@@ -1,3 +1,4 @@
+//! What a turn is seen to do, and how it prints.
 ghost use Rattle.std.specs.Prelude.{◌≡◌};
 ghost use Rattle.ipcz_node.specs.Hands.{link_asked, side_asked};
 ghost use Rattle.ipcz_node.specs.Events.{act_event, dropped_event, kind_of, link_of, retired_event, sent_event, unlock_event, word_event};

@@ -1,3 +1,4 @@
+//! The ends that a node's callers hold.
 ghost use Rattle.std.specs.Prelude.{◌≡◌, ◌<◌, ◌≤◌, ◌+◌, length, is_some, OnOk, IsOk};
 ghost use Rattle.std.specs.FinSet as sets;
 ghost use Rattle.ipcz_node.specs.Node.{with_ends, without_ends};

@@ -1,3 +1,4 @@
+//! The order in which a node keeps its links.
 ghost use Rattle.std.specs.Prelude.{◌≡◌};
 ghost use Rattle.ipcz_node.specs.LinkPlaces.{link_place};
 

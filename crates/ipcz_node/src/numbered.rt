@@ -1,3 +1,4 @@
+//! Numbers that tell a sorted set where to look first.
 use crate::link_place::LinkPlace;
 use ipcz_base::{End, Side};
 

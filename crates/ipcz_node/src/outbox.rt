@@ -1,3 +1,4 @@
+//! The messages of a node that wait for a mailbox.
 ghost use Rattle.std.specs.Prelude.{◌≤◌, ◌≡◌, ◌<◌, ◌++◌, [], ◌∷◌, nat_eq, length, slice_get, option_copied, OnOk, IsOk};
 ghost use Rattle.ipcz_node.specs.Acts.{first_of, rest_of};
 

@@ -1,3 +1,4 @@
+//! A node's outboxes, one for each other node and its own.
 ghost use Rattle.std.specs.Prelude.{ℕ, ◌≤◌, ◌≡◌, ◌<◌, ◌++◌, [], ◌∷◌, not, nat_eq, length, map, replicate, OnOk, IfOk, IsOk};
 ghost use Rattle.ipcz_base.specs.Indexed.{place_at, put_place};
 ghost use Rattle.ipcz_node.specs.Acts.{first_of, rest_of, are_empty};

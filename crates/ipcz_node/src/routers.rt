@@ -1,3 +1,4 @@
+//! The routers of a node by serial.
 ghost use Rattle.std.specs.Prelude.{◌≡◌, ◌+◌, ◌<◌, ◌≤◌, ◌-◌, ◌^◌, ℕ, Some, None, is_some, true, OnOk, IsOk, IfSome, MatchOption};
 ghost use Rattle.std.specs.Prelude.{option_copied, option_map, length};
 ghost use Rattle.std.specs.List.{AllWithin};

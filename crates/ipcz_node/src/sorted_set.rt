@@ -1,3 +1,4 @@
+//! A set in a sorted vector.
 ghost use Rattle.std.specs.Prelude.{◌≡◌, ◌+◌, ◌-◌, ◌<◌, ◌≤◌, ◌||◌, ◌&&◌, not, true, false, [], if◌then◌else◌, length, get_or, IsTrue, OnOk, IfOk, IfErr, IfSome, IsOk};
 ghost use Rattle.std.specs.Prelude.{is_some, IfNone};
 ghost use Rattle.std.specs.Ordering.{is_eq, is_lt};

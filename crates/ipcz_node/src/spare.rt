@@ -1,3 +1,4 @@
+//! Lists with room that is kept for later.
 ghost use Rattle.std.specs.Prelude.{◌≡◌, ◌≤◌, [], vec_capacity, OnOk, IsOk};
 
 use std::alloc::{AllocError, Global};

@@ -1,3 +1,4 @@
+//! The state of a node. What it does stands in the modules below.
 ghost use Rattle.std.specs.Prelude.{◌≡◌, ◌≤◌, ◌-◌, Some, None, true, map, vec_len};
 ghost use Rattle.std.specs.Prelude.{vec_capacity, option_copied, option_map, IfSome, IfNone, IsSomeAnd};
 ghost use Rattle.std.specs.FinMap.{len};

@@ -1,3 +1,5 @@
+//! Why a text is no JSON, and where it stops being one.
+
 /// Why a text is no JSON from an offset on.
 #[derive(Clone, Copy, Debug, PartialEq, Eq)]
 pub enum Broken {

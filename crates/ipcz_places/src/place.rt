@@ -1,3 +1,4 @@
+//! Places in a text, by line and column.
 ghost use Rattle.std.specs.Prelude.{◌≡◌, ◌<◌, ◌≤◌, ◌==◌, ◌+◌, ◌^◌, length, if◌then◌else◌};
 ghost use Rattle.ipcz_places.specs.Places.{column_at, line_at, IsPlace};
 

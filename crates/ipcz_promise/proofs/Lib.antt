@@ -12,6 +12,7 @@ pub mod Parcels
 mod Pending
 mod PendingSteps
 mod Promised
+mod Ready
 mod Refusals
 pub mod Resting
 mod Retrying

@@ -91,23 +91,34 @@ module _ (w : World) (a : Account) (k : Stands w a) (v : World) where
         go Printed s = (plain (Put n at bytes ends) (replies.Refused why) s).0
         go Wide s = (plain (PutWide n at bytes ends) (replies.Refused why) s).0
 
+    put-books : (number : ℕ) → add_put k.books at (Parcel parcel) ≡ advance w k.books (put_of profile n at bytes ends) (replies.Put number)
+    unfolding advance
+    put-books number = go profile
+      where
+        go : (q : Profile) → add_put k.books at (Parcel parcel) ≡ advance w k.books (put_of q n at bytes ends) (replies.Put number)
+        go Printed = refl
+        go Wide = refl
+
     put-keeps : n < w.count → Lawful v (add_put k.books at (Parcel parcel)) k.routes → hold_each a n ends ≡ true →
         (x : Node) → v ≡ set_node w n x → x.held ≡ without_ends (node_at w n).held ends → x.pending ≡ (node_at w n).pending →
-        Stands v (put_parcel a at parcel)
-    put-keeps l law each x is held same = record {
-      books = add_put k.books at (Parcel parcel);
-      routes = k.routes;
-      lawful = law;
-      nodes = k.nodes ∙ sym counts;
-      opened = k.opened;
-      holder = holder;
-      real = real;
-      put = λ e. puts e (same_end e at);
-      got = k.got;
-      closed = λ e. closes e (same_end e at) refl;
-      pending = pending-at w v k.books k.pending _ (goes-put k.books at (Parcel parcel))
-          (back-put w k.books k.routes k.lawful at (Parcel parcel)) n x is same;
-    }
+        (t : Stands v (put_parcel a at parcel)) × (t.books ≡ add_put k.books at (Parcel parcel))
+    put-keeps l law each x is held same = (
+      record {
+        books = add_put k.books at (Parcel parcel);
+        routes = k.routes;
+        lawful = law;
+        nodes = k.nodes ∙ sym counts;
+        opened = k.opened;
+        holder = holder;
+        real = real;
+        put = λ e. puts e (same_end e at);
+        got = k.got;
+        closed = λ e. closes e (same_end e at) refl;
+        pending = pending-at w v k.books k.pending _ (goes-put k.books at (Parcel parcel))
+            (back-put w k.books k.routes k.lawful at (Parcel parcel)) n x is same;
+      },
+      refl,
+    )
       where
         counts : v.count ≡ w.count
         counts = ap (λ (u : World). u.count) is ∙ count-set_node w n x
@@ -147,16 +158,14 @@ module _ (w : World) (a : Account) (k : Stands w a) (v : World) where
 
     put-promised : n < w.count → put_refusal profile (node_at w n) at bytes ends ≡ None → (number : ℕ) →
         v ≡ set_node w n (put_node (node_at w n) at parcel) → StepAny w (put_of profile n at bytes ends) (replies.Put number) v →
-        IsStepped w a (put_of profile n at bytes ends) (replies.Put number) v
+        IsStepped w a k (put_of profile n at bytes ends) (replies.Put number) v
     put-promised l fine number is s =
         let t = put_tells profile (node_at w n) at parcel fine in
         let p = put-after number s in
-        let good = is-put w a k profile n at bytes ends l fine number p.1 in (
-          put_parcel a at parcel,
-          may-put w a k profile n at bytes ends number good,
-          put-keeps l p.0 (is-held w a k profile n at bytes ends l good.accepted).1 (put_node (node_at w n) at parcel) is (put-held (node_at w n) at parcel t.0 t.1)
-              (pending-put (node_at w n) at parcel),
-        )
+        let good = is-put w a k profile n at bytes ends l fine number p.1 in
+        let kept = put-keeps l p.0 (is-held w a k profile n at bytes ends l good.accepted).1 (put_node (node_at w n) at parcel) is
+        (put-held (node_at w n) at parcel t.0 t.1) (pending-put (node_at w n) at parcel) in
+        (put_parcel a at parcel, may-put w a k profile n at bytes ends number good, kept.0, kept.1 ∙ put-books number)
 
   -- a get
   module _ (n : ℕ) (at : End) where
@@ -168,7 +177,8 @@ module _ (w : World) (a : Account) (k : Stands w a) (v : World) where
 
     get-promised : n < w.count → holds a n at ≡ true → (number : ℕ) (p : parcels.Parcel) (x : Node) → v ≡ set_node w n x →
         x.held ≡ with_ends (node_at w n).held p.ends → x.pending ≡ (node_at w n).pending → StepAny w (Get n at) (replies.Got number p) v →
-        IsStepped w a (Get n at) (replies.Got number p) v
+        IsStepped w a k (Get n at) (replies.Got number p) v
+    unfolding advance
     get-promised l here number p x is held same s = (
       get_parcel a n at p,
       (good, refl),
@@ -185,6 +195,7 @@ module _ (w : World) (a : Account) (k : Stands w a) (v : World) where
         closed = k.closed;
         pending = pending-at w v k.books k.pending _ (goes-got k.books at p open_) (back-got k.books at p open_) n x is same;
       },
+      refl,
     )
       where
         q : Lawful v (add_got k.books at p) k.routes × (number ≡ read k.books at) × (next_item k.books at ≡ Some (Parcel p))
@@ -260,20 +271,23 @@ module _ (w : World) (a : Account) (k : Stands w a) (v : World) where
   closed-keeps : (at : End) (c : Routes) → Lawful v (add_put k.books at Mark) c →
       ((pair : ℕ) → is_opened k.routes pair ≡ true → is_opened c pair ≡ true) → v.count ≡ w.count →
       ((m : ℕ) (e : End) → m < w.count → holds_end (node_at v m) e ≡ (not (same_end e at) && holds_end (node_at w m) e)) →
-      PendingFits v (add_put k.books at Mark) → Stands v (close_portal a at)
-  closed-keeps at c law opens counts held pend = record {
-    books = add_put k.books at Mark;
-    routes = c;
-    lawful = law;
-    nodes = k.nodes ∙ sym counts;
-    opened = λ pair h. opens pair (k.opened pair h);
-    holder = holder;
-    real = real;
-    put = λ e. puts e (same_end e at) refl;
-    got = k.got;
-    closed = λ e. closes e (same_end e at);
-    pending = pend;
-  }
+      PendingFits v (add_put k.books at Mark) → (t : Stands v (close_portal a at)) × (t.books ≡ add_put k.books at Mark)
+  closed-keeps at c law opens counts held pend = (
+    record {
+      books = add_put k.books at Mark;
+      routes = c;
+      lawful = law;
+      nodes = k.nodes ∙ sym counts;
+      opened = λ pair h. opens pair (k.opened pair h);
+      holder = holder;
+      real = real;
+      put = λ e. puts e (same_end e at) refl;
+      got = k.got;
+      closed = λ e. closes e (same_end e at);
+      pending = pend;
+    },
+    refl,
+  )
     where
       holder : (m : ℕ) (e : End) → m < v.count → holds_end (node_at v m) e ≡ is_holder (cond (same_end e at) None (a.holder e)) m
       holder m e h = held m e inside ∙ go (same_end e at)
@@ -301,14 +315,13 @@ module _ (w : World) (a : Account) (k : Stands w a) (v : World) where
       closes e false = k.closed e
 
   close-promised : (n : ℕ) (at : End) → n < w.count → holds a n at ≡ true → (number : ℕ) → v ≡ set_node w n (close_node (node_at w n) at) →
-      StepAny w (Close n at) (replies.Closed number) v → IsStepped w a (Close n at) (replies.Closed number) v
+      StepAny w (Close n at) (replies.Closed number) v → IsStepped w a k (Close n at) (replies.Closed number) v
+  unfolding advance
   close-promised n at l here number is s =
-      let t = close-after n at number s in (
-        close_portal a at,
-        (here, t.1 ∙ number-is w a k at (open-held w a k n at l here), refl),
-        closed-keeps at k.routes t.0 (λ pair h. h) (ap (λ (u : World). u.count) is ∙ count-set_node w n x) held
-            (pending-at w v k.books k.pending _ (goes-put k.books at Mark) (back-put w k.books k.routes k.lawful at Mark) n x is (pending-close (node_at w n) at)),
-      )
+      let t = close-after n at number s in
+      let kept = closed-keeps at k.routes t.0 (λ pair h. h) (ap (λ (u : World). u.count) is ∙ count-set_node w n x) held
+      (pending-at w v k.books k.pending _ (goes-put k.books at Mark) (back-put w k.books k.routes k.lawful at Mark) n x is (pending-close (node_at w n) at)) in
+      (close_portal a at, (here, t.1 ∙ number-is w a k at (open-held w a k n at l here), refl), kept.0, kept.1)
     where
       x : Node
       x = close_node (node_at w n) at
@@ -340,7 +353,8 @@ module _ (w : World) (a : Account) (k : Stands w a) (v : World) where
 
     open-promised : n < w.count → is_linked (k.lawful.records.owner i) ≡ false → v.count ≡ w.count →
         ((m : ℕ) → nat_eq m n ≡ false → node_at v m ≡ node_at w m) → (node_at v n).held ≡ (open_node (node_at w n) i).held →
-        (node_at v n).pending ≡ (node_at w n).pending → StepAny w (Open n) (opened_reply i) v → IsStepped w a (Open n) (opened_reply i) v
+        (node_at v n).pending ≡ (node_at w n).pending → StepAny w (Open n) (opened_reply i) v → IsStepped w a k (Open n) (opened_reply i) v
+    unfolding advance
     open-promised l free counts others held same s = (
       open_pair a n (end_at i A),
       (inside-accounts w a k n l, refl, new A, new B, refl),
@@ -357,6 +371,7 @@ module _ (w : World) (a : Account) (k : Stands w a) (v : World) where
         closed = k.closed;
         pending = still-pending w v k.books k.pending k.books (goes-same k.books) (back-same k.books) counts (λ m. pendings m (nat_eq m n) refl);
       },
+      refl,
     )
       where
         pendings : (m : ℕ) (c : Bool) → nat_eq m n ≡ c → (node_at v m).pending ≡ (node_at w m).pending
@@ -437,13 +452,14 @@ module _ (w : World) (a : Account) (k : Stands w a) (v : World) where
             go false h = let r = k.real m e h in omega (arith, r, counts)
 
   open-refused : (n : ℕ) (why : Refusal) (reply : Reply) → reply ≡ replies.Refused why → v ≡ w → MayRefuse a (Open n) why →
-      IsStepped w a (Open n) reply v
-  open-refused n why reply e f h = rw (e, f) (a, (h, refl), k)
+      IsStepped w a k (Open n) reply v
+  unfolding advance
+  open-refused n why reply e f h = rw (e, f) (a, (h, refl), k, refl)
 
   -- an open on the word of an open under way, or on the next one
   opened-with : (n i : ℕ) (counted : World) (reply : Reply) → n < w.count → is_linked (k.lawful.records.owner i) ≡ false →
       ((m : ℕ) → node_at counted m ≡ node_at w m) → counted.count ≡ w.count → Gives (open_with w counted n i) reply v →
-      StepAny w (Open n) reply v → IsStepped w a (Open n) reply v
+      StepAny w (Open n) reply v → IsStepped w a k (Open n) reply v
   unfolding unless
   opened-with n i counted reply l free same counts gives s = go (serials_refusal (node_at w n)) refl gives
     where
@@ -454,8 +470,8 @@ module _ (w : World) (a : Account) (k : Stands w a) (v : World) where
       few true why e = cc
       few false why e = subst (MayRefuse a (Open n)) (same_Some refusals.NumbersEnd why e) (inside-accounts w a k n l)
 
-      done : reply ≡ opened_reply i → v ≡ set_word (set_node counted n x) i open_word → IsStepped w a (Open n) reply v
-      done e f = subst (λ r. IsStepped w a (Open n) r v) (sym e) (open-promised n i l free
+      done : reply ≡ opened_reply i → v ≡ set_word (set_node counted n x) i open_word → IsStepped w a k (Open n) reply v
+      done e f = subst (λ r. IsStepped w a k (Open n) r v) (sym e) (open-promised n i l free
           (ap (λ (u : World). u.count) f ∙ count-set_word _ i open_word ∙ count-set_node counted n x ∙ counts)
           (λ m ne. nodes m ∙ ap (λ c. cond c x (node_at counted m)) ne ∙ same m)
           (ap (λ (z : Node). z.held) (nodes n ∙ ap (λ c. cond c x (node_at counted n)) (nat_eq-itself n)))
@@ -468,15 +484,15 @@ module _ (w : World) (a : Account) (k : Stands w a) (v : World) where
       go : (o : Option Refusal) → serials_refusal (node_at w n) ≡ o → Gives (unless w o (record {
         reply = opened_reply i;
         world = set_word (set_node counted n x) i open_word;
-      })) reply v → IsStepped w a (Open n) reply v
+      })) reply v → IsStepped w a k (Open n) reply v
       go None q (e, f) = done e f
       go (Some why) q (e, f) = open-refused n why reply e f (few (has_serials (node_at w n).next_router 2) why q)
 
-  open-step : (n : ℕ) (reply : Reply) → Gives (open_step w n) reply v → StepAny w (Open n) reply v → IsStepped w a (Open n) reply v
+  open-step : (n : ℕ) (reply : Reply) → Gives (open_step w n) reply v → StepAny w (Open n) reply v → IsStepped w a k (Open n) reply v
   unfolding open_on is_linked
   open-step n reply gives s = go (nat_lt n w.count) refl gives
     where
-      on : (o : Option ℕ) → n < w.count → (node_at w n).opening ≡ o → Gives (open_on w n o) reply v → IsStepped w a (Open n) reply v
+      on : (o : Option ℕ) → n < w.count → (node_at w n).opening ≡ o → Gives (open_on w n o) reply v → IsStepped w a k (Open n) reply v
       on (Some i) l e h = opened-with n i w reply l (ap is_linked (k.lawful.inv.spares.opening n i e)) (λ m. refl) refl h s
       on None l e h = room (has_unclaimed_word w) h
         where
@@ -485,13 +501,13 @@ module _ (w : World) (a : Account) (k : Stands w a) (v : World) where
               (k.lawful.inv.counts.unclaimed w.claimed ∙ grind (arith, nat_tests)))
 
           room : (c : Bool) → Gives (if c then open_with w (set_claimed w (w.claimed + 1)) n w.claimed else refuse w refusals.NoWord) reply v →
-              IsStepped w a (Open n) reply v
+              IsStepped w a k (Open n) reply v
           room true h = opened-with n w.claimed (set_claimed w (w.claimed + 1)) reply l fresh (λ m. node-set_claimed w (w.claimed + 1) m)
               (count-set_claimed w (w.claimed + 1)) h s
           room false (e, f) = open-refused n refusals.NoWord reply e f (inside-accounts w a k n l)
 
       go : (c : Bool) → nat_lt n w.count ≡ c → Gives (if c then open_on w n (node_at w n).opening else refuse w refusals.Stranger) reply v →
-          IsStepped w a (Open n) reply v
+          IsStepped w a k (Open n) reply v
       go true e h = on (node_at w n).opening (grind (arith, e, nat_tests)) refl h
       go false e (p, q) = open-refused n refusals.Stranger reply p q (beyond e)
         where
@@ -519,26 +535,29 @@ module _ (w : World) (a : Account) (k : Stands w a) (v : World) where
       -- books that say the same of parcels and closes
       same-keeps : (b : Books) (c : Routes) → Lawful v b c → ((pair : ℕ) → is_opened k.routes pair ≡ true → is_opened c pair ≡ true) →
           ((e : End) → parcels_in (b.put e) ≡ parcels_in (k.books.put e)) → ((e : End) → has_mark (b.put e) ≡ has_mark (k.books.put e)) →
-          b.got ≡ k.books.got → PendingFits v b → Stands v a
-      same-keeps b c law opens puts marks gots pend = record {
-        books = b;
-        routes = c;
-        lawful = law;
-        nodes = k.nodes ∙ sym counts;
-        opened = λ pair h. opens pair (k.opened pair h);
-        holder = λ m e l. ap (λ z. sets.contains z e) (held m) ∙ k.holder m e (omega (arith, l, counts));
-        real = λ m e h. let r = k.real m e h in omega (arith, r, counts);
-        put = λ e. k.put e ∙ sym (puts e);
-        got = λ e. k.got e ∙ ap (λ f. f e) (sym gots);
-        closed = λ e. k.closed e ∙ sym (marks e);
-        pending = pend;
-      }
+          b.got ≡ k.books.got → PendingFits v b → (t : Stands v a) × (t.books ≡ b)
+      same-keeps b c law opens puts marks gots pend = (
+        record {
+          books = b;
+          routes = c;
+          lawful = law;
+          nodes = k.nodes ∙ sym counts;
+          opened = λ pair h. opens pair (k.opened pair h);
+          holder = λ m e l. ap (λ z. sets.contains z e) (held m) ∙ k.holder m e (omega (arith, l, counts));
+          real = λ m e h. let r = k.real m e h in omega (arith, r, counts);
+          put = λ e. k.put e ∙ sym (puts e);
+          got = λ e. k.got e ∙ ap (λ f. f e) (sym gots);
+          closed = λ e. k.closed e ∙ sym (marks e);
+          pending = pend;
+        },
+        refl,
+      )
 
       -- a pending close
       closing : (e : End) (b : Books) (c : Routes) → b ≡ add_put k.books e Mark → Lawful v b c →
           ((pair : ℕ) → is_opened k.routes pair ≡ true → is_opened c pair ≡ true) → PendingFits v b →
-          (a.holder e ≡ None) × (a.closed e ≡ false) × Stands v (close_portal a e)
-      closing e b c is law0 opens pend = (unheld, unclosed, closed-keeps e c law opens counts was (subst (PendingFits v) is pend))
+          (a.holder e ≡ None) × (a.closed e ≡ false) × (t : Stands v (close_portal a e)) × (t.books ≡ b)
+      closing e b c is law0 opens pend = (unheld, unclosed, kept.0, kept.1 ∙ sym is)
         where
           law : Lawful v (add_put k.books e Mark) c
           law = subst (λ z. Lawful v z c) is law0
@@ -570,40 +589,37 @@ module _ (w : World) (a : Account) (k : Stands w a) (v : World) where
               go false q = refl
               go true q = k.holder m d l ∙ ap (λ o. is_holder o m) (ap a.holder (same_end-tells d e q) ∙ unheld)
 
+          kept : (t : Stands v (close_portal a e)) × (t.books ≡ add_put k.books e Mark)
+          kept = closed-keeps e c law opens counts was (subst (PendingFits v) is pend)
+
       turned : (event : Happened) → PendingFits v (after_turn w k.books n event) → ((e : End) → event ≡ events.Close e → IsDropped a e) →
-          StepAny w (Turn n) (replies.Turned event) v → IsStepped w a (Turn n) (replies.Turned event) v
+          StepAny w (Turn n) (replies.Turned event) v → IsStepped w a k (Turn n) (replies.Turned event) v
+      unfolding advance
       turned event pend dropped s = go event pend dropped s (turn-after event s)
         where
           go : (event : Happened) → PendingFits v (after_turn w k.books n event) → ((e : End) → event ≡ events.Close e → IsDropped a e) →
               StepAny w (Turn n) (replies.Turned event) v →
               Lawful v (after_turn w k.books n event) (routes_after w k.routes (Turn n) (replies.Turned event)) ×
-              PlainTurn k.books event (after_turn w k.books n event) → IsStepped w a (Turn n) (replies.Turned event) v
+              PlainTurn k.books event (after_turn w k.books n event) → IsStepped w a k (Turn n) (replies.Turned event) v
           go (events.Close e) pend dropped s t =
               let c = closing e (after_turn w k.books n (events.Close e)) _ t.1 t.0 (still-open (replies.Turned (events.Close e)) s) pend in
-              (close_portal a e, (present, (dropped e refl, c.0, c.1, refl)), c.2)
+              (close_portal a e, (present, (dropped e refl, c.0, c.1, refl)), c.2, c.3)
           go (events.Discard serial number) pend dropped s t =
-              let is = t.1.books in (
-                a,
-                (present, refl),
-                same-keeps _ _ t.0 (still-open (replies.Turned (events.Discard serial number)) s)
-                    (λ e. ap (λ z. parcels_in (z.put e)) is) (λ e. ap (λ z. has_mark (z.put e)) is) (ap (λ z. z.got) is) pend,
-              )
+              let is = t.1.books in
+              let kept = same-keeps _ _ t.0 (still-open (replies.Turned (events.Discard serial number)) s)
+              (λ e. ap (λ z. parcels_in (z.put e)) is) (λ e. ap (λ z. has_mark (z.put e)) is) (ap (λ z. z.got) is) pend in
+              (a, (present, refl), kept.0, kept.1)
           go (events.DiscardLeave serial number) pend dropped s t =
-              let is = t.1.discards.books in (
-                a,
-                (present, refl),
-                same-keeps _ _ t.0 (still-open (replies.Turned (events.DiscardLeave serial number)) s)
-                    (λ e. ap (λ z. parcels_in (z.put e)) is) (λ e. ap (λ z. has_mark (z.put e)) is) (ap (λ z. z.got) is) pend,
-              )
+              let is = t.1.discards.books in
+              let kept = same-keeps _ _ t.0 (still-open (replies.Turned (events.DiscardLeave serial number)) s)
+              (λ e. ap (λ z. parcels_in (z.put e)) is) (λ e. ap (λ z. has_mark (z.put e)) is) (ap (λ z. z.got) is) pend in
+              (a, (present, refl), kept.0, kept.1)
           go (events.Retire serial number link) pend dropped s t =
-              let is = t.1.books in let left = t.1.end in (
-                a,
-                (present, refl),
-                same-keeps _ _ t.0 (still-open (replies.Turned (events.Retire serial number link)) s)
-                    (λ e. ap (λ z. parcels_in (z.put e)) is ∙ put-left left e (same_end e left) refl)
-                    (λ e. ap (λ z. has_mark (z.put e)) is ∙ marks-left left e (same_end e left) refl)
-                    (ap (λ z. z.got) is) pend,
-              )
+              let is = t.1.books in let left = t.1.end in
+              let kept = same-keeps _ _ t.0 (still-open (replies.Turned (events.Retire serial number link)) s)
+              (λ e. ap (λ z. parcels_in (z.put e)) is ∙ put-left left e (same_end e left) refl)
+              (λ e. ap (λ z. has_mark (z.put e)) is ∙ marks-left left e (same_end e left) refl) (ap (λ z. z.got) is) pend in
+              (a, (present, refl), kept.0, kept.1)
             where
               put-left : (d e : End) (c : Bool) → same_end e d ≡ c →
                   parcels_in (cond c (k.books.put d ++ Gone ∷ []) (k.books.put e)) ≡ parcels_in (k.books.put e)
@@ -614,21 +630,20 @@ module _ (w : World) (a : Account) (k : Stands w a) (v : World) where
                   has_mark (cond c (k.books.put d ++ Gone ∷ []) (k.books.put e)) ≡ has_mark (k.books.put e)
               marks-left d e true q = mark-left (k.books.put d) ∙ ap (λ z. has_mark (k.books.put z)) (sym (same_end-tells e d q))
               marks-left d e false q = refl
-          go other pend dropped s t = (
-            a,
-            (present, refl),
-            same-keeps _ _ t.0 (still-open (replies.Turned other) s)
-                (λ e. ap (λ z. parcels_in (z.put e)) t.1) (λ e. ap (λ z. has_mark (z.put e)) t.1) (ap (λ z. z.got) t.1) pend,
-          )
+          go other pend dropped s t =
+              let kept = same-keeps _ _ t.0 (still-open (replies.Turned other) s)
+              (λ e. ap (λ z. parcels_in (z.put e)) t.1) (λ e. ap (λ z. has_mark (z.put e)) t.1) (ap (λ z. z.got) t.1) pend in
+              (a, (present, refl), kept.0, kept.1)
 
     turn-refused : (why : Refusal) (reply : Reply) → reply ≡ replies.Refused why → v ≡ w → MayRefuse a (Turn n) why →
-        IsStepped w a (Turn n) reply v
-    turn-refused why reply e f h = rw (e, f) (a, (h, refl), k)
+        IsStepped w a k (Turn n) reply v
+    unfolding advance
+    turn-refused why reply e f h = rw (e, f) (a, (h, refl), k, refl)
 
     turn-step : (act : Act) (reply : Reply) → AnyAct w n act → Gives (turn_step w n act) reply v → StepAny w (Turn n) reply v →
-        IsStepped w a (Turn n) reply v
+        IsStepped w a k (Turn n) reply v
     turn-step act reply may gives s = elim (call-cases w n (if turn_lacks_serials w n act then Some refusals.NumbersEnd else None) _ reply v gives) [
-      | inl d ↦ subst (λ r. IsStepped w a (Turn n) r v) (sym d.says) (turned (inside-accounts w a k n d.inside)
+      | inl d ↦ subst (λ r. IsStepped w a k (Turn n) r v) (sym d.says) (turned (inside-accounts w a k n d.inside)
           (ap (λ (u : World). u.count) d.world ∙ count-after_act w n act)
           (λ m. ap (λ (u : World). (node_at u m).held) d.world ∙ held-acted w n act m)
           (turn_event w n act) (turn-pending w k.books k.routes n act v k.lawful d.inside (may d.inside) d.world k.pending)
@@ -654,12 +669,12 @@ module _ (w : World) (a : Account) (k : Stands w a) (v : World) where
   -- the calls, whether they are done or refused
   put-step : (profile : Profile) (n : ℕ) (at : End) (bytes : List ℕ) (ends : List End) (reply : Reply) →
       PutGives w n (put_step profile w n at (record { bytes = bytes; ends = ends })) reply v →
-      StepAny w (put_of profile n at bytes ends) reply v → IsStepped w a (put_of profile n at bytes ends) reply v
+      StepAny w (put_of profile n at bytes ends) reply v → IsStepped w a k (put_of profile n at bytes ends) reply v
   put-step profile n at bytes ends reply (inr (l, (e, f))) s =
       put-refused w a k profile n at bytes ends refusals.OutOfMemory reply v e f
       (may-lack-memory w a k (first_refusal profile a n at bytes ends) n at l)
   put-step profile n at bytes ends reply (inl gives) s = elim (call-cases w n (put_refusal profile (node_at w n) at bytes ends) _ reply v gives) [
-    | inl d ↦ subst (λ r. IsStepped w a (put_of profile n at bytes ends) r v) (sym d.says)
+    | inl d ↦ subst (λ r. IsStepped w a k (put_of profile n at bytes ends) r v) (sym d.says)
         (put-promised profile n at bytes ends d.inside d.fine _ d.world (subst (λ r. StepAny w (put_of profile n at bytes ends) r v) d.says s))
     | inr r ↦ put-refused w a k profile n at bytes ends r.why reply v r.says r.world (elim r.because [
       | inl x ↦ subst (MayRefusePut (first_refusal profile a n at bytes ends) a n at) (sym x.1) (beyond x.0)
@@ -675,21 +690,22 @@ module _ (w : World) (a : Account) (k : Stands w a) (v : World) where
           (hold_each a n ends) None) (unheld-beyond n at h))) (inl refl)
 
   get-refused : (n : ℕ) (at : End) (why : Refusal) (reply : Reply) → reply ≡ replies.Refused why → v ≡ w → MayRefuse a (Get n at) why →
-      IsStepped w a (Get n at) reply v
-  get-refused n at why reply e f h = rw (e, f) (a, (h, refl), k)
+      IsStepped w a k (Get n at) reply v
+  unfolding advance
+  get-refused n at why reply e f h = rw (e, f) (a, (h, refl), k, refl)
 
   get-refused-plain : (n : ℕ) (at : End) (why : Refusal) → StepAny w (Get n at) (replies.Refused why) v → BooksRefuse k.books (Get n at) why
   unfolding advance
   get-refused-plain n at why s = (plain (Get n at) (replies.Refused why) s).0
 
-  get-step : (n : ℕ) (at : End) (reply : Reply) → StepAny w (Get n at) reply v → IsStepped w a (Get n at) reply v
+  get-step : (n : ℕ) (at : End) (reply : Reply) → StepAny w (Get n at) reply v → IsStepped w a k (Get n at) reply v
   unfolding get_reply got_reply
   get-step n at reply s = elim (call-cases w n (get_refusal (node_at w n) at) _ reply v s) [
     | inl d ↦
         let is = get_tells (node_at w n) at d.fine in
         let said : reply ≡ replies.Got is.found.router.in_queue.current is.parcel =
         d.says ∙ ap get_reply is.is_found ∙ ap (got_reply is.found.router.in_queue.current) is.item in
-        subst (λ r. IsStepped w a (Get n at) r v) (sym said)
+        subst (λ r. IsStepped w a k (Get n at) r v) (sym said)
         (get-promised n at d.inside (sym (k.holder n at d.inside) ∙ is.held) is.found.router.in_queue.current is.parcel
         (get_node (node_at w n) at) d.world (get-held (node_at w n) at is.parcel is.found is.is_found is.item)
         (pending-get (node_at w n) at)
@@ -701,17 +717,18 @@ module _ (w : World) (a : Account) (k : Stands w a) (v : World) where
   ]
 
   close-refused : (n : ℕ) (at : End) (why : Refusal) (reply : Reply) → reply ≡ replies.Refused why → v ≡ w → MayRefuse a (Close n at) why →
-      IsStepped w a (Close n at) reply v
-  close-refused n at why reply e f h = rw (e, f) (a, (h, refl), k)
+      IsStepped w a k (Close n at) reply v
+  unfolding advance
+  close-refused n at why reply e f h = rw (e, f) (a, (h, refl), k, refl)
 
-  close-step : (n : ℕ) (at : End) (reply : Reply) → StepAny w (Close n at) reply v → IsStepped w a (Close n at) reply v
+  close-step : (n : ℕ) (at : End) (reply : Reply) → StepAny w (Close n at) reply v → IsStepped w a k (Close n at) reply v
   unfolding close_refusal
   close-step n at reply (inr (fine, (e, f))) =
       let t = unrefused-call w n (close_refusal (node_at w n) at) _ fine in
       close-refused n at refusals.OutOfMemory reply e f (sym (k.holder n at t.0)
       ∙ not_false (holds_end (node_at w n) at) (passes_by (not (holds_end (node_at w n) at)) _ _ t.1).0)
   close-step n at reply (inl gives) = elim (call-cases w n (close_refusal (node_at w n) at) _ reply v gives) [
-    | inl d ↦ subst (λ r. IsStepped w a (Close n at) r v) (sym d.says)
+    | inl d ↦ subst (λ r. IsStepped w a k (Close n at) r v) (sym d.says)
         (close-promised n at d.inside (sym (k.holder n at d.inside) ∙ not_false (holds_end (node_at w n) at)
         (passes_by (not (holds_end (node_at w n) at)) _ _ d.fine).0) _ d.world
         (subst (λ r. StepAny w (Close n at) r v) d.says (inl gives)))
@@ -722,8 +739,8 @@ module _ (w : World) (a : Account) (k : Stands w a) (v : World) where
   ]
 
 -- each step
-pub steps_stand : (w v : World) (a : Account) (step : Step) (reply : Reply) → Stands w a → StepAny w step reply v →
-    IsStepped w a step reply v
+pub steps_stand : (w v : World) (a : Account) (step : Step) (reply : Reply) (k : Stands w a) → StepAny w step reply v →
+    IsStepped w a k step reply v
 steps_stand w v a (Open n) reply k (inl gives) = open-step w a k v n reply gives (inl gives)
 steps_stand w v a (Open n) reply k (inr (fine, (e, f))) =
     open-refused w a k v n refusals.OutOfMemory reply e f (inside-accounts w a k n (unrefused-inside w n _ fine))

@@ -21,7 +21,7 @@ use Rattle.ipcz_world.specs.declared.step.Step.{Step}
 use Rattle.ipcz_world.specs.declared.step.Step.TheVariants.{Get, Close}
 use Rattle.ipcz_world.specs.declared.step.Reply.TheVariants as replies
 use Rattle.ipcz_world.specs.Steps.{put_of}
-use Rattle.ipcz_world.specs.Books.{is_retired, next_item}
+use Rattle.ipcz_world.specs.Books.{is_retired, advance, next_item}
 use Rattle.ipcz_world.specs.Plain.{MayRefusePut as BooksRefusePut, MayRefuse as BooksRefuse}
 use Rattle.ipcz_world.specs.Routes.{Routes}
 use Rattle.ipcz_world.specs.Lawful.{Lawful}
@@ -36,9 +36,9 @@ use Rattle.ipcz_world.proofs.frames.Booking.{flag}
 use Rattle.ipcz_promise.proofs.Parcels.{all-parcels, mark-found}
 use Rattle.ipcz_promise.proofs.Parcels.{all-got}
 
--- a step gets a reply that the plain machine may give, and the world stands at the accounts after it
-abbrev pub IsStepped : World → Account → Step → Reply → World → Type 0
-IsStepped w a step reply v = (c : Account) × May a step reply c × Stands v c
+-- a step gets a reply that the plain machine may give, and the world stands at the accounts after it, by books that go on with the step
+abbrev pub IsStepped : (w : World) (a : Account) → Stands w a → Step → Reply → World → Type 0
+IsStepped w a k step reply v = (c : Account) × May a step reply c × (t : Stands v c) × (t.books ≡ advance w k.books step reply)
 
 pub holder-is : (o : Option ℕ) (n : ℕ) → is_holder o n ≡ true → o ≡ Some n
 holder-is None n h = cc
@@ -168,11 +168,10 @@ module _ (w : World) (a : Account) (k : Stands w a) where
   -- refusals leave the accounts
   pub put-refused : (profile : Profile) (n : ℕ) (at : End) (bytes : List ℕ) (ends : List End) (why : Refusal) (reply : Reply) (v : World) →
       reply ≡ replies.Refused why → v ≡ w → MayRefusePut (first_refusal profile a n at bytes ends) a n at why →
-      IsStepped w a (put_of profile n at bytes ends) reply v
-  put-refused Printed n at bytes ends why reply v e f h =
-      rw (e, f) (a, (h, refl), k)
-  put-refused Wide n at bytes ends why reply v e f h =
-      rw (e, f) (a, (h, refl), k)
+      IsStepped w a k (put_of profile n at bytes ends) reply v
+  unfolding advance
+  put-refused Printed n at bytes ends why reply v e f h = rw (e, f) (a, (h, refl), k, refl)
+  put-refused Wide n at bytes ends why reply v e f h = rw (e, f) (a, (h, refl), k, refl)
 
   -- want of memory refuses a put at any time
   pub may-lack-memory : (found : Option Refusal) (n : ℕ) (at : End) → n < w.count → MayRefusePut found a n at refusals.OutOfMemory

@@ -198,18 +198,21 @@ module _ (nodes words : ℕ) (limits : IsWithinLimits nodes words) where
       go (Some p) A q f = let is = proper e.pair p q in let same : p.0 ≡ n = cc in omega (arith, is.less, is.below, same)
       go (Some p) B q f = let is = proper e.pair p q in let same : p.1 ≡ n = cc in omega (arith, is.below, same)
 
-  pub starts_standing : Stands (new_world nodes words) (start nodes words)
+  pub starts_standing : (t : Stands (new_world nodes words) (start nodes words)) × (t.books ≡ no_books)
   unfolding new_world
-  starts_standing = record {
-    books = no_books;
-    routes = first_routes nodes;
-    lawful = world_starts_lawful nodes words limits;
-    nodes = refl;
-    opened = λ pair h. ap (λ c. c && nat_eq pair pair) h ∙ grind (arith, nat_tests);
-    holder = λ n e l. held-new n e l;
-    real = λ n e h. real-new n e h;
-    put = λ e. refl;
-    got = λ e. refl;
-    closed = λ e. refl;
-    pending = pending-new;
-  }
+  starts_standing = (
+    record {
+      books = no_books;
+      routes = first_routes nodes;
+      lawful = world_starts_lawful nodes words limits;
+      nodes = refl;
+      opened = λ pair h. ap (λ c. c && nat_eq pair pair) h ∙ grind (arith, nat_tests);
+      holder = λ n e l. held-new n e l;
+      real = λ n e h. real-new n e h;
+      put = λ e. refl;
+      got = λ e. refl;
+      closed = λ e. refl;
+      pending = pending-new;
+    },
+    refl,
+  )

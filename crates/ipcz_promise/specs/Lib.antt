@@ -2,4 +2,5 @@ pub mod Accounting
 pub mod CallRuns
 pub mod Promise
 pub mod PromiseTests
+pub mod Readiness
 pub mod TurnRuns

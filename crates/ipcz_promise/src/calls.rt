@@ -1,15 +1,17 @@
 //! Calls on a world that carry the promise: `Keeps` ties the world to accounts, and each call hands it on with what the plain machine says of its
 //! reply (specs/Promise).
 
-ghost use Rattle.std.specs.Prelude.{◌≡◌, ◌+◌, ℕ, true, false, Ok, IfOk, IfErr, IsOk, OnOk};
+ghost use Rattle.std.specs.Prelude.{◌≡◌, ◌≤◌, ◌+◌, ℕ, true, false, None, Ok, IfOk, IfErr, IfSome, IsOk, OnOk};
+ghost use Rattle.ipcz_base.specs.declared.end.End.{End as EndRecord};
 ghost use Rattle.ipcz_world.specs.Lawful.{IsWithinLimits};
 ghost use Rattle.ipcz_world.specs.Owed.{IsWet};
 ghost use Rattle.ipcz_world.specs.Retries.{LetAskTold};
 ghost use Rattle.ipcz_world.specs.Settling.{IsQuiet};
 ghost use Rattle.ipcz_world.specs.Steps.{put_reply};
-ghost use Rattle.ipcz_promise.specs.Promise.{Account, HasClosedDropped, IsDelivered, IsInOrder, May, MayRun, MaySettle, more_words, start};
+ghost use Rattle.ipcz_promise.specs.Promise.{Account, HasClosedDropped, IsDelivered, IsInOrder, May, MayRun, MaySettle, holds, more_words, start};
 ghost use Rattle.ipcz_promise.specs.Accounting.{Keeps};
 ghost use Rattle.ipcz_promise.specs.CallRuns.{HasTheorem};
+ghost use Rattle.ipcz_promise.specs.Readiness.{HasNothing, HasSomething};
 
 use ipcz_base::{Bytes, End, Ends, Profile, Refusal};
 use ipcz_node::PutRefused;
@@ -161,6 +163,20 @@ pub fn holder_of(world: &World, portal: End) -> Option<u8>
     ensures promise { (a : Account) → Keeps world.now a → result ≡ a.holder portal }
 {
     world.holder_of(portal)
+}
+
+/// The first portal, from a serial on, that a node's callers hold and at which something has come: a get there isn't refused `Empty`. With it stands
+/// the serial at which it was found; ask from 0 on for the first, and from the serial behind that for the next one. So all such portals come, each once, as
+/// long as nothing else is called meanwhile (`World::ready_from`). None if there is no further one: from 0 on each get at what they hold is `Empty`. It looks at
+/// each router of the node from there on, takes no memory and is never refused; for a node that isn't there it is none.
+///
+/// In the world `new_world(alloc, 2, 8)` `ready_from(&world, 1, 0)` is none; where a parcel has come at the portal `right` of node 1, it is `right` with its serial.
+pub fn ready_from(world: &World, node: u8, serial: u64) -> Option<(u64, End)>
+    ensures ready { (a : Account) → Keeps world.now a → IfSome result (λ x. (holds a node x.1 ≡ true) × HasSomething world.now node x.1) }
+    ensures reached { IfSome result (λ x. serial ≤ x.0) }
+    ensures none { (a : Account) → Keeps world.now a → serial ≡ 0 → result ≡ None → (at : EndRecord) → holds a node at ≡ true → HasNothing world.now node at }
+{
+    world.ready_from(node, serial)
 }
 
 /// Whether nothing waits: then each node's turn is `Idle`, a settle takes none, and each portal in a parcel that a closed portal never got is

@@ -5,6 +5,6 @@ mod calls;
 pub mod laws;
 
 pub use calls::{
-    add_words, close, get, holder_of, is_quiet, new_world, open, play, put, put_wide, retry, run,
-    settle, step, turn, words_left,
+    add_words, close, get, holder_of, is_quiet, new_world, open, play, put, put_wide, ready_from,
+    retry, run, settle, step, turn, words_left,
 };

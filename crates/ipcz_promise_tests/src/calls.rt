@@ -1,8 +1,9 @@
+//! Each call of a world that carries the promise, on its happy path.
 use ipcz_base::{Bytes, End, Ends, Refusal, Sequence, Side};
 use ipcz_node::Happened;
 use ipcz_promise::{
-    add_words, close, get, holder_of, is_quiet, new_world, open, play, put, put_wide, retry, run,
-    settle, step, turn, words_left,
+    add_words, close, get, holder_of, is_quiet, new_world, open, play, put, put_wide, ready_from,
+    retry, run, settle, step, turn, words_left,
 };
 use ipcz_world::{Reply, Settled, Step, World};
 use std::alloc::{AllocError, Global};
@@ -188,6 +189,40 @@ fn closes(alloc: Global) -> Result<bool, Refusal> {
     )
 }
 
+// Whether just these portals of a node, in the order of their serials, have something.
+fn are_ready(world: &World, node: u8, portals: &[End]) -> bool {
+    let mut from = 0;
+    for portal in portals {
+        match ready_from(world, node, from) {
+            Some(found) if found.1 == *portal => from = found.0.saturating_add(1),
+            _ => return false,
+        }
+    }
+    ready_from(world, node, from).is_none()
+}
+
+// Whether a portal is told to have something when a parcel has come there, and when its peer has closed; and that of one node is not another's.
+fn tells_what_has_come(alloc: Global) -> Result<bool, Refusal> {
+    let mut world = new_world(alloc, 2, 8)?;
+    open(&mut world, 0);
+    put(&mut world, 0, LEFT, bytes(alloc, b"a")?, ends(alloc, &[])?)?;
+    let under_way = are_ready(&world, 1, &[]);
+    settle(&mut world, 100)?;
+    let come = are_ready(&world, 1, &[RIGHT]) && are_ready(&world, 0, &[]);
+    get(&mut world, 1, RIGHT);
+    let got = are_ready(&world, 1, &[]);
+    put(&mut world, 0, THIRD, bytes(alloc, b"b")?, ends(alloc, &[])?)?;
+    close(&mut world, 1, RIGHT);
+    settle(&mut world, 100)?;
+    Ok(
+        under_way
+            && come
+            && got
+            && are_ready(&world, 0, &[LEFT, FOURTH])
+            && are_ready(&world, 2, &[]),
+    )
+}
+
 // A put at the one portal of the first pair, a get at the other, and an open, with both nodes on their own.
 fn three_steps(alloc: Global) -> Result<[Step; 3], AllocError> {
     Ok([
@@ -242,6 +277,11 @@ fn a_portal_moves_with_its_parcel(rt: HostRuntime) {
 #[test]
 fn a_closed_portal_is_read_to_the_end(rt: HostRuntime) {
     assert_eq!(rt; closes(rt.alloc()), Ok(true));
+}
+
+#[test]
+fn portals_that_have_something_are_told(rt: HostRuntime) {
+    assert_eq!(rt; tells_what_has_come(rt.alloc()), Ok(true));
 }
 
 #[test]

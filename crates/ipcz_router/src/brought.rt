@@ -1,3 +1,4 @@
+//! How many links a message brings a router.
 ghost use Rattle.std.specs.Prelude.{◌≡◌, ◌≤◌};
 ghost use Rattle.ipcz_router.specs.Hearing.{links_brought};
 

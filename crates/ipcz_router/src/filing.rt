@@ -1,3 +1,4 @@
+//! What a node has to know of a router to file it.
 ghost use Rattle.std.specs.Prelude.{◌≡◌};
 ghost use Rattle.ipcz_base.specs.Links.{has_link};
 ghost use Rattle.ipcz_router.specs.Filings.{is_under};

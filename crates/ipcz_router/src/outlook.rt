@@ -1,3 +1,4 @@
+//! What an act is about to give its node, in kind and amount.
 ghost use Rattle.std.specs.Prelude.{◌≡◌, length, option_copied};
 ghost use Rattle.ipcz_base.specs.Items.{ends_in};
 ghost use Rattle.ipcz_router.specs.Outlooks.{outlook_of, item_outlook, closing_outlook};

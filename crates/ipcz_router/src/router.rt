@@ -1,3 +1,4 @@
+//! Routers: the state of one, and what is read off it. What it does stands in the modules below.
 ghost use Rattle.std.specs.Prelude.{◌≡◌, ◌<◌, ◌≤◌, true, false, Some, is_some, OnSome, IfNone, option_copied};
 ghost use Rattle.ipcz_base.specs.Limits.{last_number, no_number};
 ghost use Rattle.ipcz_seq.specs.Queue.{current_item};

@@ -1,3 +1,4 @@
+//! A message on its way to a node.
 use ipcz_base::Message;
 
 /// A message with the node that it goes to.

@@ -1,3 +1,4 @@
+//! Whether a node may send an AcceptBypass.
 ghost use Rattle.std.specs.Prelude.{◌≡◌};
 ghost use Rattle.ipcz_router.specs.Bypass.{is_source};
 

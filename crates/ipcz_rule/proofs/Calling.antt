@@ -29,13 +29,13 @@ use Rattle.ipcz_world.proofs.facts.LinkTests.{same_end-itself}
 use Rattle.ipcz_world.proofs.Whole.{each_step_keeps_lawful, replies_plainly}
 use Rattle.ipcz_rule.specs.Rule.{with_part}
 use Rattle.ipcz_rule.specs.Steps.{get_part, close_part, act_part}
-use Rattle.ipcz_rule.specs.Kinds.{KeepsEnds, IsKept, IsTurns, Gets, Closes, PendingCloses}
+use Rattle.ipcz_rule.specs.Kinds.{Done, IsDeeds, IsKept, IsTurns, Gets, Closes, PendingCloses}
 use Rattle.ipcz_world.specs.HeldEnds.{is_turn}
 use Rattle.ipcz_rule.proofs.KeptEnds.{turns_keep}
 use Rattle.ipcz_rule.proofs.FromLaws.{terminal_books, pending_terminal}
-use Rattle.ipcz_rule.proofs.Touching.{touches, touches_turn, set_moves, After, turn_after}
+use Rattle.ipcz_rule.specs.Deeds.{Does}
+use Rattle.ipcz_rule.proofs.Touching.{Kept, any_kept, call_done, touches, touches_turn, set_moves, After, turn_after}
 use Rattle.ipcz_rule.proofs.Adding.{joined_put, joined_got}
-use Rattle.ipcz_rule.proofs.Touching.{call_keeps}
 use Rattle.ipcz_rule.proofs.KeptEnds.{one_keeps}
 
 -- get
@@ -90,18 +90,20 @@ get_lawful w b g n at number q lawful inside fine got =
       (subst (λ (e : Effect). Plain b step e.reply (advance w b step e.reply)) done plain).0,
     )
 
-get_ends : (w : World) (b : Books) (g : Routes) (n : ℕ) (at : End) (number : ℕ) (q : parcels.Parcel) → Lawful w b g → n < w.count →
-    get_refusal (node_at w n) at ≡ None → got_at (node_at w n) at ≡ Some (number, q) → KeepsEnds true w (set_node w n (get_node (node_at w n) at))
+get_done : (w : World) (b : Books) (g : Routes) (n : ℕ) (at : End) (number : ℕ) (q : parcels.Parcel) → Lawful w b g → n < w.count →
+    get_refusal (node_at w n) at ≡ None → got_at (node_at w n) at ≡ Some (number, q) →
+    Done w b g (Does (steps.Get n at) (replies.Got number q) ∷ []) (set_node w n (get_node (node_at w n) at)) (add_got b at q) (routes_after w g (steps.Get n at) (replies.Got number q))
 unfolding is_turn
-get_ends w b g n at number q lawful inside fine got =
-    let it = get_step w n at in
-    subst (KeepsEnds true w) (ap (λ (e : Effect). e.world) (get_gives w n at number q inside fine got)) (call_keeps w it.world b g (steps.Get n at) it.reply lawful refl (refl, refl))
+get_done w b g n at number q lawful inside fine got =
+    let e = get_gives w n at number q inside fine got in
+    call_done w (set_node w n (get_node (node_at w n) at)) b (add_got b at q) g (routes_after w g (steps.Get n at) (replies.Got number q)) (steps.Get n at) (replies.Got number q) lawful refl
+    (ap (λ (x : Effect). x.reply) (sym e), ap (λ (x : Effect). x.world) (sym e)) (sym (get_written w b n at number q)) refl
 
-pub gets : (all : Bool) → Gets (IsKept all)
-gets all count size slots id i m p at number q is fine got =
+pub gets_deeds : Gets IsDeeds
+gets_deeds count size slots id i m p at number q is fine got =
     let p' = get_part at number q p in
     let v' = with_part p' m.0 in
-    touches all count size slots id i m p p' v' is refl (refl, refl, refl) (record { node = refl; hand = get_hand p.state (terminal_of p.state at); message = refl; probed = refl; history = refl })
+    touches count size slots id i m p p' v' (Does (steps.Get p.node at) (replies.Got number q) ∷ []) is refl (refl, refl, refl) (record { node = refl; hand = get_hand p.state (terminal_of p.state at); message = refl; probed = refl; history = refl })
     (λ s r seat inside state.
     let w = r.world in
     let b = r.books in
@@ -121,8 +123,14 @@ gets all count size slots id i m p at number q is fine got =
       claimed = claimed-set_node w n p'.state;
       joined = joined_got s.views id m.0 v' p p' b at seat is refl r.joined q keeps.none_gone (ap (λ k. p.got ++ ((at, k), q) ∷ []) index) refl refl;
       lawful = subst (λ (y : Node). Lawful (set_node w n (get_node y at)) (add_got b at q) g') state kept.0;
-      known = subst (λ (y : Node). KeepsEnds true w (set_node w n (get_node y at))) state (get_ends w b g n at number q r.lawful inside (rw state fine) (rw state got));
+      known = subst (λ (y : Node). Done w b g (Does (steps.Get n at) (replies.Got number q) ∷ []) (set_node w n (get_node y at)) (add_got b at q) g') state
+          (get_done w b g n at number q r.lawful inside (rw state fine) (rw state got));
     })
+
+pub gets : (all : Bool) → Gets (Kept all)
+gets all count size slots id i m p at number q is fine got =
+    any_kept all count size slots id m i (λ n. n) (λ n. Does (steps.Get p.node at) (replies.Got number q) ∷ []) (λ n m'. m' ≡ (with_part (get_part at number q p) m.0, m.1))
+    (gets_deeds count size slots id i m p at number q is fine got)
 
 -- close
 
@@ -154,18 +162,21 @@ close_lawful w b g n at lawful inside fine =
       (subst (λ (e : Effect). Plain b step e.reply (advance w b step e.reply)) done plain).0,
     )
 
-close_ends : (w : World) (b : Books) (g : Routes) (n : ℕ) (at : End) → Lawful w b g → n < w.count → close_refusal (node_at w n) at ≡ None →
-    KeepsEnds true w (set_node w n (close_node (node_at w n) at))
+close_done : (w : World) (b : Books) (g : Routes) (n : ℕ) (at : End) → Lawful w b g → n < w.count → close_refusal (node_at w n) at ≡ None →
+    Done w b g (Does (steps.Close n at) (replies.Closed (put_number (node_at w n) at)) ∷ []) (set_node w n (close_node (node_at w n) at)) (add_put b at Mark)
+    (routes_after w g (steps.Close n at) (replies.Closed (put_number (node_at w n) at)))
 unfolding is_turn
-close_ends w b g n at lawful inside fine =
-    let it = close_step w n at in
-    subst (KeepsEnds true w) (ap (λ (e : Effect). e.world) (close_gives w n at inside fine)) (call_keeps w it.world b g (steps.Close n at) it.reply lawful refl (inl (refl, refl)))
+close_done w b g n at lawful inside fine =
+    let number = put_number (node_at w n) at in
+    let e = close_gives w n at inside fine in
+    call_done w (set_node w n (close_node (node_at w n) at)) b (add_put b at Mark) g (routes_after w g (steps.Close n at) (replies.Closed number)) (steps.Close n at) (replies.Closed number) lawful refl
+    (inl (ap (λ (x : Effect). x.reply) (sym e), ap (λ (x : Effect). x.world) (sym e))) (sym (close_written w b n at number)) refl
 
-pub closes : (all : Bool) → Closes (IsKept all)
-closes all count size slots id i m p at is fine =
+pub closes_deeds : Closes IsDeeds
+closes_deeds count size slots id i m p at is fine =
     let p' = close_part at p in
     let v' = with_part p' m.0 in
-    touches all count size slots id i m p p' v' is refl (refl, refl, refl) (record { node = refl; hand = close_hand p.state (release_ends p.state (at ∷ [])) (terminal_of (release_ends p.state (at ∷ [])) at) refl; message = refl; probed = refl; history = refl })
+    touches count size slots id i m p p' v' (Does (steps.Close p.node at) (replies.Closed (put_number p.state at)) ∷ []) is refl (refl, refl, refl) (record { node = refl; hand = close_hand p.state (release_ends p.state (at ∷ [])) (terminal_of (release_ends p.state (at ∷ [])) at) refl; message = refl; probed = refl; history = refl })
     (λ s r seat inside state.
     let w = r.world in
     let b = r.books in
@@ -182,8 +193,14 @@ closes all count size slots id i m p at is fine =
       claimed = claimed-set_node w n p'.state;
       joined = joined_put s.views id m.0 v' p p' b at seat is refl r.joined Mark (ap (λ k. p.put ++ ((at, k), Mark) ∷ []) kept.1) refl refl;
       lawful = kept.0;
-      known = subst (λ (y : Node). KeepsEnds true w (set_node w n (close_node y at))) state (close_ends w b g n at r.lawful inside (rw state fine));
+      known = subst (λ (y : Node). Done w b g (Does (steps.Close n at) (replies.Closed (put_number y at)) ∷ []) (set_node w n (close_node y at)) (add_put b at Mark)
+          (routes_after w g (steps.Close n at) (replies.Closed (put_number y at)))) state (close_done w b g n at r.lawful inside (rw state fine));
     })
+
+pub closes : (all : Bool) → Closes (Kept all)
+closes all count size slots id i m p at is fine =
+    any_kept all count size slots id m i (λ n. n) (λ n. Does (steps.Close p.node at) (replies.Closed (put_number p.state at)) ∷ []) (λ n m'. m' ≡ (with_part (close_part at p) m.0, m.1))
+    (closes_deeds count size slots id i m p at is fine)
 
 -- a pending close
 

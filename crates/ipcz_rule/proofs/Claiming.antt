@@ -29,7 +29,8 @@ use Rattle.ipcz_world.specs.HeldEnds.{IsEndHeld}
 use Rattle.ipcz_world.proofs.lawful.LettingGo.{held_for_open_were_held}
 use Rattle.ipcz_rule.specs.Rule.{Slot, St, Mine, inbox, mailbox, Rules, with_part, saw}
 use Rattle.ipcz_rule.specs.Steps.{CanAct, claimed_part}
-use Rattle.ipcz_rule.specs.Kinds.{Follows, IsKept, KeepsEnds, IsTurns, turn_where, Claims, ClaimsForOpen, LoadsForClaim}
+use Rattle.ipcz_rule.specs.Deeds.{Beside, ClaimsWord, deed_where}
+use Rattle.ipcz_rule.specs.Kinds.{Follows, Done, IsKept, IsDeeds, IsTurns, turn_where, Claims, ClaimsForOpen, LoadsForClaim}
 use Rattle.ipcz_rule.proofs.KeptEnds.{turns_keep}
 use Rattle.ipcz_rule.proofs.Counts.{Silent}
 use Rattle.ipcz_rule.proofs.Moved.{ruled_with, spelled, keeps_sources}
@@ -39,7 +40,6 @@ use Rattle.ipcz_rule.proofs.Touching.{KeepsHands, set_moves, After}
 use Rattle.ipcz_rule.proofs.Acting.{plain_part, act_routes, act_after, act_hand}
 use Rattle.ipcz_rule.proofs.Inboxes.{inboxes_stay}
 use Rattle.ipcz_rule.proofs.Wording.{sees}
-use Rattle.ipcz_rule.proofs.Touching.{any_kept}
 use Rattle.ipcz_world.proofs.lawful.StayingHeld.{opening_keeps_held}
 use Rattle.ipcz_rule.proofs.KeptEnds.{where_keeps, claim_keeps}
 
@@ -210,8 +210,12 @@ module _ (count size id : ℕ) (m : Mine) (p : Part) (c : ℕ) (is : m.0.parts �
   abbrev HalfTold : Bool → Mine → Type 0
   HalfTold b m' = MatchBool b (m' ≡ (with_part (claimed_part c p) (saw size count_found m.0), m.1)) (m' ≡ (saw size count_found m.0, m.1))
 
+  abbrev Claimed : Bool → World → Books → Routes → Type 0
+  Claimed b = Done r.world r.books r.routes (deed_where b (Beside (ClaimsWord p.node)))
+
   abbrev Half : Bool → Type 0
-  Half b = (v : View) × (a : TableAct Slot) × Valid s.homes m.1 a × ((r' : Rules count size (stepped s size (either b (c + 1) count_found) id m.1 v a)) × KeepsEnds true r.world r'.world) × HalfTold b (v, carried_after m.1 a)
+  Half b = (v : View) × (a : TableAct Slot) × Valid s.homes m.1 a ×
+      ((r' : Rules count size (stepped s size (either b (c + 1) count_found) id m.1 v a)) × Claimed b r'.world r'.books r'.routes) × HalfTold b (v, carried_after m.1 a)
 
   half_by : (b : Bool) → eqb count_found c ≡ b → Half b
   half_by true e =
@@ -224,10 +228,13 @@ module _ (count size id : ℕ) (m : Mine) (p : Part) (c : ℕ) (is : m.0.parts �
       let w' = set_claimed (set_node w p.node p'.state) (c + 1) in
       let lawful : Lawful w' r.books r.routes = subst (λ (k : ℕ). Lawful (set_claimed (set_node w p.node (record p.state { opening = Some k })) (k + 1)) r.books r.routes) found
       (subst (λ (y : Node). Lawful (set_claimed (set_node w p.node (record y { opening = Some w.claimed })) (w.claimed + 1)) r.books r.routes) sp.state kept) in
-      let ends : KeepsEnds true w w' = subst (λ (k : ℕ). KeepsEnds true w (set_claimed (set_node w p.node (record p.state { opening = Some k })) (k + 1))) found
-      (subst (λ (y : Node). KeepsEnds true w (set_claimed (set_node w p.node (record y { opening = Some w.claimed })) (w.claimed + 1))) sp.state (
-        (λ k side held. held_for_open_were_held w r.books r.routes p.node k side r.lawful sp.inside held),
-        (λ e k side held. opening_keeps_held w r.books r.routes p.node k side r.lawful (ap (λ y. y.opening) sp.state ∙ idle) held),
+      let ends : Claimed true w' r.books r.routes = subst (λ (k : ℕ). Claimed true (set_claimed (set_node w p.node (record p.state { opening = Some k })) (k + 1)) r.books r.routes) found
+      (subst (λ (y : Node). Claimed true (set_claimed (set_node w p.node (record y { opening = Some w.claimed })) (w.claimed + 1)) r.books r.routes) sp.state (
+        ((sp.inside, room, ap (λ y. y.opening) sp.state ∙ idle), (refl, refl, refl)),
+        (
+          (λ k side held. held_for_open_were_held w r.books r.routes p.node k side r.lawful sp.inside held),
+          (λ e k side held. opening_keeps_held w r.books r.routes p.node k side r.lawful (ap (λ y. y.opening) sp.state ∙ idle) held),
+        ),
       )) in
       let v' = with_part p' (saw size count_found m.0) in (
         v',
@@ -235,21 +242,15 @@ module _ (count size id : ℕ) (m : Mine) (p : Part) (c : ℕ) (is : m.0.parts �
         tt,
         claim_rules count size s r id m.0 v' p p' w' r.routes (c + 1) at is refl (refl, inr (size, refl), refl) (half_moves w (c + 1) p.node p'.state)
             (λ j. word-set_claimed (set_node w p.node p'.state) (c + 1) j ∙ word-set_node w p.node p'.state j) (sym (claimed-set_claimed (set_node w p.node p'.state) (c + 1))) (omega (arith, found))
-            (record { node = refl; hand = refl; message = refl; probed = refl; history = refl }) refl refl refl lawful (λ u b g. KeepsEnds true w u) ends,
+            (record { node = refl; hand = refl; message = refl; probed = refl; history = refl }) refl refl refl lawful (Claimed true) ends,
         refl,
       )
   half_by false e =
       let f = sees s r size id m.0 (saw size count_found m.0) p at is is (refl, inr (size, refl), refl) in
-      (saw size count_found m.0, keeps, tt, (f.0, ((λ k side held. inl (subst (λ (u : World). IsEndHeld u k side) f.1.0 held)), (λ h k side held. subst (λ (u : World). IsEndHeld u k side) (sym f.1.0) held))), refl)
+      (saw size count_found m.0, keeps, tt, (f.0, (f.1, ((λ k side held. inl (subst (λ (u : World). IsEndHeld u k side) f.1.0 held)), (λ h k side held. subst (λ (u : World). IsEndHeld u k side) (sym f.1.0) held)))), refl)
 
   pub half_claimed : Half (eqb count_found c)
   half_claimed = half_by (eqb count_found c) refl
 
-claims_for_open_all : ClaimsForOpen (IsKept true)
-claims_for_open_all count size slots id c m p is idle small s r deep at low = half_claimed count size id m p c is idle small s r at
-
-pub claims_for_open : (all : Bool) → ClaimsForOpen (IsKept all)
-claims_for_open all count size slots id c m p is idle small =
-    any_kept all count size slots id m size (λ n. either (eqb n c) (c + 1) n) (λ n. [])
-    (λ n m'. MatchBool (eqb n c) (m' ≡ (with_part (claimed_part c p) (saw size n m.0), m.1)) (m' ≡ (saw size n m.0, m.1)))
-    (claims_for_open_all count size slots id c m p is idle small)
+pub claims_for_open_deeds : ClaimsForOpen IsDeeds
+claims_for_open_deeds count size slots id c m p is idle small s r deep at low = half_claimed count size id m p c is idle small s r at

@@ -13,7 +13,7 @@ use Rattle.ipcz_rule.specs.declared.view.Part.{Part}
 use Rattle.ipcz_rule.specs.Rule.{St, Spells, InParts, Rules, puts_of, gets_of, drops_of}
 use Rattle.ipcz_rule.specs.Start.{head_parts, tail_parts, dealt, after_deal, opening_part, opening_parts}
 use Rattle.ipcz_rule.proofs.Inboxes.{has_not}
-use Rattle.ipcz_rule.proofs.Moved.{at_inside}
+use Rattle.ipcz_rule.proofs.Moved.{Stays, at_inside}
 use Rattle.ipcz_rule.proofs.Histories.{only, at_end, histories_move, no_caller}
 use Rattle.ipcz_rule.proofs.Starting.{parts_are}
 
@@ -210,8 +210,8 @@ pub kept_opening : (count : ℕ) (v : View) (n : ℕ) → n < count → v.parts 
     (after_deal v).parts ≡ opening_parts count (n + 1) (count - (n + 1))
 kept_opening count v n below is = ap tail_parts (is ∙ left-some count n below)
 
--- it shows the same world
-pub deals_opening_world : (count size id : ℕ) (v : View) (nodes n : ℕ) (below : n < nodes) (is : v.parts ≡ opening_parts nodes n (nodes - n)) (s : St) (r : Rules count size s) (at : get_elem? s.views id ≡ some v) →
-    (deals_opening count size id v nodes n below is s r at).world ≡ r.world
+-- it shows the same
+pub deals_opening_stays : (count size id : ℕ) (v : View) (nodes n : ℕ) (below : n < nodes) (is : v.parts ≡ opening_parts nodes n (nodes - n)) (s : St) (r : Rules count size s) (at : get_elem? s.views id ≡ some v) →
+    (r' : Rules count size record { words = s.words; homes = s.homes; views = set s.views id (after_deal v) ++ dealt v ∷ [] }) × Stays r r'
 unfolding deals_opening deals
-deals_opening_world count size id v nodes n below is s r at = refl
+deals_opening_stays count size id v nodes n below is s r at = (deals_opening count size id v nodes n below is s r at, (refl, refl, refl))

@@ -14,7 +14,7 @@ use Rattle.ipcz_rule.specs.Histories.{lent_caller}
 use Rattle.ipcz_rule.specs.Rule.{St, InParts, Rules, puts_of, gets_of, drops_of}
 use Rattle.ipcz_rule.specs.Kinds.{together, spent, JoinsParts}
 use Rattle.ipcz_rule.proofs.Inboxes.{has_not}
-use Rattle.ipcz_rule.proofs.Moved.{at_inside}
+use Rattle.ipcz_rule.proofs.Moved.{Stays, at_inside}
 use Rattle.ipcz_rule.proofs.Histories.{StoodCaller, histories_move, went, went_there, went_not, no_caller}
 
 -- if two lists of parts are read together, one of the two was read
@@ -154,8 +154,9 @@ joins count size id v other w s r at apart at_other =
           (caller_came s.views id v other w at apart at_other r.histories.seat_of);
     }
 
--- it shows the same world
-pub joins_world : (count size id : ℕ) (v : View) (other : ℕ) (w : View) (s : St) (r : Rules count size s) (at : get_elem? s.views id ≡ some v) (apart : ¬ (other ≡ id))
-    (there : get_elem? (set s.views id (together v w)) other ≡ some w) → (joins count size id v other w s r at apart there).world ≡ r.world
+-- it shows the same
+pub joins_stay : (count size id : ℕ) (v : View) (other : ℕ) (w : View) (s : St) (r : Rules count size s) (at : get_elem? s.views id ≡ some v) (apart : ¬ (other ≡ id))
+    (there : get_elem? (set s.views id (together v w)) other ≡ some w) →
+    (r' : Rules count size record { words = s.words; homes = s.homes; views = set (set s.views id (together v w)) other spent }) × Stays r r'
 unfolding joins
-joins_world count size id v other w s r at apart there = λ i. r.world
+joins_stay count size id v other w s r at apart there = (joins count size id v other w s r at apart there, (refl, refl, refl))

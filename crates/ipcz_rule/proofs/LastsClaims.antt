@@ -17,7 +17,9 @@ use Rattle.ipcz_node.specs.declared.act.Act.{Act}
 use Rattle.ipcz_node.specs.declared.act.Act.TheVariants as acts
 use Rattle.std.specs.Int.{bit_at}
 use Rattle.ipcz_world.specs.World.{World, node_at, word_at, mail_at, router_at, set_claimed, way, has_unclaimed_word}
-use Rattle.ipcz_world.specs.Routes.{hand_of}
+use Rattle.ipcz_world.specs.Books.{Books}
+use Rattle.ipcz_world.specs.Routes.{Routes, hand_of}
+use Rattle.ipcz_rule.specs.Deeds.{Deed, Beside, Passes, AreDeeds}
 use Rattle.ipcz_world.specs.Ranks.{AreTurns}
 use Rattle.ipcz_world.specs.Lawful.{Lawful}
 use Rattle.ipcz_world.specs.WorldLaws.{LawfulStraysNothing}
@@ -164,6 +166,12 @@ module _ (ends : EndLaws) (passing : PassingKeepsLawful) (strays : LawfulStraysN
   pub passed_world : passed_rules.world ≡ w1
   unfolding passed_rules
   passed_world = refl
+
+  -- deeds from what it shows are deeds behind those numbers
+  pub passed_deeds : (deeds : List Deed) (v : World) (b : Books) (g : Routes) → AreDeeds passed_rules.world passed_rules.books passed_rules.routes deeds v b g →
+      AreDeeds r.world r.books r.routes (Beside (Passes skip) ∷ deeds) v b g
+  unfolding passed_rules
+  passed_deeds deeds v b g are = ((let z = r.words in omega (arith, z, most)), are)
 
 -- one value over another
 pub set_over : (l : List ℕ) (i a b : ℕ) → set (set l i a) i b ≡ set l i b

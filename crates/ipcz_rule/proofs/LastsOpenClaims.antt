@@ -15,7 +15,8 @@ use Rattle.ipcz_world.specs.HeldEnds.{IsEndHeld, ByOpen, PassingKeepsLawful, pas
 use Rattle.ipcz_rule.specs.declared.view.View.{View}
 use Rattle.ipcz_rule.specs.declared.view.Part.{Part}
 use Rattle.ipcz_rule.specs.Rule.{Slot, St, Mine, Rules, with_part, saw}
-use Rattle.ipcz_rule.specs.Kinds.{IsTurns, IsKept, KeepsEnds, ClaimsForOpen, Loads}
+use Rattle.ipcz_rule.specs.Deeds.{Deed, Beside, ClaimsWord, Passes, AreDeeds, deed_where}
+use Rattle.ipcz_rule.specs.Kinds.{Done, IsTurns, IsDeeds, KeepsEnds, ClaimsForOpen, Loads}
 use Rattle.ipcz_slots.specs.SlotKinds.{Known, Steps, Keeps, LosesNone, Skips, Takes}
 use Rattle.ipcz_rule.specs.Lasting.{EndLaws, virtual, sizes, side_of, own_of}
 use Rattle.ipcz_rule.proofs.Lasts.{are_sizes, count_is, laws_of, held_claimed}
@@ -24,12 +25,12 @@ use Rattle.ipcz_slots.proofs.Ordered.{claims_in_order}
 use Rattle.ipcz_world.proofs.Whole.{lawful_worlds_stray_nothing}
 use Rattle.ipcz_world.proofs.runs.PassingOver.{passing_keeps_lawful}
 use Rattle.ipcz_rule.specs.Steps.{claimed_part}
-use Rattle.ipcz_rule.specs.LastingCalls.{passing_keeping, keeping, ClaimsForOpenLast, ClaimsForOpenInOrder}
+use Rattle.ipcz_rule.specs.LastingCalls.{passing_keeping, deeds_of, ClaimsForOpenLast, ClaimsForOpenInOrder}
 use Rattle.ipcz_rule.proofs.WordKinds.{loads_turns}
 use Rattle.ipcz_rule.proofs.LastsAll.{ends}
-use Rattle.ipcz_rule.proofs.LastsCalls.{ends_kept, ends_held}
-use Rattle.ipcz_rule.proofs.Claiming.{claims_for_open}
-use Rattle.ipcz_rule.proofs.LastsClaims.{held_same, held_then, claimed_same, t1, passed_rules, passed_world, wide1, set_over, eqb_self}
+use Rattle.ipcz_rule.proofs.LastsCalls.{ends_done, ends_stay}
+use Rattle.ipcz_rule.proofs.Claiming.{claims_for_open_deeds}
+use Rattle.ipcz_rule.proofs.LastsClaims.{held_same, held_then, claimed_same, t1, passed_rules, passed_world, passed_deeds, wide1, set_over, eqb_self}
 
 -- the word of an open under way is held
 opening_held : (count limit id : ℕ) (m : Mine) (p : Part) (k : ℕ) (v : View) → v ≡ with_part (claimed_part k p) (saw limit k m.0) → (t : St) (r : Rules count limit t) → get_elem? t.views id ≡ some v →
@@ -39,7 +40,7 @@ opening_held count limit id m p k v is t r at s =
     ByOpen p.node (ap (λ (y : Node). y.opening) sp.state)
 
 -- a claim of a number beyond the count, on the virtual table
-module _ (ends : EndLaws) (passing : PassingKeepsLawful) (strays : LawfulStraysNothing) (loads : Loads IsTurns) (old : ClaimsForOpen (IsKept true))
+module _ (ends : EndLaws) (passing : PassingKeepsLawful) (strays : LawfulStraysNothing) (loads : Loads IsTurns) (old : ClaimsForOpen IsDeeds)
     (count limit slots id c skip : ℕ) (m : Mine) (p : Part) (is : m.0.parts ≡ p ∷ []) (idle : p.state.opening ≡ None) (small : c + skip < limit)
     (t : St) (r : Rules count limit t) (deep : length t.homes ≡ slots) (at : get_elem? t.views id ≡ some m.0) (fits : slice_index t.words limit < 18446744073709551616) (tiny : limit < 18446744073709551616) where
   abbrev n2 : ℕ
@@ -52,8 +53,8 @@ module _ (ends : EndLaws) (passing : PassingKeepsLawful) (strays : LawfulStraysN
   abbrev Res2 : Bool → Type 0
   Res2 b = (v : View) × (a : TableAct Slot) × Valid t.homes m.1 a ×
       ((r' : Rules count limit (stepped t limit (either b (c + skip + 1) n2) id m.1 v a)) ×
-      MatchBool b (passing_keeping count limit c skip t r (stepped t limit (either b (c + skip + 1) n2) id m.1 v a) r')
-      (keeping true count limit t r (stepped t limit (either b (c + skip + 1) n2) id m.1 v a) r')) ×
+      MatchBool b (passing_keeping count limit c skip p.node t r (stepped t limit (either b (c + skip + 1) n2) id m.1 v a) r')
+      (deeds_of count limit limit (λ n. []) t r (stepped t limit (either b (c + skip + 1) n2) id m.1 v a) r')) ×
       MatchBool b (◌≡◌ {A = Mine} (v, carried_after m.1 a) left2) (◌≡◌ {A = Mine} (v, carried_after m.1 a) (saw limit n2 m.0, m.1))
 
   by2 : (b : Bool) → eqb n2 c ≡ b → Res2 b
@@ -67,13 +68,18 @@ module _ (ends : EndLaws) (passing : PassingKeepsLawful) (strays : LawfulStraysN
       let same : r.world.claimed + skip ≡ k = omega (arith, found) in
       let here : slice_index t'.words limit ≡ k = get_or-set_same t.words limit (r.world.claimed + skip) 0 (wide1 ends passing strays count limit t r skip most) ∙ same in
       let Raw : ℕ → Bool → Type 0 = λ j b. (v : View) × (a : TableAct Slot) × Valid t.homes m.1 a ×
-      ((r' : Rules count limit (stepped t' limit (either b (k + 1) j) id m.1 v a)) × KeepsEnds true r1.world r'.world) ×
+      ((r' : Rules count limit (stepped t' limit (either b (k + 1) j) id m.1 v a)) ×
+      Done r1.world r1.books r1.routes (deed_where b (Beside (ClaimsWord p.node))) r'.world r'.books r'.routes) ×
       MatchBool b (◌≡◌ {A = Mine} (v, carried_after m.1 a) (with_part (claimed_part k p) (saw limit j m.0), m.1)) (◌≡◌ {A = Mine} (v, carried_after m.1 a) (saw limit j m.0, m.1)) in
       let raw : Raw (slice_index t'.words limit) (eqb (slice_index t'.words limit) k) = old count limit slots id k m p is idle small t' r1 deep at (subst (λ (q : ℕ). q < 18446744073709551616) (sym here) (omega (arith, small, tiny))) in
       let done : Raw k true = subst (λ (b : Bool). Raw k b) (eqb_self k) (subst (λ (j : ℕ). Raw j (eqb j k)) here raw) in
       let Out : List ℕ → Type 0 = λ ws. (r' : Rules count limit (record { words = ws; homes = (stepped t' limit (k + 1) id m.1 done.0 done.1).homes; views = (stepped t' limit (k + 1) id m.1 done.0 done.1).views })) ×
-      KeepsEnds true (passed_over r.world skip) r'.world in
-      let out = subst Out (set_over t.words limit (r.world.claimed + skip) (k + 1)) (done.3.0, subst (λ (u : World). KeepsEnds true u done.3.0.world) (passed_world ends passing strays count limit t r skip most) done.3.1) in (
+      AreDeeds r.world r.books r.routes (Beside (Passes skip) ∷ Beside (ClaimsWord p.node) ∷ []) r'.world r'.books r'.routes × KeepsEnds true (passed_over r.world skip) r'.world in
+      let out = subst Out (set_over t.words limit (r.world.claimed + skip) (k + 1)) (
+        done.3.0,
+        passed_deeds ends passing strays count limit t r skip most (Beside (ClaimsWord p.node) ∷ []) done.3.0.world done.3.0.books done.3.0.routes done.3.1.0,
+        subst (λ (u : World). KeepsEnds true u done.3.0.world) (passed_world ends passing strays count limit t r skip most) done.3.1.1,
+      ) in (
         done.0,
         done.1,
         done.2,
@@ -82,25 +88,26 @@ module _ (ends : EndLaws) (passing : PassingKeepsLawful) (strays : LawfulStraysN
           (
             found,
             omega (arith, small),
-            out.1,
+            out.2,
             (λ side. opening_held count limit id m p k done.0 (ap (λ (q : Mine). q.0) done.4)
                 (record { words = set t.words limit (k + 1); homes = (stepped t' limit (k + 1) id m.1 done.0 done.1).homes; views = (stepped t' limit (k + 1) id m.1 done.0 done.1).views }) out.0
                 (set_here t.views id done.0 (at_inside t.views id m.0 at)) side),
+            out.1,
           ),
         ),
         done.4,
       )
   by2 false e =
       let f = loads count limit slots id limit m p is t r deep at fits in
-      (f.0, f.1, f.2, (f.3.0, ((λ q side held. inl (subst (λ (u : World). IsEndHeld u q side) f.3.1.0 held)), (λ h q side held. subst (λ (u : World). IsEndHeld u q side) (sym f.3.1.0) held))), f.4)
+      (f.0, f.1, f.2, (f.3.0, (f.3.1, ((λ q side held. inl (subst (λ (u : World). IsEndHeld u q side) f.3.1.0 held)), (λ h q side held. subst (λ (u : World). IsEndHeld u q side) (sym f.3.1.0) held)))), f.4)
 
   pub claimed_beyond : Res2 (eqb n2 c)
   claimed_beyond = by2 (eqb n2 c) refl
 
 -- what was nowhere stays so, and nobody has the numbers that were passed over
-module _ (ends : EndLaws) (count limit k c skip : ℕ) where
+module _ (ends : EndLaws) (count limit k c skip node : ℕ) where
   abbrev g3 : Known (virtual count limit)
-  g3 = passing_keeping count limit c skip
+  g3 = passing_keeping count limit c skip node
 
   was3 : (t : St) (r : Rules count limit t) (t' : St) (r' : Rules count limit t') → g3 t r t' r' → (i : ℕ) (s : Side) → IsEndHeld r'.world i s → IsEndHeld r.world i s ⊎ (c + skip ≤ i)
   was3 t r t' r' g i s held =
@@ -129,15 +136,15 @@ claims_for_open_last k dirty free looked one count limit slots id c skip m p is 
     let x = virtual count limit in
     let z = sizes count limit k true in
     let n : ℕ = c + skip in
-    let g : Known x = passing_keeping count limit c skip in
-    let h : Known x = keeping true count limit in
+    let g : Known x = passing_keeping count limit c skip p.node in
+    let h : Known x = deeds_of count limit limit (λ j. []) in
     let hit : Mine → Type 0 = λ m'. m' ≡ (with_part (claimed_part n p) (saw limit n m.0), m.1) in
     let miss : ℕ → Mine → Type 0 = λ j m'. m' ≡ (saw limit j m.0, m.1) in
     let P : ℕ → Type 0 = λ q. Steps x (λ t r t' r'. MatchBool (eqb (slice_index t.words limit) c) (g t r t' r') (h t r t' r')) slots id m q (λ j. either (eqb j c) (n + 1) j) (λ j m'. MatchBool (eqb j c) (hit m') (miss j m')) in
-    let steps : P limit = λ t r deep at fits. claimed_beyond ends passing_keeps_lawful lawful_worlds_stray_nothing loads_turns (claims_for_open true) count limit slots id c skip m p is idle small t r deep at fits tiny in
+    let steps : P limit = λ t r deep at fits. claimed_beyond ends passing_keeps_lawful lawful_worlds_stray_nothing loads_turns claims_for_open_deeds count limit slots id c skip m p is idle small t r deep at fits tiny in
     claims x z (laws_of ends count limit k true) (are_sizes count limit k one) g h slots id c n (own_of m.0 dirty free looked) m.1 hit miss
-    (passes_kept ends count limit k c skip) (passes_loses ends count limit k c skip id m.0) (passes_skipped ends count limit k c skip) (passes_takes ends count limit k c skip id m.0)
-    (ends_kept count limit k true) (ends_held count limit k true id m.0) (omega arith) small has (subst P (omega arith) steps)
+    (passes_kept ends count limit k c skip p.node) (passes_loses ends count limit k c skip p.node id m.0) (passes_skipped ends count limit k c skip p.node)
+    (passes_takes ends count limit k c skip p.node id m.0) (ends_done count limit k limit true (λ j. [])) (ends_stay count limit k limit true (λ j. []) id m.0) (omega arith) small has (subst P (omega arith) steps)
 
 -- where slots aren't used again it is the rule's own
 pub claims_for_open_in_order : ClaimsForOpenInOrder
@@ -145,6 +152,8 @@ claims_for_open_in_order k dirty free looked count limit slots id c m p is idle 
     let x = virtual count limit in
     let z = sizes count limit k false in
     let told : ℕ → Mine → Type 0 = λ n m'. MatchBool (eqb n c) (m' ≡ (with_part (claimed_part c p) (saw limit n m.0), m.1)) (m' ≡ (saw limit n m.0, m.1)) in
-    claims_in_order x z (laws_of ends count limit k false) areas (keeping false count limit) slots id c (own_of m.0 dirty free looked) m.1 told
-    (ends_kept count limit k false) refl few
-    (subst (λ (q : ℕ). Steps x (keeping false count limit) slots id m q (λ n. either (eqb n c) (c + 1) n) told) (omega arith) (claims_for_open false count limit slots id c m p is idle few))
+    let deeds : ℕ → List Deed = λ n. deed_where (eqb n c) (Beside (ClaimsWord p.node)) in
+    claims_in_order x z (laws_of ends count limit k false) areas (deeds_of count limit limit deeds) slots id c (own_of m.0 dirty free looked) m.1 told
+    (ends_done count limit k limit false deeds) refl few
+    (subst (λ (q : ℕ). Steps x (deeds_of count limit limit deeds) slots id m q (λ n. either (eqb n c) (c + 1) n) told) (omega arith)
+    (claims_for_open_deeds count limit slots id c m p is idle few))

@@ -1,5 +1,5 @@
 -- Seats of a table whose link words come back are dealt and joined, and callers come with seats of their own.
-use Rattle.std.specs.Prelude.{[], length, List, Some, refl}
+use Rattle.std.specs.Prelude.{ℕ, [], length, List, Some, refl}
 use Rattle.std.proofs.Common.{ap, ◌∙◌, sym, subst}
 use lib.ListN.{get_elem?}
 use Rattle.ipcz_world.specs.World.{World}
@@ -9,53 +9,41 @@ use Rattle.ipcz_rule.specs.declared.view.Part.{Part}
 use Rattle.ipcz_rule.specs.Histories.{caller_view, new_caller, without_caller}
 use Rattle.ipcz_rule.specs.Kinds.{together, spent}
 use Rattle.ipcz_rule.specs.Lasting.{virtual, sizes, side_of, own_of}
-use Rattle.ipcz_rule.specs.LastingSeats.{SeatsAreApart, SeatsLast}
+use Rattle.ipcz_slots.specs.SlotKinds.{SameEnds}
+use Rattle.ipcz_rule.specs.Rule.{St, Rules}
+use Rattle.ipcz_rule.specs.LastingSeats.{SeatsAreApart, SeatsLast, staying}
+use Rattle.ipcz_rule.proofs.Moved.{Stays}
 use Rattle.ipcz_slots.proofs.Beginning.{deals as dealing, comes}
 use Rattle.ipcz_slots.proofs.Folding.{view_at}
 use Rattle.ipcz_slots.proofs.Uniting.{joins_seats}
-use Rattle.ipcz_rule.proofs.Dealing.{deals_opening, deals_opening_world}
-use Rattle.ipcz_rule.proofs.Joining.{joins, joins_world}
+use Rattle.ipcz_rule.proofs.Dealing.{deals_opening_stays}
+use Rattle.ipcz_rule.proofs.Joining.{joins_stay}
 use Rattle.ipcz_rule.proofs.Writing.{returns, callers_come}
 use Rattle.ipcz_rule.proofs.Lasts.{laws_of}
 use Rattle.ipcz_rule.proofs.LastsAll.{ends}
 
+-- the same ends are nowhere, where what is shown stays
+same_ends : (count limit : ℕ) (t t' : St) (r : Rules count limit t) (r' : Rules count limit t') → Stays r r' → SameEnds (virtual count limit) t r t' r'
+same_ends count limit t t' r r' stays = (
+  (λ b i gone held. gone (subst (λ (u : World). IsEndHeld u i (side_of b)) stays.0 held)),
+  (λ b i gone held. gone (subst (λ (u : World). IsEndHeld u i (side_of b)) (sym stays.0) held)),
+)
+
 pub seats_last : SeatsLast
 seats_last = (
-  (λ count limit k id reuses o nodes n below is. dealing (virtual count limit) (sizes count limit k reuses) (laws_of ends count limit k reuses) id o (after_deal o.view) (dealt o.view)
-      (λ t r at. (
-        deals_opening count limit id o.view nodes n below is t r at,
-        (
-          (λ b i gone held. gone (subst (λ (u : World). IsEndHeld u i (side_of b)) (deals_opening_world count limit id o.view nodes n below is t r at) held)),
-          (λ b i gone held. gone (subst (λ (u : World). IsEndHeld u i (side_of b)) (sym (deals_opening_world count limit id o.view nodes n below is t r at)) held)),
-        ),
-      ))),
-  (λ count limit k id other reuses o p. joins_seats (virtual count limit) (sizes count limit k reuses) id other o p (together o.view p.view) spent
-      (λ t r at apart there. (
-        joins count limit id o.view other p.view t r at apart there,
-        (
-          (λ b i gone held. gone (subst (λ (u : World). IsEndHeld u i (side_of b)) (joins_world count limit id o.view other p.view t r at apart there) held)),
-          (λ b i gone held. gone (subst (λ (u : World). IsEndHeld u i (side_of b)) (sym (joins_world count limit id o.view other p.view t r at apart there)) held)),
-        ),
-      ))),
-  (λ count limit k id reuses o p is. dealing (virtual count limit) (sizes count limit k reuses) (laws_of ends count limit k reuses) id o (without_caller o.view) (caller_view o.view.caller)
-      (λ t r at. let done = returns t r id o.view p at is in (
-        done.0,
-        (
-          (λ b i gone held. gone (subst (λ (u : World). IsEndHeld u i (side_of b)) done.1 held)),
-          (λ b i gone held. gone (subst (λ (u : World). IsEndHeld u i (side_of b)) (sym done.1) held)),
-        ),
-      ))),
-  (λ count limit k slots i reuses s l deep small. let new = new_caller (length l.0.views) in (
-    own_of (caller_view (Some new)) [] [] [],
-    comes (virtual count limit) (sizes count limit k reuses) (caller_view (Some new)) s l (let done = callers_come l.0 l.1 in (
-      done.0,
-      (
-        (λ b j gone held. gone (subst (λ (u : World). IsEndHeld u j (side_of b)) done.1 held)),
-        (λ b j gone held. gone (subst (λ (u : World). IsEndHeld u j (side_of b)) (sym done.1) held)),
-      ),
-    )),
-    (length l.0.views, refl),
-  )),
+  (λ count limit k id reuses o nodes n below is. dealing (virtual count limit) (sizes count limit k reuses) (laws_of ends count limit k reuses) (staying count limit) id o
+      (after_deal o.view) (dealt o.view) (λ t r at. let d = deals_opening_stays count limit id o.view nodes n below is t r at in (d.0, same_ends count limit t _ r d.0 d.1, d.1))),
+  (λ count limit k id other reuses o p. joins_seats (virtual count limit) (sizes count limit k reuses) (staying count limit) id other o p (together o.view p.view) spent
+      (λ t r at apart there. let d = joins_stay count limit id o.view other p.view t r at apart there in (d.0, same_ends count limit t _ r d.0 d.1, d.1))),
+  (λ count limit k id reuses o p is. dealing (virtual count limit) (sizes count limit k reuses) (laws_of ends count limit k reuses) (staying count limit) id o
+      (without_caller o.view) (caller_view o.view.caller) (λ t r at. let d = returns t r id o.view p at is in (d.0, same_ends count limit t _ r d.0 d.1, d.1))),
+  (λ count limit k slots i reuses s l deep small. let new = new_caller (length l.0.views) in
+      let d = callers_come l.0 l.1 in (
+        own_of (caller_view (Some new)) [] [] [],
+        comes (virtual count limit) (sizes count limit k reuses) (staying count limit) (caller_view (Some new)) s l
+            (d.0, same_ends count limit l.0 _ l.1 d.0 d.1, d.1),
+        (length l.0.views, refl),
+      )),
 )
 
 -- each node's part is its owner's

@@ -19,9 +19,9 @@ use Rattle.ipcz_word.specs.SideSets.{has, both, none}
 use Rattle.ipcz_word.specs.Layout.{bits_of, sets_bits, source_bits, word_of_bits}
 use Rattle.ipcz_word.proofs.Return.{sets_return}
 use Rattle.ipcz_world.specs.World.{word_at}
-use Rattle.ipcz_rule.specs.Rule.{Rules}
+use Rattle.ipcz_rule.specs.Rule.{St, Rules}
 use Rattle.ipcz_rule.specs.Lasting.{side_of}
-use Rattle.ipcz_rule.proofs.Starting.{opens}
+use Rattle.ipcz_rule.proofs.Starting.{opens, opens_shows}
 use Rattle.ipcz_rule.proofs.Lasts.{laws_of}
 use Rattle.ipcz_rule.proofs.LastsAll.{ends}
 
@@ -97,21 +97,28 @@ lasting_starts count limit spare limits room =
     let let_go : (p : ℕ) → get_or words (k + (1 + count + count * count) + p) 0 ≡ get_or last p 0 = λ p.
     ap (slice_index words) (omega arith) ∙ (at_others n spare ((1 + count + count * count) + p) (middle ++ last)
     ∙ (get_or-append_right middle last (1 + count + count * count) ((1 + count + count * count) + p) 0 long (omega arith) ∙ ap (λ i. get_or last i 0) (omega arith))) in
-    starts (virtual count limit) (sizes count limit k true) (laws_of ends count limit k true)
-    (opening words (no_messages (count * count)) (own_of (opening_view count) [] [] [])) (opening (opening_words count limit) (no_messages (count * count)) (opening_view count)) r (record {
-      wide = whole_length n spare middle ∙ omega (arith, long);
-      tall = let e = r.shows.wide in let z = r.words in let c = r.nodes in e ∙ (ap (λ (q : ℕ). q + 1 + r.world.count + r.world.count * r.world.count) z ∙ (ap (λ (q : ℕ). limit + 1 + q + q * q) c ∙ omega arith));
-      homes = refl;
-      views = refl;
-      rest = λ j l. at_others n spare j (middle ++ last) ∙ (get_or_append_left middle last 0 j (rw long l) ∙ sym (ap (slice_index (opening_words count limit)) (omega (arith, all)) ∙ at_others n more j middle));
-      numbers = room;
-      few = omega (arith, count_there);
-      links = λ p l. at_links n spare more p (middle ++ last) middle l (omega (arith, l, room, all));
-      claimed = λ p l. let_go p ∙ (get_or_append_left (replicate n 0) (replicate spare 3) 0 p (rw (long_of n 0) (omega (arith, count_there, l))) ∙ get_or-replicate n p 0 0 (omega (arith, count_there, l)));
-      unclaimed = λ p far l. let_go p ∙ (get_or-append_right (replicate n 0) (replicate spare 3) n p 0 (long_of n 0) (omega (arith, count_there, far)) ∙ get_or-replicate spare (p - n) 3 0 (omega (arith, count_there, far, l)));
-      held = λ again b p l gone. gone (ends.claimed.free r.world r.books r.routes p (side_of b) r.lawful (opened count limit r p (omega (arith, count_there, l)) (omega (arith, count_there, l, room))));
-      none = λ id o at. none_of (own_of (opening_view count) [] [] []) id o refl refl at;
-    })
+    let table : St = opening (opening_words count limit) (no_messages (count * count)) (opening_view count) in (
+      (
+        table,
+        r,
+        starts (virtual count limit) (sizes count limit k true) (laws_of ends count limit k true)
+            (opening words (no_messages (count * count)) (own_of (opening_view count) [] [] [])) table r (record {
+              wide = whole_length n spare middle ∙ omega (arith, long);
+              tall = let e = r.shows.wide in let z = r.words in let c = r.nodes in e ∙ (ap (λ (q : ℕ). q + 1 + r.world.count + r.world.count * r.world.count) z ∙ (ap (λ (q : ℕ). limit + 1 + q + q * q) c ∙ omega arith));
+              homes = refl;
+              views = refl;
+              rest = λ j l. at_others n spare j (middle ++ last) ∙ (get_or_append_left middle last 0 j (rw long l) ∙ sym (ap (slice_index (opening_words count limit)) (omega (arith, all)) ∙ at_others n more j middle));
+              numbers = room;
+              few = omega (arith, count_there);
+              links = λ p l. at_links n spare more p (middle ++ last) middle l (omega (arith, l, room, all));
+              claimed = λ p l. let_go p ∙ (get_or_append_left (replicate n 0) (replicate spare 3) 0 p (rw (long_of n 0) (omega (arith, count_there, l))) ∙ get_or-replicate n p 0 0 (omega (arith, count_there, l)));
+              unclaimed = λ p far l. let_go p ∙ (get_or-append_right (replicate n 0) (replicate spare 3) n p 0 (long_of n 0) (omega (arith, count_there, far)) ∙ get_or-replicate spare (p - n) 3 0 (omega (arith, count_there, far, l)));
+              held = λ again b p l gone. gone (ends.claimed.free r.world r.books r.routes p (side_of b) r.lawful (opened count limit r p (omega (arith, count_there, l)) (omega (arith, count_there, l, room))));
+              none = λ id o at. none_of (own_of (opening_view count) [] [] []) id o refl refl at;
+            }),
+      ),
+      opens_shows count limit limits,
+    )
 
 -- where each number has a slot of its own: the words are those of the table that is folded, with noughts behind them
 whole_starts : WholeStarts
@@ -128,22 +135,28 @@ whole_starts count size limits =
     let front : (i : ℕ) → i < length words → get_or (words ++ replicate size 0) i 0 ≡ get_or words i 0 = λ i l. get_or_append_left words (replicate size 0) 0 i l in
     let let_go : (p : ℕ) → p < size → get_or (words ++ replicate size 0) (size + (1 + count + count * count) + p) 0 ≡ 0 = λ p l.
     get_or-append_right words (replicate size 0) (size + (1 + count + count * count)) (size + (1 + count + count * count) + p) 0 tall (omega arith)
-    ∙ (ap (λ j. get_or (replicate size 0) j 0) (omega arith) ∙ get_or-replicate size p 0 0 l) in
-    starts (virtual count size) (sizes count size size false) (laws_of ends count size size false)
-    (opening (whole_words count size) (no_messages (count * count)) (own_of (opening_view count) [] [] [])) (opening words (no_messages (count * count)) (opening_view count)) r (record {
-      wide = length-append {A = ℕ} words (replicate size 0) ∙ (let e = long_of size 0 in omega (arith, tall, e));
-      tall = tall;
-      homes = refl;
-      views = refl;
-      rest = λ j l. front (size + j) (omega (arith, tall, l));
-      numbers = omega arith;
-      few = omega (arith, count_there, room);
-      links = λ p l. front p (omega (arith, tall, l));
-      claimed = λ p l. let_go p (omega (arith, count_there, l, room));
-      unclaimed = λ p far l. let_go p l;
-      held = λ again. absurd (cc);
-      none = λ id o at. none_of (own_of (opening_view count) [] [] []) id o refl refl at;
-    })
+    ∙ (ap (λ j. get_or (replicate size 0) j 0) (omega arith) ∙ get_or-replicate size p 0 0 l) in (
+      (
+        opening words (no_messages (count * count)) (opening_view count),
+        r,
+        starts (virtual count size) (sizes count size size false) (laws_of ends count size size false)
+            (opening (whole_words count size) (no_messages (count * count)) (own_of (opening_view count) [] [] [])) (opening words (no_messages (count * count)) (opening_view count)) r (record {
+              wide = length-append {A = ℕ} words (replicate size 0) ∙ (let e = long_of size 0 in omega (arith, tall, e));
+              tall = tall;
+              homes = refl;
+              views = refl;
+              rest = λ j l. front (size + j) (omega (arith, tall, l));
+              numbers = omega arith;
+              few = omega (arith, count_there, room);
+              links = λ p l. front p (omega (arith, tall, l));
+              claimed = λ p l. let_go p (omega (arith, count_there, l, room));
+              unclaimed = λ p far l. let_go p l;
+              held = λ again. absurd (cc);
+              none = λ id o at. none_of (own_of (opening_view count) [] [] []) id o refl refl at;
+            }),
+      ),
+      opens_shows count size limits,
+    )
 
 pub start_lasts : StartLasts
 start_lasts = (lasting_starts, whole_starts)

@@ -44,6 +44,7 @@ pub mod LastsCalls
 pub mod LastsOpenClaims
 pub mod LastsStart
 pub mod LastsSeats
+pub mod LastingRuns
 pub mod KeptEnds
 pub mod RunningDry
 pub mod Wetting

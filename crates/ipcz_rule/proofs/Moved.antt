@@ -142,3 +142,10 @@ named_beside i j x y new old = go (nat_eq j i)
 -- the own part says of the world what the rule says
 pub spelled : {count size : ℕ} (s : St) (r : Rules count size s) (id : ℕ) (v : View) (p : Part) → get_elem? s.views id ≡ some v → v.parts ≡ p ∷ [] → Spells s.words r.world p
 spelled s r id v p at is = (r.shows.parts id v 0 p at (ap (λ (l : List Part). get_elem? l 0) is)).1
+
+-- the one rule shows what the other shows
+abbrev pub Stays : {count size : ℕ} {s t : St} → Rules count size s → Rules count size t → Type 0
+Stays r r' = (r'.world ≡ r.world) × (r'.books ≡ r.books) × (r'.routes ≡ r.routes)
+
+pub stays_on : {count size : ℕ} {s t u : St} (r : Rules count size s) (r' : Rules count size t) (r'' : Rules count size u) → Stays r r' → Stays r' r'' → Stays r r''
+stays_on r r' r'' a b = (b.0 ∙ a.0, b.1 ∙ a.1, b.2 ∙ a.2)

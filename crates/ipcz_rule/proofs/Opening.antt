@@ -34,15 +34,16 @@ use Rattle.ipcz_word.specs.SideSets.{has, none as no_sides}
 use Rattle.ipcz_node.specs.Calls.{serials_refusal, open_node}
 use Rattle.ipcz_world.specs.declared.step.Step.TheVariants as steps
 use Rattle.ipcz_world.specs.declared.step.Reply.TheVariants as replies
-use Rattle.ipcz_world.specs.Steps.{Effect, refuse, unless, open_on, open_step}
+use Rattle.ipcz_world.specs.Steps.{Effect, refuse, unless, opened_reply, open_on, open_step}
 use Rattle.ipcz_world.specs.Books.{Books, advance}
 use Rattle.ipcz_world.specs.Routes.{Routes, routes_after}
-use Rattle.ipcz_rule.specs.Kinds.{KeepsEnds, IsKept, Opens}
+use Rattle.ipcz_rule.specs.Deeds.{Does}
+use Rattle.ipcz_rule.specs.Kinds.{Done, IsDeeds, Opens}
 use Rattle.ipcz_world.specs.HeldEnds.{is_turn}
 use Rattle.ipcz_rule.specs.Steps.{open_part}
 use Rattle.ipcz_rule.proofs.FromLaws.{opening_word}
 use Rattle.ipcz_rule.proofs.Known.{sound_part}
-use Rattle.ipcz_rule.proofs.Touching.{call_keeps, any_kept}
+use Rattle.ipcz_rule.proofs.Touching.{Kept, call_done, any_kept}
 
 open_moves : (w : World) (i : ℕ) (y : Word) (n : ℕ) (x : Node) → NodeMoves w (set_word (set_node w n x) i y) n x
 open_moves w i y n x = record {
@@ -119,16 +120,19 @@ module _ (count size : ℕ) (s : St) (r : Rules count size s) (id : ℕ) (v v' :
   boxes : (k : ℕ) → slice_index (set s.words i n') (mailbox w k) ≡ slice_index s.words (mailbox w k)
   boxes k = get_or-set_other s.words i (mailbox w k) n' 0 (λ e. let l = below in omega arith)
 
-  keeps_ends : KeepsEnds true w w'
-  unfolding is_turn
-  keeps_ends =
-      let sp = spelled s r id v p at is in
-      let it = open_step w p.node in
-      subst (λ (z : Node). KeepsEnds true w (set_word (set_node w p.node (open_node z i)) i open_word)) sp.state
-      (subst (KeepsEnds true w) (ap (λ (e : Effect). e.world) (open_gives w p.node i p.state sp.inside sp.state opening fine))
-      (call_keeps w it.world r.books r.routes (steps.Open p.node) it.reply r.lawful refl (inl (refl, refl))))
+  abbrev IsOpened : World → Books → Routes → Type 0
+  IsOpened = Done w r.books r.routes (Does (steps.Open p.node) (opened_reply i) ∷ [])
 
-  pub open_rules : (r' : Rules count size record { words = set s.words i n'; homes = s.homes; views = set s.views id v' }) × KeepsEnds true w r'.world
+  is_opened : IsOpened w' r.books g'
+  unfolding is_turn
+  is_opened =
+      let sp = spelled s r id v p at is in
+      let e = open_gives w p.node i p.state sp.inside sp.state opening fine in
+      subst (λ (z : Node). IsOpened (set_word (set_node w p.node (open_node z i)) i open_word) r.books g') sp.state
+      (call_done w (set_word (set_node w p.node (open_node (node_at w p.node) i)) i open_word) r.books r.books r.routes g' (steps.Open p.node) (opened_reply i) r.lawful refl
+      (inl (ap (λ (x : Effect). x.reply) (sym e), ap (λ (x : Effect). x.world) (sym e))) (sym (open_written w r.books p.node i)) refl)
+
+  pub open_rules : (r' : Rules count size record { words = set s.words i n'; homes = s.homes; views = set s.views id v' }) × IsOpened r'.world r'.books r'.routes
   open_rules =
       let sp = spelled s r id v p at is in
       let moves = open_moves w i open_word p.node p'.state in
@@ -146,11 +150,11 @@ module _ (count size : ℕ) (s : St) (r : Rules count size s) (id : ℕ) (v v' :
         own = own_spells s w w' (set s.words i n') p.node p'.state moves boxes p p' refl refl refl refl refl refl sp;
         others = others_spell s w w' (set s.words i n') p.node p'.state moves boxes;
       }) (inboxes_stay s r w' (set s.words i n') id v' moves.count moves.size sight.0 (λ to l. get_or-set_other s.words i (inbox w to) n' 0 (λ e. let q = below in omega arith)) (λ from to lf lt e. inl (sym (boxes (way w from to)) ∙ e)))
-      (joined_same s.views id v v' p p' r.books at is is' refl refl refl r.joined) lawful (λ u b g. KeepsEnds true w u) keeps_ends
+      (joined_same s.views id v v' p p' r.books at is is' refl refl refl r.joined) lawful IsOpened is_opened
 
 -- open: the own new word goes from 0 to that of an open pair
-opens_all : Opens (IsKept true)
-opens_all count size slots id i m p is opening fine s r deep at small =
+pub opens_deeds : Opens IsDeeds
+opens_deeds count size slots id i m p is opening fine s r deep at small =
     let w = r.world in
     let n : ℕ = slice_index s.words i in
     let sp = spelled s r id m.0 p at is in
@@ -158,10 +162,11 @@ opens_all count size slots id i m p is opening fine s r deep at small =
     let empty : word_at w i ≡ empty_word = opening_word w r.books r.routes p.node i r.lawful (ap (λ y. y.opening) sp.state ∙ opening) in
     let zero_here : n ≡ 0 = r.shows.links i (rw r.words inside) ∙ ap bits_of empty ∙ empty_bits in
     let v' = with_part (open_part i p) (saw i n m.0) in
-    let G : Bool → Type 0 = λ b. (r' : Rules count size (stepped s i (either b (bits_of open_word) n) id m.1 v' keeps)) × KeepsEnds true r.world r'.world in
+    let G : Bool → Type 0 = λ b. (r' : Rules count size (stepped s i (either b (bits_of open_word) n) id m.1 v' keeps)) ×
+    Done w r.books r.routes (Does (steps.Open p.node) (opened_reply i) ∷ []) r'.world r'.books r'.routes in
     (v', keeps, tt, subst G (sym (eq-eqb n 0 zero_here)) (open_rules count size s r id m.0 v' p i (bits_of open_word) at is opening fine inside refl refl (refl, inr (i, refl), refl)), (zero_here, refl))
 
-pub opens : (all : Bool) → Opens (IsKept all)
+pub opens : (all : Bool) → Opens (Kept all)
 opens all count size slots id i m p is opening fine =
-    any_kept all count size slots id m i (λ n. either (eqb n 0) (bits_of open_word) n) (λ n. []) (λ n m'. (n ≡ 0) × (m' ≡ (with_part (open_part i p) (saw i n m.0), m.1)))
-    (opens_all count size slots id i m p is opening fine)
+    any_kept all count size slots id m i (λ n. either (eqb n 0) (bits_of open_word) n) (λ n. Does (steps.Open p.node) (opened_reply i) ∷ [])
+    (λ n m'. (n ≡ 0) × (m' ≡ (with_part (open_part i p) (saw i n m.0), m.1))) (opens_deeds count size slots id i m p is opening fine)

@@ -1,5 +1,5 @@
 -- A put as a step on the own touch word.
-use Rattle.std.specs.Prelude.{◌≡◌, ℕ, [], ◌∷◌, ◌++◌, length, Option, Some, None, refl, Bool, true}
+use Rattle.std.specs.Prelude.{◌≡◌, ℕ, [], ◌∷◌, ◌++◌, length, Option, Some, None, refl, Bool}
 use Rattle.std.proofs.Common.{ap, subst}
 use Rattle.ipcz_base.specs.declared.item.Item.TheVariants.{Parcel}
 use Rattle.ipcz_node.specs.Node.{Node, Found, on_found, terminal_of}
@@ -11,8 +11,11 @@ use Rattle.ipcz_world.specs.Lawful.{Lawful}
 use Rattle.ipcz_world.proofs.frames.Frames.{word-set_node, claimed-set_node}
 use Rattle.ipcz_rule.specs.Rule.{with_part}
 use Rattle.ipcz_rule.specs.Steps.{put_part}
-use Rattle.ipcz_rule.specs.Kinds.{KeepsEnds, IsKept, Puts}
-use Rattle.ipcz_rule.proofs.Touching.{touches, set_moves, put_lawful, put_ends}
+use Rattle.ipcz_world.specs.Steps.{put_of}
+use Rattle.ipcz_world.specs.declared.step.Reply.TheVariants as replies
+use Rattle.ipcz_rule.specs.Deeds.{Does}
+use Rattle.ipcz_rule.specs.Kinds.{Done, IsDeeds, Puts}
+use Rattle.ipcz_rule.proofs.Touching.{Kept, any_kept, touches, set_moves, put_lawful, put_done}
 use Rattle.ipcz_rule.proofs.Adding.{joined_put}
 
 found_hand : (n : Node) (f : Option Found) (p : parcels.Parcel) → (on_found n f (put_at_router n p)).hand ≡ n.hand
@@ -20,12 +23,13 @@ unfolding on_found
 found_hand n None p = refl
 found_hand n (Some f) p = refl
 
-pub puts : (all : Bool) → Puts (IsKept all)
-puts all profile count size slots id i m p at bytes ends is fine =
+pub puts_deeds : Puts IsDeeds
+puts_deeds profile count size slots id i m p at bytes ends is fine =
     let p' = put_part at bytes ends p in
     let item = Parcel (record { bytes = bytes; ends = ends }) in
     let v' = with_part p' m.0 in
-    touches all count size slots id i m p p' v' is refl (refl, refl, refl) (record { node = refl; hand = found_hand p.state (terminal_of p.state at) (record { bytes = bytes; ends = ends }); message = refl; probed = refl; history = refl })
+    let step = put_of profile p.node at bytes ends in
+    touches count size slots id i m p p' v' (Does step (replies.Put (put_number p.state at)) ∷ []) is refl (refl, refl, refl) (record { node = refl; hand = found_hand p.state (terminal_of p.state at) (record { bytes = bytes; ends = ends }); message = refl; probed = refl; history = refl })
     (λ s r seat inside state.
     let w = r.world in
     let b = r.books in
@@ -42,5 +46,11 @@ puts all profile count size slots id i m p at bytes ends is fine =
       claimed = claimed-set_node w n p'.state;
       joined = joined_put s.views id m.0 v' p p' b at seat is refl r.joined item (ap (λ k. p.put ++ ((at, k), item) ∷ []) kept.1) refl refl;
       lawful = kept.0;
-      known = subst (λ (y : Node). KeepsEnds true w (set_node w n (put_node y at (record { bytes = bytes; ends = ends })))) state (put_ends profile w b g n at bytes ends r.lawful inside (rw state fine));
+      known = subst (λ (y : Node). Done w b g (Does step (replies.Put (put_number y at)) ∷ []) (set_node w n (put_node y at (record { bytes = bytes; ends = ends }))) (add_put b at item) g) state
+          (put_done profile w b g n at bytes ends r.lawful inside (rw state fine));
     })
+
+pub puts : (all : Bool) → Puts (Kept all)
+puts all profile count size slots id i m p at bytes ends is fine =
+    any_kept all count size slots id m i (λ n. n) (λ n. Does (put_of profile p.node at bytes ends) (replies.Put (put_number p.state at)) ∷ [])
+    (λ n m'. m' ≡ (with_part (put_part at bytes ends p) m.0, m.1)) (puts_deeds profile count size slots id i m p at bytes ends is fine)

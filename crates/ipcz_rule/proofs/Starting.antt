@@ -26,6 +26,7 @@ use Rattle.ipcz_rule.specs.declared.history.CallerView.{CallerView}
 use Rattle.ipcz_rule.proofs.Inboxes.{has_not}
 use Rattle.ipcz_rule.proofs.Histories.{no_caller}
 use Rattle.ipcz_rule.specs.Rule.{Slot, MailAt, Spells, InParts, Joined, Rules, puts_of, gets_of, drops_of}
+use Rattle.ipcz_rule.specs.LastingStart.{ShowsStart}
 use Rattle.ipcz_rule.specs.Start.{opening_words, opening_part, opening_parts, opening_view, no_messages}
 
 -- a number of a list that is read behind another list
@@ -277,6 +278,11 @@ module _ (count size : ℕ) (limits : IsWithinLimits count size) where
 
       law : Lawful (new_world count size) no_books (first_routes count)
       law = world_starts_lawful count size limits
+
+  -- it shows the world at the start
+  pub opens_shows : ShowsStart count size (opening words (no_messages (count * count)) (opening_view count), opens)
+  unfolding opens
+  opens_shows = record { world = refl; books = refl; routes = refl }
 
 -- each node at the start is sound
 pub starts_sound : (count size : ℕ) → IsWithinLimits count size → (n : ℕ) → n < count → IsSound count size n (new_node n count)

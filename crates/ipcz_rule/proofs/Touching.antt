@@ -21,7 +21,7 @@ use Rattle.ipcz_world.specs.declared.step.Reply.{Reply}
 use Rattle.ipcz_world.specs.declared.step.Reply.TheVariants as replies
 use Rattle.ipcz_world.specs.World.{World, node_at, word_at, set_node}
 use Rattle.ipcz_world.specs.Turns.{after_act, turn_event, turn_lacks_serials, can_take}
-use Rattle.ipcz_world.specs.Steps.{Effect, StepAny, unless, put_step, turn_step}
+use Rattle.ipcz_world.specs.Steps.{Effect, StepAny, unless, put_of, put_step, turn_step}
 use Rattle.ipcz_world.specs.Books.{Books, advance, add_put}
 use Rattle.ipcz_world.specs.Plain.{Plain}
 use Rattle.ipcz_world.specs.Routes.{Routes, routes_after}
@@ -34,7 +34,8 @@ use Rattle.ipcz_rule.specs.declared.view.Part.{Part}
 use Rattle.ipcz_rule.specs.Rule.{St, Mine, mailbox, Joined, Rules}
 use Rattle.ipcz_world.specs.HeldEnds.{is_turn}
 use Rattle.ipcz_world.proofs.lawful.LettingGo.{held_were_held}
-use Rattle.ipcz_rule.specs.Kinds.{IsTurns, KeepsEnds, IsKept}
+use Rattle.ipcz_rule.specs.Deeds.{Deed, Does}
+use Rattle.ipcz_rule.specs.Kinds.{DeedForm, Done, IsDeeds, IsTurns, KeepsEnds, IsKept}
 use Rattle.ipcz_rule.proofs.Moved.{ruled_with, spelled, keeps_sources}
 use Rattle.ipcz_rule.proofs.Inboxes.{inboxes_stay}
 use Rattle.ipcz_rule.proofs.Touches.{NodeMoves, others_spell, own_spells, mails_show}
@@ -85,21 +86,23 @@ touched count size id i m p p' v' is is' same_seen k s r at G t =
     }) (inboxes_stay s r t.world s.words id v' t.moves.count t.moves.size same_seen.0 (λ to l. refl) (λ from to lf lt e. inl e)) t.joined t.lawful G t.known in
     subst After (sym (set-get_or s.words i 0)) rules
 
--- who keeps all ends keeps them
-pub any_kept : (all : Bool) (count size slots id : ℕ) (m : Mine) (i : ℕ) (f : ℕ → ℕ) (turns : ℕ → List (ℕ × Act)) (told : ℕ → Mine → Type 0) → IsKept true count size slots id m i f turns told →
-    IsKept all count size slots id m i f turns told
-any_kept all count size slots id m i f turns told may s r deep at small =
-    let h = may s r deep at small in (h.0, h.1, h.2, (h.3.0, (h.3.1.0, (λ e. h.3.1.1 refl))), h.4)
+-- a step that is deeds, as one that keeps the rule and ends
+abbrev pub Kept : Bool → DeedForm
+Kept all count size slots id m i f deeds told = IsKept all count size slots id m i f (λ n. []) told
+
+pub any_kept : (all : Bool) (count size slots id : ℕ) (m : Mine) (i : ℕ) (f : ℕ → ℕ) (deeds : ℕ → List Deed) (told : ℕ → Mine → Type 0) → IsDeeds count size slots id m i f deeds told →
+    Kept all count size slots id m i f deeds told
+any_kept all count size slots id m i f deeds told may s r deep at small =
+    let h = may s r deep at small in (h.0, h.1, h.2, (h.3.0, (h.3.1.1.0, (λ e. h.3.1.1.1 refl))), h.4)
 
 -- touch, of a call
-pub touches : (all : Bool) (count size slots id i : ℕ) (m : Mine) (p p' : Part) (v' : View) → m.0.parts ≡ p ∷ [] → v'.parts ≡ p' ∷ [] → (v'.announced ≡ None) × (v'.seen ≡ m.0.seen) × (v'.caller ≡ m.0.caller) → KeepsHands p p' →
+pub touches : (count size slots id i : ℕ) (m : Mine) (p p' : Part) (v' : View) (deeds : List Deed) → m.0.parts ≡ p ∷ [] → v'.parts ≡ p' ∷ [] → (v'.announced ≡ None) × (v'.seen ≡ m.0.seen) × (v'.caller ≡ m.0.caller) → KeepsHands p p' →
     ((s : St) (r : Rules count size s) → get_elem? s.views id ≡ some m.0 → p.node < r.world.count → node_at r.world p.node ≡ p.state →
-    Touched r.world (set s.views id v') p p' (λ w b g. KeepsEnds true r.world w)) →
-    IsKept all count size slots id m i (λ n. n) (λ n. []) (λ n m'. m' ≡ (v', m.1))
-touches all count size slots id i m p p' v' is is' same_seen k owes =
-    any_kept all count size slots id m i (λ n. n) (λ n. []) (λ n m'. m' ≡ (v', m.1)) (λ s r deep at small.
+    Touched r.world (set s.views id v') p p' (Done r.world r.books r.routes deeds)) →
+    IsDeeds count size slots id m i (λ n. n) (λ n. deeds) (λ n m'. m' ≡ (v', m.1))
+touches count size slots id i m p p' v' deeds is is' same_seen k owes s r deep at small =
     let sp = spelled s r id m.0 p at is in
-    (v', keeps, tt, touched count size id i m p p' v' is is' same_seen k s r at (λ w b g. KeepsEnds true r.world w) (owes s r at sp.inside sp.state), refl))
+    (v', keeps, tt, touched count size id i m p p' v' is is' same_seen k s r at (Done r.world r.books r.routes deeds) (owes s r at sp.inside sp.state), refl)
 
 -- touch, of an act
 pub touches_turn : (count size slots id i : ℕ) (m : Mine) (p p' : Part) (v' : View) (act : Act) → m.0.parts ≡ p ∷ [] → v'.parts ≡ p' ∷ [] → (v'.announced ≡ None) × (v'.seen ≡ m.0.seen) × (v'.caller ≡ m.0.caller) → KeepsHands p p' →
@@ -188,15 +191,24 @@ pub call_keeps : (w v : World) (b : Books) (g : Routes) (step : Step) (reply : R
 call_keeps w v b g step reply lawful call is =
     ((λ i s held. held_were_held w v b g step reply i s lawful is held), (λ e i s held. calls_keep_held w v b g step reply i s lawful call is held))
 
--- so does a put
-pub put_ends : (profile : Profile) (w : World) (b : Books) (g : Routes) (n : ℕ) (at : End) (bytes : List ℕ) (ends : List End) → Lawful w b g → n < w.count →
-    put_refusal profile (node_at w n) at bytes ends ≡ None → KeepsEnds true w (set_node w n (put_node (node_at w n) at (record { bytes = bytes; ends = ends })))
-unfolding is_turn
-put_ends Printed w b g n at bytes ends lawful inside fine =
-    let it = put_step Printed w n at (record { bytes = bytes; ends = ends }) in
-    subst (KeepsEnds true w) (ap (λ (e : Effect). e.world) (put_gives Printed w n at bytes ends inside fine))
-    (call_keeps w it.world b g (steps.Put n at bytes ends) it.reply lawful refl (inl (refl, refl)))
-put_ends Wide w b g n at bytes ends lawful inside fine =
-    let it = put_step Wide w n at (record { bytes = bytes; ends = ends }) in
-    subst (KeepsEnds true w) (ap (λ (e : Effect). e.world) (put_gives Wide w n at bytes ends inside fine))
-    (call_keeps w it.world b g (steps.PutWide n at bytes ends) it.reply lawful refl (inl (refl, refl)))
+-- so a call that is a step of the world is that deed
+pub call_done : (w v : World) (b c : Books) (g h : Routes) (step : Step) (reply : Reply) → Lawful w b g → is_turn step ≡ false → StepAny w step reply v →
+    c ≡ advance w b step reply → h ≡ routes_after w g step reply → Done w b g (Does step reply ∷ []) v c h
+call_done w v b c g h step reply lawful call is books routes = ((v, is, (refl, books, routes)), call_keeps w v b g step reply lawful call is)
+
+-- a put is
+pub put_done : (profile : Profile) (w : World) (b : Books) (g : Routes) (n : ℕ) (at : End) (bytes : List ℕ) (ends : List End) → Lawful w b g → n < w.count →
+    put_refusal profile (node_at w n) at bytes ends ≡ None →
+    Done w b g (Does (put_of profile n at bytes ends) (replies.Put (put_number (node_at w n) at)) ∷ [])
+    (set_node w n (put_node (node_at w n) at (record { bytes = bytes; ends = ends }))) (add_put b at (Parcel (record { bytes = bytes; ends = ends }))) g
+unfolding is_turn advance routes_after
+put_done Printed w b g n at bytes ends lawful inside fine =
+    let e = put_gives Printed w n at bytes ends inside fine in
+    call_done w (set_node w n (put_node (node_at w n) at (record { bytes = bytes; ends = ends }))) b (add_put b at (Parcel (record { bytes = bytes; ends = ends }))) g g
+    (steps.Put n at bytes ends) (replies.Put (put_number (node_at w n) at)) lawful refl
+    (inl (ap (λ (x : Effect). x.reply) (sym e), ap (λ (x : Effect). x.world) (sym e))) refl refl
+put_done Wide w b g n at bytes ends lawful inside fine =
+    let e = put_gives Wide w n at bytes ends inside fine in
+    call_done w (set_node w n (put_node (node_at w n) at (record { bytes = bytes; ends = ends }))) b (add_put b at (Parcel (record { bytes = bytes; ends = ends }))) g g
+    (steps.PutWide n at bytes ends) (replies.Put (put_number (node_at w n) at)) lawful refl
+    (inl (ap (λ (x : Effect). x.reply) (sym e), ap (λ (x : Effect). x.world) (sym e))) refl refl

@@ -1,5 +1,5 @@
 -- A router that may claim again, as a step on the own touch word.
-use Rattle.std.specs.Prelude.{◌≡◌, ℕ, true, Option, Some, None, refl, Bool}
+use Rattle.std.specs.Prelude.{◌≡◌, ℕ, true, Option, Some, None, is_some, [], ◌∷◌, refl, Bool}
 use Rattle.std.proofs.Common.{ap, ◌∙◌, sym, subst, inl}
 use Rattle.ipcz_router.specs.Router.{Router}
 use Rattle.ipcz_router.specs.ActEffects.{rewet}
@@ -14,12 +14,14 @@ use Rattle.ipcz_world.proofs.runs.Drying.{wet_keeps_lawful}
 use Rattle.ipcz_world.proofs.lawful.LastingEnds.{deeds_keep_ends}
 use Rattle.ipcz_rule.specs.Rule.{with_part}
 use Rattle.ipcz_rule.specs.Steps.{wet_part}
-use Rattle.ipcz_rule.specs.Kinds.{IsKept, KeepsEnds, Wets}
+use Rattle.ipcz_rule.specs.Deeds.{Beside}
+use Rattle.ipcz_rule.specs.Deeds as asides
+use Rattle.ipcz_rule.specs.Kinds.{IsDeeds, KeepsEnds, Wets}
 use Rattle.ipcz_rule.proofs.Joins.{joined_same}
-use Rattle.ipcz_rule.proofs.Touching.{touches, set_moves}
+use Rattle.ipcz_rule.proofs.Touching.{Kept, any_kept, touches, set_moves}
 
 -- the world after it
-wet_is : (w : World) (n serial : ℕ) (rt : Router) → router_in (node_at w n) serial ≡ Some rt →
+pub wet_is : (w : World) (n serial : ℕ) (rt : Router) → router_in (node_at w n) serial ≡ Some rt →
     set_node w n (rewet_node (node_at w n) serial) ≡ wet_act w (record { node = n; serial = serial }) rt
 unfolding on_router
 wet_is w n serial rt here = rw here refl
@@ -33,14 +35,14 @@ wet_hand x serial = go (router_in x serial)
     go None = refl
     go (Some r) = refl
 
-pub wets : (all : Bool) → Wets (IsKept all)
+pub wets_deeds : Wets IsDeeds
 unfolding router_at
-wets all count size slots id i m p serial is has =
+wets_deeds count size slots id i m p serial is has =
     let some = some_is (router_in p.state serial) has in
     let rt = some.0 in
     let p' = wet_part serial p in
     let v' = with_part p' m.0 in
-    touches all count size slots id i m p p' v' is refl (refl, refl, refl) (record { node = refl; hand = wet_hand p.state serial; message = refl; probed = refl; history = refl })
+    touches count size slots id i m p p' v' (Beside (asides.Wets p.node serial) ∷ []) is refl (refl, refl, refl) (record { node = refl; hand = wet_hand p.state serial; message = refl; probed = refl; history = refl })
     (λ s r seat inside state.
     let w = r.world in
     let n : ℕ = p.node in
@@ -56,8 +58,19 @@ wets all count size slots id i m p serial is has =
       claimed = claimed-set_node w n p'.state;
       joined = joined_same s.views id m.0 v' p p' r.books seat is refl refl refl refl r.joined;
       lawful = subst (λ (u : World). Lawful u r.books r.routes) (sym there) (wet_keeps_lawful w r.books r.routes (record { node = n; serial = serial }) rt r.lawful here);
-      known = subst (λ (u : World). KeepsEnds true w u) (sym there) (
-        (λ k side held. inl ((deeds_keep_ends.wets w (record { node = n; serial = serial }) rt k side here).were held)),
-        (λ e k side held. (deeds_keep_ends.wets w (record { node = n; serial = serial }) rt k side here).are held),
+      known = (
+        (
+          (inside, ap (λ (y : Node). is_some (router_in y serial)) state ∙ has),
+          (ap (λ (y : Node). set_node w n (rewet_node y serial)) (sym state), refl, refl),
+        ),
+        subst (λ (u : World). KeepsEnds true w u) (sym there) (
+          (λ k side held. inl ((deeds_keep_ends.wets w (record { node = n; serial = serial }) rt k side here).were held)),
+          (λ e k side held. (deeds_keep_ends.wets w (record { node = n; serial = serial }) rt k side here).are held),
+        ),
       );
     })
+
+pub wets : (all : Bool) → Wets (Kept all)
+wets all count size slots id i m p serial is has =
+    any_kept all count size slots id m i (λ n. n) (λ n. Beside (asides.Wets p.node serial) ∷ []) (λ n m'. m' ≡ (with_part (wet_part serial p) m.0, m.1))
+    (wets_deeds count size slots id i m p serial is has)

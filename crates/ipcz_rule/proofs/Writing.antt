@@ -12,9 +12,11 @@ use Rattle.ipcz_rule.specs.declared.view.Part.{Part}
 use Rattle.ipcz_rule.specs.declared.view.View.{View}
 use Rattle.ipcz_rule.specs.Histories.{Histories, IsNoted, noted, entry_of, caller_view, new_caller, without_caller}
 use Rattle.ipcz_rule.specs.Rule.{St, InParts, Rules, puts_of, gets_of, drops_of}
-use Rattle.ipcz_rule.specs.Kinds.{KeepsEnds, IsKept, Notes}
+use Rattle.ipcz_world.specs.Ranks.{AreTurns}
+use Rattle.ipcz_rule.specs.Kinds.{IsKept, IsTurns, Notes}
+use Rattle.ipcz_rule.proofs.KeptEnds.{turns_keep}
 use Rattle.ipcz_rule.proofs.Histories.{noted_view, histories_note, is_noted, histories_enter, histories_move, StoodPart, at_end, went, went_there, went_not, no_caller}
-use Rattle.ipcz_rule.proofs.Moved.{Moves, ruled_by, spelled}
+use Rattle.ipcz_rule.proofs.Moved.{Moves, Stays, stays_on, ruled_by, spelled}
 use Rattle.ipcz_rule.proofs.Inboxes.{inboxes_stay}
 use Rattle.ipcz_rule.proofs.Joins.{joined_same}
 
@@ -26,8 +28,8 @@ apart_from s r id v p at is j k u q ne at_j at_k same =
     let theirs = (r.shows.parts j u k q at_j at_k).0 in
     ne (sym theirs ∙ (ap r.owner (sym same) ∙ mine))
 
--- the rule after a call was written down, and the ends that are held stay
-module _ {count size : ℕ} (all : Bool) (s : St) (r : Rules count size s) (id : ℕ) (v : View) (p : Part) (c : CallerView) (call : Call) (at : get_elem? s.views id ≡ some v) (is : v.parts ≡ p ∷ []) (has : v.caller ≡ Some c) where
+-- the rule after a call was written down: what is shown stays
+module _ {count size : ℕ} (s : St) (r : Rules count size s) (id : ℕ) (v : View) (p : Part) (c : CallerView) (call : Call) (at : get_elem? s.views id ≡ some v) (is : v.parts ≡ p ∷ []) (has : v.caller ≡ Some c) where
   abbrev pub told_view : View
   told_view = noted_view s.views id v p c call at is has r.histories (apart_from s r id v p at is)
 
@@ -47,22 +49,26 @@ module _ {count size : ℕ} (all : Bool) (s : St) (r : Rules count size s) (id :
     others = λ q ne other. other;
   }
 
-  written : (r' : Rules count size record { words = s.words; homes = s.homes; views = set s.views id told_view }) × KeepsEnds all r.world r'.world
+  written : (r' : Rules count size record { words = s.words; homes = s.homes; views = set s.views id told_view }) × Stays r r'
   written = ruled_by s r r.world r.books r.routes s.words s.homes id v told_view p (noted (entry_of p.node c.id call) p) at is refl (inl refl)
       (histories_note s.views id v p c call at is has r.histories (apart_from s r id v p at is)) moves
       (inboxes_stay s r r.world s.words id told_view refl refl refl (λ to l. refl) (λ from to lf lt e. inl e))
       (joined_same s.views id v told_view p (noted (entry_of p.node c.id call) p) r.books at is refl refl refl refl r.joined) r.lawful
-      (λ w b g. KeepsEnds all r.world w) ((λ i b held. inl held), (λ e i b held. held))
+      (AreTurns r.world r.books r.routes []) (refl, refl, refl)
 
   pub told : IsNoted v p c call told_view
   told = is_noted s.views id v p c call at is has r.histories (apart_from s r id v p at is)
 
-  pub written_at : (i : ℕ) → (r' : Rules count size record { words = set s.words i (slice_index s.words i); homes = s.homes; views = set s.views id told_view }) × KeepsEnds all r.world r'.world
-  written_at i = subst (λ (ws : List ℕ). (r' : Rules count size record { words = ws; homes = s.homes; views = set s.views id told_view }) × KeepsEnds all r.world r'.world) (sym (set-get_or s.words i 0)) written
+  pub written_at : (i : ℕ) → (r' : Rules count size record { words = set s.words i (slice_index s.words i); homes = s.homes; views = set s.views id told_view }) × Stays r r'
+  written_at i = subst (λ (ws : List ℕ). (r' : Rules count size record { words = ws; homes = s.homes; views = set s.views id told_view }) × Stays r r') (sym (set-get_or s.words i 0)) written
+
+pub notes_turns : Notes IsTurns
+notes_turns count size slots id i m p c call is has s r deep at small =
+    (told_view s r id m.0 p c call at is has, keeps, tt, written_at s r id m.0 p c call at is has i, (told s r id m.0 p c call at is has, refl))
 
 pub notes : (all : Bool) → Notes (IsKept all)
 notes all count size slots id i m p c call is has s r deep at small =
-    (told_view all s r id m.0 p c call at is has, keeps, tt, written_at all s r id m.0 p c call at is has i, (told all s r id m.0 p c call at is has, refl))
+    let t = notes_turns count size slots id i m p c call is has s r deep at small in (t.0, t.1, t.2, turns_keep all count size s _ r [] (λ e k side gone. gone) t.3, t.4)
 
 -- a seat comes that has no part: the rule stays but for the history
 module _ {count size : ℕ} (s : St) (r : Rules count size s) (new : View) (views : List View) (are : views ≡ s.views ++ new ∷ []) (parts : new.parts ≡ []) (seen : new.seen ≡ []) (histories : Histories views) where
@@ -135,18 +141,18 @@ module _ {count size : ℕ} (s : St) (r : Rules count size s) (new : View) (view
     histories = histories;
   }
 
-  -- it shows the same world
-  pub longer_world : longer.world ≡ r.world
+  -- it shows the same
+  pub longer_stays : Stays r longer
   unfolding longer
-  longer_world = refl
+  longer_stays = (refl, refl, refl)
 
 -- a caller that has called nothing yet comes, whatever the table is
 pub callers_come : {count size : ℕ} (s : St) (r : Rules count size s) →
-    (r' : Rules count size record { words = s.words; homes = s.homes; views = s.views ++ caller_view (Some (new_caller (length s.views))) ∷ [] }) × (r'.world ≡ r.world)
+    (r' : Rules count size record { words = s.words; homes = s.homes; views = s.views ++ caller_view (Some (new_caller (length s.views))) ∷ [] }) × Stays r r'
 callers_come s r =
     let new = caller_view (Some (new_caller (length s.views))) in
     let h = histories_enter s.views new r.histories refl in
-    (longer s r new (s.views ++ new ∷ []) refl refl refl h, longer_world s r new (s.views ++ new ∷ []) refl refl refl h)
+    (longer s r new (s.views ++ new ∷ []) refl refl refl h, longer_stays s r new (s.views ++ new ∷ []) refl refl refl h)
 
 -- the caller that a seat has goes on with a seat of its own: first the seat has none, and then the other comes
 module _ {count size : ℕ} (s : St) (r : Rules count size s) (id : ℕ) (v : View) (p : Part) (at : get_elem? s.views id ≡ some v) (is : v.parts ≡ p ∷ []) where
@@ -210,13 +216,13 @@ module _ {count size : ℕ} (s : St) (r : Rules count size s) (id : ℕ) (v : Vi
     others = λ q ne other. other;
   }
 
-  left_alone : (r' : Rules count size record { words = s.words; homes = s.homes; views = left }) × (r'.world ≡ r.world)
+  left_alone : (r' : Rules count size record { words = s.words; homes = s.homes; views = left }) × Stays r r'
   left_alone = ruled_by s r r.world r.books r.routes s.words s.homes id v (without_caller v) p p at is is (inl refl) alone same
       (inboxes_stay s r r.world s.words id (without_caller v) refl refl refl (λ to l. refl) (λ from to lf lt e. inl e))
       (joined_same s.views id v (without_caller v) p p r.books at is is refl refl refl r.joined) r.lawful
-      (λ w b g. w ≡ r.world) refl
+      (AreTurns r.world r.books r.routes []) (refl, refl, refl)
 
-  pub returns : (r' : Rules count size record { words = s.words; homes = s.homes; views = left ++ new ∷ [] }) × (r'.world ≡ r.world)
+  pub returns : (r' : Rules count size record { words = s.words; homes = s.homes; views = left ++ new ∷ [] }) × Stays r r'
   returns =
       let t : St = record { words = s.words; homes = s.homes; views = left } in
-      (longer t left_alone.0 new (left ++ new ∷ []) refl refl refl both, longer_world t left_alone.0 new (left ++ new ∷ []) refl refl refl both ∙ left_alone.1)
+      (longer t left_alone.0 new (left ++ new ∷ []) refl refl refl both, stays_on r left_alone.0 (longer t left_alone.0 new (left ++ new ∷ []) refl refl refl both) left_alone.1 (longer_stays t left_alone.0 new (left ++ new ∷ []) refl refl refl both))

@@ -1,6 +1,6 @@
 -- The kinds of atomic step of a seat with one node: what each needs of the node, and what it leaves of the seat. Each keeps the rule.
 -- In addition it is said of a step that a turn takes which turns of the shown world it is: none, or one act of its node.
--- Of a step of a call it is said that ends of link words which nobody held are held by nobody.
+-- Of a step of a call it is said that it is this very call of the shown world, with its answer (specs/Deeds).
 -- In each the seat is `id`, the table has so many slots, and `i` is the word. What a step tells that may find its word changed is by a test
 -- of the number found: if it fails, the step was a load.
 use Rattle.std.specs.Prelude.{◌≡◌, ◌≢◌, ◌≤◌, ◌<◌, if◌then◌else◌, ◌⊎◌, cond, length, slice_index, ◌+◌, ◌*◌, ◌-◌, ℕ, Bool, true, false, eqb, List, [], ◌∷◌, ◌++◌, Some}
@@ -27,7 +27,7 @@ use Rattle.ipcz_node.specs.declared.act.Act.TheVariants as acts
 use Rattle.ipcz_node.specs.Node.{router_in}
 use Rattle.ipcz_node.specs.Acts.{first_of, has_mail_for, post_of, act_lacks_serials}
 use Rattle.ipcz_node.specs.RoomyNodes.{IsPossibleAct}
-use Rattle.ipcz_node.specs.Calls.{put_refusal, get_refusal, got_at, close_refusal, serials_refusal}
+use Rattle.ipcz_node.specs.Calls.{put_refusal, put_number, get_refusal, got_at, close_refusal, serials_refusal}
 use Rattle.ipcz_node.specs.Hands.{message_lacks_serials}
 use Rattle.ipcz_world.specs.WordAnswers.{word_after}
 use Rattle.ipcz_rule.specs.declared.view.View.{View}
@@ -38,7 +38,14 @@ use Rattle.ipcz_rule.specs.Histories.{IsNoted, lent_caller}
 use Rattle.ipcz_world.specs.HeldEnds.{IsEndHeld}
 use Rattle.ipcz_world.specs.Ranks.{AreTurns}
 use Rattle.ipcz_world.specs.World.{World}
+use Rattle.ipcz_world.specs.Books.{Books}
+use Rattle.ipcz_world.specs.Routes.{Routes}
 use Rattle.ipcz_world.specs.Wordless.{is_wordless}
+use Rattle.ipcz_world.specs.Steps.{put_of, opened_reply}
+use Rattle.ipcz_world.specs.declared.step.Step.TheVariants.{Open, Get, Close}
+use Rattle.ipcz_world.specs.declared.step.Reply.TheVariants as replies
+use Rattle.ipcz_rule.specs.Deeds.{Deed, Does, Beside, AreDeeds, deed_where}
+use Rattle.ipcz_rule.specs.Deeds as asides
 use Rattle.ipcz_rule.specs.GivenUp.{GivesEnd}
 use Rattle.ipcz_rule.specs.Rule.{Slot, St, Mine, Rules, has_number, with_part, saw, announcing, forgetting}
 use Rattle.ipcz_rule.specs.Steps.{put_part, get_part, close_part, claimed_part, open_part, wet_part, act_part, acted_view, CanAct}
@@ -78,6 +85,24 @@ IsKept all count size slots id me i f turns told =
     ((r' : Rules count size (stepped s i (f (slice_index s.words i)) id me.1 v a)) × KeepsEnds all r.world r'.world) ×
     told (slice_index s.words i) (v, carried_after me.1 a)
 
+-- the same of a step that a call takes, in place of the turns by the deeds of the shown world that it is
+abbrev pub DeedForm : Type 1
+DeedForm = (count size slots id : ℕ) → Mine → ℕ → (ℕ → ℕ) → (ℕ → List Deed) → (ℕ → Mine → Type 0) → Type 0
+
+-- deeds, by which the ends that are held are those that were, and those of numbers that weren't claimed
+abbrev pub Done : World → Books → Routes → List Deed → World → Books → Routes → Type 0
+Done w b g deeds v c h = AreDeeds w b g deeds v c h × KeepsEnds true w v
+
+-- that it keeps the rule and is these deeds, whatever world the rule shows before
+abbrev pub IsDeeds : DeedForm
+IsDeeds count size slots id me i f deeds told =
+    (s : St) (r : Rules count size s) → length s.homes ≡ slots → get_elem? s.views id ≡ some me.0 →
+    slice_index s.words i < 18446744073709551616 →
+    (v : View) × (a : TableAct Slot) × Valid s.homes me.1 a ×
+    ((r' : Rules count size (stepped s i (f (slice_index s.words i)) id me.1 v a)) ×
+    Done r.world r.books r.routes (deeds (slice_index s.words i)) r'.world r'.books r'.routes) ×
+    told (slice_index s.words i) (v, carried_after me.1 a)
+
 -- one act of a node if a test holds, else nothing
 abbrev pub turn_where : Bool → ℕ → Act → List (ℕ × Act)
 turn_where hit n act = cond hit ((n, act) ∷ []) []
@@ -87,22 +112,25 @@ abbrev pub Loads : Form → Type 0
 Loads F = (count size slots id i : ℕ) (m : Mine) (p : Part) → m.0.parts ≡ p ∷ [] →
     F count size slots id m i (λ n. n) (λ n. []) (λ n m'. m' ≡ (saw i n m.0, m.1))
 
--- touch, of a put of whichever profile
-abbrev pub Puts : Form → Type 0
+-- touch, of a put of whichever profile: it is answered how many were put there before
+abbrev pub Puts : DeedForm → Type 0
 Puts F = (profile : Profile) (count size slots id i : ℕ) (m : Mine) (p : Part) (at : End) (bytes : List ℕ) (ends : List End) → m.0.parts ≡ p ∷ [] →
     put_refusal profile p.state at bytes ends ≡ None →
-    F count size slots id m i (λ n. n) (λ n. []) (λ n m'. m' ≡ (with_part (put_part at bytes ends p) m.0, m.1))
+    F count size slots id m i (λ n. n) (λ n. Does (put_of profile p.node at bytes ends) (replies.Put (put_number p.state at)) ∷ [])
+    (λ n m'. m' ≡ (with_part (put_part at bytes ends p) m.0, m.1))
 
--- touch, of a get
-abbrev pub Gets : Form → Type 0
+-- touch, of a get that gives this parcel
+abbrev pub Gets : DeedForm → Type 0
 Gets F = (count size slots id i : ℕ) (m : Mine) (p : Part) (at : End) (number : ℕ) (q : parcels.Parcel) → m.0.parts ≡ p ∷ [] →
     get_refusal p.state at ≡ None → got_at p.state at ≡ Some (number, q) →
-    F count size slots id m i (λ n. n) (λ n. []) (λ n m'. m' ≡ (with_part (get_part at number q p) m.0, m.1))
+    F count size slots id m i (λ n. n) (λ n. Does (Get p.node at) (replies.Got number q) ∷ [])
+    (λ n m'. m' ≡ (with_part (get_part at number q p) m.0, m.1))
 
--- touch, of a close
-abbrev pub Closes : Form → Type 0
+-- touch, of a close: it is answered how many were put there
+abbrev pub Closes : DeedForm → Type 0
 Closes F = (count size slots id i : ℕ) (m : Mine) (p : Part) (at : End) → m.0.parts ≡ p ∷ [] → close_refusal p.state at ≡ None →
-    F count size slots id m i (λ n. n) (λ n. []) (λ n m'. m' ≡ (with_part (close_part at p) m.0, m.1))
+    F count size slots id m i (λ n. n) (λ n. Does (Close p.node at) (replies.Closed (put_number p.state at)) ∷ [])
+    (λ n m'. m' ≡ (with_part (close_part at p) m.0, m.1))
 
 -- touch, of a close that is pending
 abbrev pub PendingCloses : Form → Type 0
@@ -190,16 +218,16 @@ LoadsForClaim F = (count size slots id : ℕ) (m : Mine) (p : Part) (serial : �
     (m' ≡ (saw size n m.0, m.1)))
 
 -- touch, of a claim of a proxy that is told that no word is left, whether or not numbers are left
-abbrev pub Dries : Form → Type 0
+abbrev pub Dries : DeedForm → Type 0
 Dries F = (count size slots id i : ℕ) (m : Mine) (p : Part) (serial : ℕ) (r : Router) → m.0.parts ≡ p ∷ [] →
     CanAct p.state serial r router_acts.Claim →
-    F count size slots id m i (λ n. n) (λ n. []) (λ n m'. m' ≡
+    F count size slots id m i (λ n. n) (λ n. Beside (asides.Dries p.node serial) ∷ []) (λ n m'. m' ≡
     (with_part (act_part (acts.Router serial router_acts.Claim) answers.NoWord p) m.0, m.1))
 
 -- touch, of a router: it may claim again
-abbrev pub Wets : Form → Type 0
+abbrev pub Wets : DeedForm → Type 0
 Wets F = (count size slots id i : ℕ) (m : Mine) (p : Part) (serial : ℕ) → m.0.parts ≡ p ∷ [] → is_some (router_in p.state serial) ≡ true →
-    F count size slots id m i (λ n. n) (λ n. []) (λ n m'. m' ≡ (with_part (wet_part serial p) m.0, m.1))
+    F count size slots id m i (λ n. n) (λ n. Beside (asides.Wets p.node serial) ∷ []) (λ n m'. m' ≡ (with_part (wet_part serial p) m.0, m.1))
 
 -- claim: the count is exchanged for the next, if it is what was found before
 abbrev pub Claims : Form → Type 0
@@ -210,16 +238,17 @@ Claims F = (count size slots id c : ℕ) (m : Mine) (p : Part) (serial : ℕ) (r
     (m' ≡ (with_part (act_part (acts.Router serial router_acts.Claim) (answers.Claimed c) p) (saw size n m.0), m.1))
     (m' ≡ (saw size n m.0, m.1)))
 
--- the first half of an open: a claim for it
-abbrev pub ClaimsForOpen : Form → Type 0
+-- the first half of an open, which is no call yet: a claim for it
+abbrev pub ClaimsForOpen : DeedForm → Type 0
 ClaimsForOpen F = (count size slots id c : ℕ) (m : Mine) (p : Part) → m.0.parts ≡ p ∷ [] → p.state.opening ≡ None → c < size →
-    F count size slots id m size (λ n. either (eqb n c) (c + 1) n) (λ n. [])
+    F count size slots id m size (λ n. either (eqb n c) (c + 1) n) (λ n. deed_where (eqb n c) (Beside (asides.ClaimsWord p.node)))
     (λ n m'. MatchBool (eqb n c) (m' ≡ (with_part (claimed_part c p) (saw size n m.0), m.1)) (m' ≡ (saw size n m.0, m.1)))
 
--- open: the word that was claimed for it goes from 0 to that of an open pair; it is 0 as long as the open is under way
-abbrev pub Opens : Form → Type 0
+-- open: the word that was claimed for it goes from 0 to that of an open pair; it is 0 as long as the open is under way. It is answered the ends of
+-- the word's pair
+abbrev pub Opens : DeedForm → Type 0
 Opens F = (count size slots id i : ℕ) (m : Mine) (p : Part) → m.0.parts ≡ p ∷ [] → p.state.opening ≡ Some i → serials_refusal p.state ≡ None →
-    F count size slots id m i (λ n. either (eqb n 0) (bits_of open_word) n) (λ n. [])
+    F count size slots id m i (λ n. either (eqb n 0) (bits_of open_word) n) (λ n. Does (Open p.node) (opened_reply i) ∷ [])
     (λ n m'. (n ≡ 0) × (m' ≡ (with_part (open_part i p) (saw i n m.0), m.1)))
 
 -- probe: the slot of an empty mailbox is taken, and its word is 3

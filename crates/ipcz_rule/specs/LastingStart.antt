@@ -1,8 +1,12 @@
 -- The table whose link words come back, at the start.
-use Rattle.std.specs.Prelude.{◌≤◌, ◌+◌, ◌*◌, ℕ, true, false, List, [], ◌∷◌, ◌++◌, length, replicate}
+use Rattle.std.specs.Prelude.{◌≡◌, ◌≤◌, ◌+◌, ◌*◌, ℕ, true, false, List, [], ◌∷◌, ◌++◌, length, replicate}
 use Rattle.atomic_table.specs.Table.{opening}
 use Rattle.ipcz_node.specs.FirstPairs.{first_pairs}
+use Rattle.ipcz_world.specs.World.{new_world}
+use Rattle.ipcz_world.specs.Books.{no_books}
+use Rattle.ipcz_world.specs.Routes.{first_routes}
 use Rattle.ipcz_world.specs.Lawful.{IsWithinLimits}
+use Rattle.ipcz_rule.specs.TableRuns.{Ruled}
 use Rattle.ipcz_rule.specs.Start.{opening_words, no_messages, opening_view}
 use Rattle.ipcz_rule.specs.Lasting.{LastingRules, own_of}
 
@@ -17,15 +21,22 @@ lasting_words count spare =
 abbrev pub whole_words : ℕ → ℕ → List ℕ
 whole_words count size = opening_words count size ++ replicate size 0
 
--- they keep the rule
+-- a table shows the world at the start
+pub record ShowsStart (count limit : ℕ) (p : Ruled count limit) : Type 0 where
+  pub world : p.1.world ≡ new_world count limit
+  pub books : p.1.books ≡ no_books
+  pub routes : p.1.routes ≡ first_routes count
+
+-- they keep the rule, and show that world
 abbrev pub LastingStarts : Type 0
 LastingStarts = (count limit spare : ℕ) → IsWithinLimits count limit → length (first_pairs count) + spare ≤ limit →
-    LastingRules count limit (length (first_pairs count) + spare) true
-    (opening (lasting_words count spare) (no_messages (count * count)) (own_of (opening_view count) [] [] []))
+    (l : LastingRules count limit (length (first_pairs count) + spare) true
+    (opening (lasting_words count spare) (no_messages (count * count)) (own_of (opening_view count) [] [] []))) × ShowsStart count limit (l.0, l.1)
 
 abbrev pub WholeStarts : Type 0
 WholeStarts = (count size : ℕ) → IsWithinLimits count size →
-    LastingRules count size size false (opening (whole_words count size) (no_messages (count * count)) (own_of (opening_view count) [] [] []))
+    (l : LastingRules count size size false (opening (whole_words count size) (no_messages (count * count)) (own_of (opening_view count) [] [] []))) ×
+    ShowsStart count size (l.0, l.1)
 
 abbrev pub StartLasts : Type 0
 StartLasts = LastingStarts × WholeStarts

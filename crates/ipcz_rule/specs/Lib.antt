@@ -1,3 +1,4 @@
+pub mod Deeds
 pub mod End
 pub mod GivenUp
 pub mod Histories
@@ -14,3 +15,4 @@ pub mod LastingKinds
 pub mod LastingCalls
 pub mod LastingStart
 pub mod LastingSeats
+pub mod LastingRuns

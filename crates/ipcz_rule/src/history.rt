@@ -1,3 +1,4 @@
+//! The history of a table's nodes, for proofs alone.
 use crate::node::PlainNode;
 use crate::retry::Retry;
 use ipcz_base::{End, Parcel, Profile, Refusal};

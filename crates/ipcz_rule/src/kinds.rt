@@ -1,11 +1,11 @@
 //! The kinds of atomic step of a seat with one node (specs/Kinds). Each function does nothing: its contract says that the step keeps the
 //! rule of the table, what it leaves of its seat, and which turns of the shown world it is: none, or one act of its node. Of a call's it says in
-//! place of turns that the ends of link words which are held are those that were, and those of a number that it claims.
+//! their place that it is this call of the shown world, with its answer, and of what is no call and no turn what it is there (specs/Deeds); and that
+//! the ends of link words which are held are those that were, and those of a number that it claims.
 
-ghost use Rattle.std.specs.Prelude.{true};
 ghost use Rattle.ipcz_rule.specs.Kinds.{Loads, Puts, Gets, Closes, PendingCloses, Touches, TouchActs, Marks, Wakes, Unlocks, TriesLock};
 ghost use Rattle.ipcz_rule.specs.Kinds.{LoadsForLock};
-ghost use Rattle.ipcz_rule.specs.Kinds.{IsKept, IsTurns, LoadsForClaim, Dries, Wets, Claims, ClaimsForOpen, Opens, Probes, Unprobes, Announces, LoadsForPost, Posts, Looks, LoadsForHand};
+ghost use Rattle.ipcz_rule.specs.Kinds.{IsDeeds, IsTurns, LoadsForClaim, Dries, Wets, Claims, ClaimsForOpen, Opens, Probes, Unprobes, Announces, LoadsForPost, Posts, Looks, LoadsForHand};
 ghost use Rattle.ipcz_rule.specs.Kinds.{Clears, Hands, GivesBack, JoinsParts, Notes};
 
 /// A load of any word changes nothing but what was seen.
@@ -13,19 +13,19 @@ pub fn a_load_keeps_the_rule()
     ensures { Loads IsTurns }
 {}
 
-/// A touch is a put that the node doesn't refuse: the node's part gains the item under its number.
+/// A touch is a put that the node doesn't refuse: the node's part gains the item under its number. It is that put of the shown world, answered so.
 pub fn a_put_keeps_the_rule()
-    ensures { Puts (IsKept true) }
+    ensures { Puts IsDeeds }
 {}
 
-/// A touch is a get that gives a parcel: the part gains it under its number.
+/// A touch is a get that gives a parcel: the part gains it under its number. It is that get of the shown world, answered so.
 pub fn a_get_keeps_the_rule()
-    ensures { Gets (IsKept true) }
+    ensures { Gets IsDeeds }
 {}
 
-/// A touch is a close: the part gains the mark.
+/// A touch is a close: the part gains the mark. It is that close of the shown world, answered how many parcels were put there.
 pub fn a_close_keeps_the_rule()
-    ensures { Closes (IsKept true) }
+    ensures { Closes IsDeeds }
 {}
 
 /// A touch is a close that is pending.
@@ -75,12 +75,12 @@ pub fn a_load_for_a_claim_keeps_the_rule()
 
 /// A claim that is told that no word is left, at any time.
 pub fn a_claim_that_finds_no_slot_keeps_the_rule()
-    ensures { Dries (IsKept true) }
+    ensures { Dries IsDeeds }
 {}
 
 /// A router that was told that no word is left may claim again, at any time.
 pub fn a_router_made_wet_keeps_the_rule()
-    ensures { Wets (IsKept true) }
+    ensures { Wets IsDeeds }
 {}
 
 /// A claim of a proxy's spare.
@@ -88,14 +88,14 @@ pub fn a_claim_keeps_the_rule()
     ensures { Claims IsTurns }
 {}
 
-/// The first half of an open.
+/// The first half of an open, which is no call: the node has claimed a word for it.
 pub fn a_claim_for_an_open_keeps_the_rule()
-    ensures { ClaimsForOpen (IsKept true) }
+    ensures { ClaimsForOpen IsDeeds }
 {}
 
-/// An open, which finds its word empty.
+/// An open, which finds its word empty. It is that open of the shown world, answered the two ends of the word's pair.
 pub fn an_open_keeps_the_rule()
-    ensures { Opens (IsKept true) }
+    ensures { Opens IsDeeds }
 {}
 
 /// A probe takes the slot of an empty mailbox.
@@ -155,5 +155,5 @@ pub fn a_join_keeps_the_rule()
 
 /// A call is written into the history of its node, for a caller that has lent its view.
 pub fn a_note_keeps_the_rule()
-    ensures { Notes (IsKept true) }
+    ensures { Notes IsTurns }
 {}

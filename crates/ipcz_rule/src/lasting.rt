@@ -14,28 +14,29 @@ pub fn turns_keep_the_lasting_rule()
     ensures { TurnsLast }
 {}
 
-/// A put, a get and a close keep the rule of a table whose link words come back.
+/// A put, a get and a close keep the rule of a table whose link words come back, and are these calls of the shown world; so do routers that are told that
+/// there is no word, or that they may ask again, of which callers see nothing.
 pub fn calls_keep_the_lasting_rule()
     ensures { CallsLast }
 {}
 
-/// So does an open on the word that was claimed for it.
+/// So does an open on the word that was claimed for it, and is that call.
 pub fn an_open_keeps_the_lasting_rule()
     ensures { OpensLast }
 {}
 
-/// So does a claim for an open.
+/// So does a claim for an open, which passes over the numbers before its own.
 pub fn a_claim_for_an_open_keeps_the_lasting_rule()
     ensures again { ClaimsForOpenLast }
     ensures order { ClaimsForOpenInOrder }
 {}
 
-/// The table at the start keeps the rule of a table whose link words come back.
+/// The table at the start keeps the rule of a table whose link words come back, and shows the world at the start.
 pub fn the_start_keeps_the_lasting_rule()
     ensures { StartLasts }
 {}
 
-/// So do seats that are dealt and joined.
+/// So do seats that are dealt and joined, and callers that come; and what is shown stays.
 pub fn seats_keep_the_lasting_rule()
     ensures { SeatsLast }
 {}

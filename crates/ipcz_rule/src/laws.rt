@@ -5,6 +5,7 @@ ghost use Rattle.ipcz_rule.specs.RuleLaws.{OldLinksAreWords, FullMailboxesAreAnn
 ghost use Rattle.ipcz_rule.specs.RuleLaws.{RuleBoundsTurns};
 ghost use Rattle.ipcz_rule.specs.Races.{SightsAreLoads, RacedIsOvertaken, WaitedForStays};
 ghost use Rattle.ipcz_rule.specs.TableRuns.{StepsAreTurns, StepsAreBounded, OvertakenByActs};
+ghost use Rattle.ipcz_rule.specs.LastingRuns.{CallsAreSteps, ClaimsForOpenAreSteps, TableStepsAreRuns, TurnsAreDeeds, TurnsAreSteps};
 ghost use Rattle.ipcz_rule.specs.RuleLaws.{PutsAreOnce, GetsFollowPuts, QuietPartsShowQuiet, SettledPartsAreDirect};
 
 /// If the rule holds, then in the world that words, slots and views show each portal has got a prefix of what its peer put, each item that
@@ -92,6 +93,34 @@ pub fn what_is_shown_becomes_quiet_within_its_rank()
 /// one act of its node, by what it found.
 pub fn steps_of_turns_are_turns_of_what_is_shown()
     ensures { StepsAreTurns }
+{}
+
+/// Any list of steps of a table, calls and turns of any seats and in whatever order, is a run of the world that is shown: each call is that call
+/// there, with its answer, each turn is that turn, with what is seen in it, and the rest is beside: a claim for an open, numbers that are passed over,
+/// and what routers are told of words.
+pub fn steps_of_tables_are_runs_of_what_is_shown()
+    ensures { TableStepsAreRuns }
+{}
+
+/// A put, a get, a close or an open that a node doesn't refuse is a step of such a run, whatever the table is when the step comes: its deed is that call
+/// with its answer, and the seat's part is then what the cell's call says of it. So is what a router is told of words, which is beside.
+pub fn calls_are_steps_of_tables()
+    ensures { CallsAreSteps }
+{}
+
+/// So is a claim for an open, which is beside, with the numbers that it passes over.
+pub fn claims_for_opens_are_steps_of_tables()
+    ensures { ClaimsForOpenAreSteps }
+{}
+
+/// So is a step of whichever kind that tells turns of the shown world, and its deeds are these turns, with what is seen in them.
+pub fn turns_are_steps_of_tables()
+    ensures { TurnsAreSteps }
+{}
+
+/// What the kinds say of a turn, that it is turns of the shown world, makes it such deeds, also where its claim has passed over numbers.
+pub fn turns_are_deeds()
+    ensures { TurnsAreDeeds }
 {}
 
 /// So between calls no run of steps, by any threads, has more acts that use something up than the rank of the world that is shown at its

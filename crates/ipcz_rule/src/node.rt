@@ -1,3 +1,4 @@
+//! A node without its room, for proofs alone.
 use std::collections::VecDeque;
 use std::marker::Model;
 

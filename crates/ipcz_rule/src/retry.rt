@@ -1,3 +1,5 @@
+//! What came of a retry.
+
 /// What a node that let a proxy ask again for its slot has found.
 #[derive(Clone, Copy, Debug, PartialEq, Eq)]
 pub enum Retry {

@@ -1,3 +1,4 @@
+//! What a seat knows of the table, for proofs alone.
 use crate::history::{CallerView, Entry};
 use crate::node::PlainNode;
 use ipcz_base::{End, Item, Message, Parcel};

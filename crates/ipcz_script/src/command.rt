@@ -1,3 +1,4 @@
+//! The commands of a script.
 use crate::text::Text;
 use ipcz_base::Sequence;
 

@@ -1,3 +1,4 @@
+//! The ends that a script's names are bound to, in both directions.
 ghost use Rattle.std.specs.Prelude.{◌≡◌, ◌≤◌, ◌+◌, ◌*◌, OnOk, IfOk};
 ghost use Rattle.std.specs.FinMap.{get};
 ghost use Rattle.ipcz_node.specs.FirstPairs.{pairs_from, first_pairs_from};

@@ -1,3 +1,4 @@
+//! Which names a script has opened.
 ghost use Rattle.std.specs.Prelude.{◌≡◌, ◌||◌, List, ℕ, OnOk};
 ghost use Rattle.std.specs.FinSet as finite;
 ghost use Rattle.ipcz_script.specs.ScriptNames.{opens};

@@ -1,3 +1,4 @@
+//! How the run of a script ends.
 use crate::script_fault::ScriptFault;
 
 /// How a run of a script ended, whose transcript was written whole (docs/SCRIPTS.md, "The transcript").

@@ -1,3 +1,4 @@
+//! From bytes to a script.
 ghost use Rattle.std.specs.Prelude.{◌≡◌, ◌<◌, ◌≤◌, length, Some, Err, List, ℕ, [], Result, map, option_map, IfOk, IfSome};
 ghost use Rattle.std.specs.FinSet.{contains};
 ghost use Rattle.serde_json.specs.Data.{Data};

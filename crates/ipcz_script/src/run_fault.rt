@@ -1,3 +1,4 @@
+//! How a run fails.
 use ipcz_device::Fault;
 use std::alloc::{AllocError, AllocFailed};
 use thiserror::Error;

@@ -1,3 +1,4 @@
+//! What a command is answered.
 use ipcz_base::{Parcel, Refusal, Sequence};
 use ipcz_world::Reply;
 

@@ -1,3 +1,4 @@
+//! A script as it was read.
 use crate::command::Command;
 use ipcz_base::Sequence;
 

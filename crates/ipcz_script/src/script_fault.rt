@@ -1,3 +1,4 @@
+//! Why bytes are no script.
 use std::alloc::{AllocError, AllocFailed};
 use thiserror::Error;
 

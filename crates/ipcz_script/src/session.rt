@@ -1,3 +1,4 @@
+//! The world that a script runs in, with its names.
 ghost use Rattle.std.specs.Prelude.{◌≡◌, false, OnErr, OnOk, IfErr, IfOk};
 ghost use Rattle.ipcz_script.specs.ScriptLimits.{HasScriptLimits};
 ghost use Rattle.ipcz_world.specs.Asking.{hand_at, IsActed, WhyNotTaken};

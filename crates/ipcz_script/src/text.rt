@@ -1,3 +1,4 @@
+//! A text whose contracts see its bytes.
 ghost use Rattle.std.specs.Prelude.{◌≡◌, length, IfOk};
 
 use std::alloc::{AllocError, Global};

@@ -1,3 +1,4 @@
+//! Names by end.
 ghost use Rattle.std.specs.Prelude.{◌≡◌, OnOk, OnErr, option_map};
 ghost use Rattle.std.specs.FinMap as finite;
 

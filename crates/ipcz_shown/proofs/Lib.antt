@@ -1,4 +1,6 @@
 -- The accounts that a table tells, and what its turns and its rest do to them.
+mod Asides
 mod Marks
+mod Runs
 mod Tables
 mod Telling

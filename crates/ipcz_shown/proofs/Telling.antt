@@ -1,5 +1,6 @@
 -- The accounts that a table tells: what the books say that join its views, and who holds what by its parts.
-use Rattle.std.specs.Prelude.{◌≡◌, ◌≤◌, ◌<◌, ◌+◌, ℕ, zero, suc, Bool, true, false, cond, nat_eq, nat_lt, if◌then◌else◌, Option, Some, None, take, map, length, refl}
+use Rattle.std.specs.Prelude.{◌≡◌, ◌≤◌, ◌<◌, ◌+◌, ℕ, zero, suc, Bool, true, false, cond, nat_eq, nat_lt, if◌then◌else◌, Option, Some, None, take, map, length}
+use Rattle.std.specs.Prelude.{slice_get, refl}
 use Rattle.std.proofs.Common.{arith, ap, subst, sym, ◌∙◌}
 use Rattle.std.proofs.lemmas.Bool.Decides.{nat_tests}
 use Rattle.std.proofs.lemmas.Option.{none-some, same_Some}
@@ -20,8 +21,8 @@ use Rattle.ipcz_world.specs.Whereabouts.{times_closed, times_held}
 use Rattle.ipcz_world.proofs.Whole.{ends_stand_once}
 use Rattle.ipcz_world.proofs.facts.LinkTests.{opposite_end-twice}
 use Rattle.ipcz_rule.specs.Rule.{St, Rules}
-use Rattle.ipcz_promise.specs.Promise.{Account, IsInOrder, is_holder}
-use Rattle.ipcz_promise.specs.Accounting.{parcels_in}
+use Rattle.ipcz_promise.specs.Promise.{Account, IsInOrder, holds, is_holder}
+use Rattle.ipcz_promise.specs.Accounting.{Keeps, parcels_in}
 use Rattle.ipcz_promise.proofs.Parcels.{first-parcels}
 use Rattle.ipcz_shown.specs.Shown.{TellsAccount, TablesTellAccounts}
 use Rattle.ipcz_shown.proofs.Marks.{EndsLast, ends-last, has-mark, mark-at, parcel-at, parcel-of}
@@ -156,24 +157,51 @@ told w b g count size = record {
   closed = λ e. is_closed b e;
 }
 
+-- accounts are those of a world and its books
+record AreOf (w : World) (b : Books) (a : Account) : Type 0 where
+  holder : (n : ℕ) (e : End) → n < w.count → holds a n e ≡ holds_end (node_at w n) e
+  put : (e : End) → a.put e ≡ parcels_in (b.put e)
+  got : (e : End) → a.got e ≡ b.got e
+  closed : (e : End) → a.closed e ≡ is_closed b e
+
 module _ (count size : ℕ) (s : St) (r : Rules count size s) where
-  tells : TellsAccount count size s (told r.world r.books r.routes count size)
-  tells = record {
-    nodes = refl;
-    words = refl;
+  -- the views tell such accounts
+  tells : (a : Account) → a.nodes ≡ count → a.words ≡ size → AreOf r.world r.books a → TellsAccount count size s a
+  tells a nodes words are = record {
+    nodes = nodes;
+    words = words;
     holder = λ id v j p seat there e. let is = (r.shows.parts id v j p seat there).1 in
-        holder-is r.world r.books r.routes r.lawful p.node e is.inside ∙ ap (λ (n : Node). holds_end n e) is.state;
-    put = λ e n q h. r.joined.put e n (Parcel q) (parcel-of (r.books.put e) (last-ends r.world r.books r.routes r.lawful e) n q h);
-    put_only = λ e n q h. parcel-at (r.books.put e) (last-ends r.world r.books r.routes r.lawful e) n q (r.joined.put_only e n (Parcel q) h);
-    got = r.joined.got;
-    got_only = r.joined.got_only;
-    closed = λ e h. let t = mark-at (r.books.put e) h in (t.0, r.joined.put e t.0 Mark t.1);
-    closed_only = λ e n h. has-mark (r.books.put e) n (r.joined.put_only e n Mark h);
+        are.holder p.node e is.inside ∙ ap (λ (n : Node). holds_end n e) is.state;
+    put = λ e n q h. r.joined.put e n (Parcel q)
+        (parcel-of (r.books.put e) (last-ends r.world r.books r.routes r.lawful e) n q (ap (λ z. slice_get z n) (sym (are.put e)) ∙ h));
+    put_only = λ e n q h. ap (λ z. slice_get z n) (are.put e)
+        ∙ parcel-at (r.books.put e) (last-ends r.world r.books r.routes r.lawful e) n q (r.joined.put_only e n (Parcel q) h);
+    got = λ e n q h. r.joined.got e n q (ap (λ z. slice_get z n) (sym (are.got e)) ∙ h);
+    got_only = λ e n q h. ap (λ z. slice_get z n) (are.got e) ∙ r.joined.got_only e n q h;
+    closed = λ e h. let t = mark-at (r.books.put e) (sym (are.closed e) ∙ h) in (t.0, r.joined.put e t.0 Mark t.1);
+    closed_only = λ e n h. are.closed e ∙ has-mark (r.books.put e) n (r.joined.put_only e n Mark h);
   }
+
+  -- also those that the world keeps by these books
+  pub kept-is-told : (a : Account) (k : Keeps r.world a) → k.stands.books ≡ r.books → TellsAccount count size s a
+  kept-is-told a k is = tells a (k.stands.nodes ∙ r.nodes) (k.words ∙ r.words) (record {
+    holder = λ n e l. sym (k.stands.holder n e l);
+    put = λ e. k.stands.put e ∙ ap (λ (b : Books). parcels_in (b.put e)) is;
+    got = λ e. k.stands.got e ∙ ap (λ (b : Books). b.got e) is;
+    closed = λ e. k.stands.closed e ∙ ap (λ (b : Books). is_closed b e) is;
+  })
+
+  tells-books : TellsAccount count size s (told r.world r.books r.routes count size)
+  tells-books = tells (told r.world r.books r.routes count size) refl refl (record {
+    holder = λ n e l. holder-is r.world r.books r.routes r.lawful n e l;
+    put = λ e. refl;
+    got = λ e. refl;
+    closed = λ e. refl;
+  })
 
   in-order : IsInOrder (told r.world r.books r.routes count size)
   in-order e = first-parcels (r.books.got e) (r.books.put (opposite_end e)) (prefix r.world r.books r.routes r.lawful e)
 
 pub tables_tell_accounts : TablesTellAccounts
 tables_tell_accounts count size s r =
-    (told r.world r.books r.routes count size, tells count size s r, in-order count size s r, λ e h. unheld r.world r.books r.routes r.lawful e h)
+    (told r.world r.books r.routes count size, tells-books count size s r, in-order count size s r, λ e h. unheld r.world r.books r.routes r.lawful e h)

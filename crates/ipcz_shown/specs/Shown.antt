@@ -1,17 +1,27 @@
 -- What a table that keeps its rule shows, in the accounts of the promise (specs/Promise of ipcz_promise).
-use Rattle.std.specs.Prelude.{◌≡◌, ◌≢◌, ◌<◌, ◌+◌, ◌*◌, ℕ, true, List, Some, None, slice_get, slice_index}
+use Rattle.std.specs.Prelude.{◌≡◌, ◌≢◌, ◌⊎◌, ◌<◌, ◌+◌, ◌*◌, ℕ, Bool, true, List, Some, None, slice_get, slice_index, unwrap_or}
 use Rattle.ipcz_base.specs.declared.end.End.{End}
 use Rattle.ipcz_base.specs.declared.item.Item.TheVariants.{Parcel, Mark}
 use Rattle.ipcz_base.specs.declared.parcel.Parcel as parcels
-use Rattle.ipcz_base.specs.declared.refusal.Refusal.TheVariants.{Empty}
+use Rattle.ipcz_base.specs.declared.profile.Profile.{Profile}
+use Rattle.ipcz_base.specs.declared.refusal.Refusal.{Refusal}
+use Rattle.ipcz_base.specs.declared.refusal.Refusal.TheVariants.{Empty, NoWord, NumbersEnd, OutOfMemory}
 use Rattle.ipcz_node.specs.declared.act.Act.{Act}
 use Rattle.ipcz_node.specs.Node.{holds_end}
 use Rattle.ipcz_node.specs.Acts.{is_quiet}
-use Rattle.ipcz_node.specs.Calls.{get_refusal}
+use Rattle.ipcz_node.specs.Calls.{put_refusal, get_refusal, close_refusal}
+use Rattle.ipcz_world.specs.declared.step.Step.{Step}
+use Rattle.ipcz_world.specs.declared.step.Step.TheVariants.{Open, Get, Close}
+use Rattle.ipcz_world.specs.declared.step.Reply.TheVariants.{Refused}
+use Rattle.ipcz_world.specs.Lawful.{IsWithinLimits}
+use Rattle.ipcz_world.specs.Steps.{put_of}
 use Rattle.ipcz_rule.specs.Rule.{St, Rules, InParts, puts_of, gets_of}
 use Rattle.ipcz_rule.specs.RuleLaws.{EachPart}
 use Rattle.ipcz_rule.specs.TableRuns.{Ruled, AreSteps, all_turns}
-use Rattle.ipcz_promise.specs.Promise.{Account, HasClosedDropped, IsDelivered, IsInOrder, holds}
+use Rattle.ipcz_rule.specs.Deeds.{Deed, steps_of, replies_of}
+use Rattle.ipcz_rule.specs.LastingRuns.{LastingRuled, AreTableSteps, folded, all_deeds}
+use Rattle.ipcz_rule.specs.LastingStart.{ShowsStart}
+use Rattle.ipcz_promise.specs.Promise.{Account, HasClosedDropped, IsDelivered, IsInOrder, May, MayRun, holds, start}
 use Rattle.ipcz_promise.specs.Accounting.{Keeps}
 use Rattle.ipcz_promise.specs.TurnRuns.{MayTakeTurns}
 
@@ -47,6 +57,39 @@ TableTurnsKeepThePromise =
     (count size : ℕ) (t u : Ruled count size) (steps : List (List (ℕ × Act))) (a : Account) → TableKeeps count size t a →
     AreSteps count size t steps u →
     (c : Account) × MayTakeTurns t.1.world a (all_turns steps) c × TableKeeps count size u c
+
+-- law: whatever callers call on threads of their own and whatever nodes do, in the order of the atomic steps all calls with their answers, and all turns
+-- with what is seen in them, are a run of the machine; and the world that is shown behind them keeps the accounts that the machine comes to
+abbrev pub TableRunsKeepThePromise : Type 0
+TableRunsKeepThePromise =
+    (count limit k : ℕ) (reuses : Bool) (p q : LastingRuled count limit k reuses) (steps : List (List Deed)) (a : Account) →
+    TableKeeps count limit (folded p) a → AreTableSteps count limit k reuses p steps q →
+    (c : Account) × MayRun a (steps_of (all_deeds steps)) (replies_of (all_deeds steps)) c × TableKeeps count limit (folded q) c
+
+-- law: so a run of a table from its start is one of the machine from its own; and the accounts that the machine comes to are those that the seats' views
+-- tell then
+abbrev pub StartedTablesKeepThePromise : Type 0
+StartedTablesKeepThePromise =
+    (count limit k : ℕ) (reuses : Bool) (p q : LastingRuled count limit k reuses) (steps : List (List Deed)) → IsWithinLimits count limit →
+    ShowsStart count limit (folded p) → AreTableSteps count limit k reuses p steps q →
+    (c : Account) × MayRun (start count limit) (steps_of (all_deeds steps)) (replies_of (all_deeds steps)) c ×
+    TableKeeps count limit (folded q) c × TellsAccount count limit (folded q).0 c
+
+-- a call of a node's callers may be refused so, and changes nothing
+abbrev pub MayBeRefused : Account → Step → Refusal → Type 0
+MayBeRefused a step why = May a step (Refused why) a
+
+-- law: what a cell answers in place of a call by its own part, or for want of memory or of a word, the machine may answer at these accounts
+pub record RefusalsAreAllowed : Type 0 where
+  pub put : (count size : ℕ) (t : Ruled count size) (a : Account) → TableKeeps count size t a →
+      EachPart t.0.views (λ p. (profile : Profile) (at : End) (bytes : List ℕ) (ends : List End) →
+      MayBeRefused a (put_of profile p.node at bytes ends) (unwrap_or (put_refusal profile p.state at bytes ends) OutOfMemory))
+  pub get : (count size : ℕ) (t : Ruled count size) (a : Account) → TableKeeps count size t a →
+      EachPart t.0.views (λ p. (at : End) (why : Refusal) → get_refusal p.state at ≡ Some why → MayBeRefused a (Get p.node at) why)
+  pub close : (count size : ℕ) (t : Ruled count size) (a : Account) → TableKeeps count size t a →
+      EachPart t.0.views (λ p. (at : End) → MayBeRefused a (Close p.node at) (unwrap_or (close_refusal p.state at) OutOfMemory))
+  pub open_pair : (count size : ℕ) (t : Ruled count size) (a : Account) → TableKeeps count size t a →
+      EachPart t.0.views (λ p. (why : Refusal) → (why ≡ NoWord) ⊎ ((why ≡ NumbersEnd) ⊎ (why ≡ OutOfMemory)) → MayBeRefused a (Open p.node) why)
 
 -- no mailbox of a table is full
 abbrev pub HasNoMail : ℕ → ℕ → St → Type 0

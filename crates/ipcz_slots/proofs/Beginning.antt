@@ -24,33 +24,29 @@ unclaimed_let_go x t r true i h = (h false, h true)
 unclaimed_let_go x t r false i h = tt
 
 pub starts : {S V : Type 0} (x : Virtual S V) (z : Sizes) → Laws x z → Starts x z
-starts {S} {V} x z laws s t r b = (
-  t,
-  r,
-  record {
-    wide = b.wide;
-    tall = b.tall;
-    homes = b.homes;
-    views = b.views;
-    rest = b.rest;
-    status = Shows;
-    owned = λ p l. tt;
-    slots = λ p l. (
-      mod-eq_of_lt l,
-      (let n = b.numbers in omega (arith, n, l)),
-      b.links p l,
-      dite (dec_lt p (slice_index t.words z.limit))
-          (λ here. subst (λ n. LetGo x t r n p) (sym (b.claimed p here)) tt)
-          (λ far. subst (λ n. LetGo x t r n p) (sym (b.unclaimed p (omega (arith, far)) l)) (unclaimed_let_go x t r z.reuses p (λ d. laws.unclaimed t r d p (omega (arith, far))))),
-      λ again other. dite (dec_lt p (slice_index t.words z.limit))
-          (λ here. subst (λ n. NotLetGo x t r n p) (sym (b.claimed p here)) (b.held again false p here, b.held again true p here))
-          (λ far. subst (λ n. NotLetGo x t r n p) (sym (b.unclaimed p (omega (arith, far)) l ∙ ap (λ c. cond c 3 0) again)) tt),
-    );
-    others = λ i l. inl (ap Shows (mod-eq_of_lt (let f = b.few in omega (arith, l, f))));
-    own = λ id o at. no_slots z Shows id o.dirty o.free (b.none id o at).0 (b.none id o at).1;
-    whole = λ e. record { shows = λ p l. refl; fresh = λ p far l. b.unclaimed p far l ∙ ap (λ d. cond d 3 0) e };
-  },
-)
+starts {S} {V} x z laws s t r b = record {
+  wide = b.wide;
+  tall = b.tall;
+  homes = b.homes;
+  views = b.views;
+  rest = b.rest;
+  status = Shows;
+  owned = λ p l. tt;
+  slots = λ p l. (
+    mod-eq_of_lt l,
+    (let n = b.numbers in omega (arith, n, l)),
+    b.links p l,
+    dite (dec_lt p (slice_index t.words z.limit))
+        (λ here. subst (λ n. LetGo x t r n p) (sym (b.claimed p here)) tt)
+        (λ far. subst (λ n. LetGo x t r n p) (sym (b.unclaimed p (omega (arith, far)) l)) (unclaimed_let_go x t r z.reuses p (λ d. laws.unclaimed t r d p (omega (arith, far))))),
+    λ again other. dite (dec_lt p (slice_index t.words z.limit))
+        (λ here. subst (λ n. NotLetGo x t r n p) (sym (b.claimed p here)) (b.held again false p here, b.held again true p here))
+        (λ far. subst (λ n. NotLetGo x t r n p) (sym (b.unclaimed p (omega (arith, far)) l ∙ ap (λ c. cond c 3 0) again)) tt),
+  );
+  others = λ i l. inl (ap Shows (mod-eq_of_lt (let f = b.few in omega (arith, l, f))));
+  own = λ id o at. no_slots z Shows id o.dirty o.free (b.none id o at).0 (b.none id o at).1;
+  whole = λ e. record { shows = λ p l. refl; fresh = λ p far l. b.unclaimed p far l ∙ ap (λ d. cond d 3 0) e };
+}
 
 map_snoc : {A B : Type 0} (f : A → B) (l : List A) (a : A) → map f (l ++ a ∷ []) ≡ map f l ++ f a ∷ []
 map_snoc f [] a = refl
@@ -64,7 +60,7 @@ owner_longer views new p (Free k) h = (h.0, at_longer views (new ∷ []) k h.0 h
 owner_longer views new p Spare h = tt
 
 pub deals : {S V : Type 0} (x : Virtual S V) (z : Sizes) → Laws x z → Deals x z
-deals {S} {V} x z laws id o left right deal s l at =
+deals {S} {V} x z laws g id o left right deal s l at =
     let t = l.0 in
     let r = l.1 in
     let fold = l.2 in
@@ -72,50 +68,56 @@ deals {S} {V} x z laws id o left right deal s l at =
     let t' : State S V = record { words = t.words; homes = t.homes; views = slice_set t.views id left ++ right ∷ [] } in
     let mine : Own V = record { view = left; dirty = o.dirty; free = o.free; looked = o.looked } in
     let new : Own V = record { view = right; dirty = []; free = []; looked = [] } in (
-      t',
-      d.0,
-      record {
-        wide = fold.wide;
-        tall = fold.tall;
-        homes = fold.homes;
-        views = map_snoc (λ q. q.view) (set s.views id mine) new ∙ ap (λ vs. vs ++ right ∷ []) (map-set (λ q. q.view) s.views id mine ∙ ap (λ vs. set vs id left) fold.views);
-        rest = fold.rest;
-        status = fold.status;
-        slots = λ p k. says_still x z of_none t t' r d.0 p (slice_index s.words p) (slice_index s.words (let_go_word z p)) (fold.status p) (λ i e b. refl) (λ b i e. d.1.0 b i)
-            (λ again b i e other. d.1.1 b i) (fold.slots p k);
-        others = λ i k. ⊎_elim (λ e. inl e) (λ h. inr (d.1.0 false i h.0, d.1.0 true i h.1)) (fold.others i k);
-        owned = λ p k. owner_longer (set s.views id mine) new p (fold.status p) (owned_after s.views id o mine p (fold.status p) at (λ h. h) (λ h. h) (fold.owned p k));
-        own = λ j q there. ⊎_elim
-            (λ e. own_after z s.views fold.status fold.status id mine fold.own (λ j1 p ne. ((λ e. e), (λ e. e))) (let w = fold.own id o at in record { dirty_is = w.dirty_is; free_is = w.free_is }) j q e)
-            (λ e. no_slots z fold.status j q.dirty q.free (ap (λ y. y.dirty) (sym e)) (ap (λ y. y.free) (sym e)))
-            (at_snoc (set s.views id mine) new q j there);
-        whole = fold.whole;
-      },
+      (
+        t',
+        d.0,
+        record {
+          wide = fold.wide;
+          tall = fold.tall;
+          homes = fold.homes;
+          views = map_snoc (λ q. q.view) (set s.views id mine) new ∙ ap (λ vs. vs ++ right ∷ []) (map-set (λ q. q.view) s.views id mine ∙ ap (λ vs. set vs id left) fold.views);
+          rest = fold.rest;
+          status = fold.status;
+          slots = λ p k. says_still x z of_none t t' r d.0 p (slice_index s.words p) (slice_index s.words (let_go_word z p)) (fold.status p) (λ i e b. refl) (λ b i e. d.1.0 b i)
+              (λ again b i e other. d.1.1 b i) (fold.slots p k);
+          others = λ i k. ⊎_elim (λ e. inl e) (λ h. inr (d.1.0 false i h.0, d.1.0 true i h.1)) (fold.others i k);
+          owned = λ p k. owner_longer (set s.views id mine) new p (fold.status p) (owned_after s.views id o mine p (fold.status p) at (λ h. h) (λ h. h) (fold.owned p k));
+          own = λ j q there. ⊎_elim
+              (λ e. own_after z s.views fold.status fold.status id mine fold.own (λ j1 p ne. ((λ e. e), (λ e. e))) (let w = fold.own id o at in record { dirty_is = w.dirty_is; free_is = w.free_is }) j q e)
+              (λ e. no_slots z fold.status j q.dirty q.free (ap (λ y. y.dirty) (sym e)) (ap (λ y. y.free) (sym e)))
+              (at_snoc (set s.views id mine) new q j there);
+          whole = fold.whole;
+        },
+      ),
+      d.2,
     )
 
 pub comes : {S V : Type 0} (x : Virtual S V) (z : Sizes) → Comes x z
-comes {S} {V} x z right s l d =
+comes {S} {V} x z g right s l d =
     let t = l.0 in
     let r = l.1 in
     let fold = l.2 in
     let t' : State S V = record { words = t.words; homes = t.homes; views = t.views ++ right ∷ [] } in
     let new : Own V = record { view = right; dirty = []; free = []; looked = [] } in (
-      t',
-      d.0,
-      record {
-        wide = fold.wide;
-        tall = fold.tall;
-        homes = fold.homes;
-        views = map_snoc (λ q. q.view) s.views new ∙ ap (λ vs. vs ++ right ∷ []) fold.views;
-        rest = fold.rest;
-        status = fold.status;
-        slots = λ p k. says_still x z of_none t t' r d.0 p (slice_index s.words p) (slice_index s.words (let_go_word z p)) (fold.status p) (λ i e b. refl) (λ b i e. d.1.0 b i)
-            (λ again b i e other. d.1.1 b i) (fold.slots p k);
-        others = λ i k. ⊎_elim (λ e. inl e) (λ h. inr (d.1.0 false i h.0, d.1.0 true i h.1)) (fold.others i k);
-        owned = λ p k. owner_longer s.views new p (fold.status p) (fold.owned p k);
-        own = λ j q there. ⊎_elim (λ e. fold.own j q e)
-            (λ e. no_slots z fold.status j q.dirty q.free (ap (λ y. y.dirty) (sym e)) (ap (λ y. y.free) (sym e)))
-            (at_snoc s.views new q j there);
-        whole = fold.whole;
-      },
+      (
+        t',
+        d.0,
+        record {
+          wide = fold.wide;
+          tall = fold.tall;
+          homes = fold.homes;
+          views = map_snoc (λ q. q.view) s.views new ∙ ap (λ vs. vs ++ right ∷ []) fold.views;
+          rest = fold.rest;
+          status = fold.status;
+          slots = λ p k. says_still x z of_none t t' r d.0 p (slice_index s.words p) (slice_index s.words (let_go_word z p)) (fold.status p) (λ i e b. refl) (λ b i e. d.1.0 b i)
+              (λ again b i e other. d.1.1 b i) (fold.slots p k);
+          others = λ i k. ⊎_elim (λ e. inl e) (λ h. inr (d.1.0 false i h.0, d.1.0 true i h.1)) (fold.others i k);
+          owned = λ p k. owner_longer s.views new p (fold.status p) (fold.owned p k);
+          own = λ j q there. ⊎_elim (λ e. fold.own j q e)
+              (λ e. no_slots z fold.status j q.dirty q.free (ap (λ y. y.dirty) (sym e)) (ap (λ y. y.free) (sym e)))
+              (at_snoc s.views new q j there);
+          whole = fold.whole;
+        },
+      ),
+      d.2,
     )

@@ -112,7 +112,7 @@ module _ {V : Type 0} (views : List (Own V)) (id other : ℕ) (o p : Own V) (bot
   owner_moved n Spare h = tt
 
 pub joins_seats : {S V : Type 0} (x : Virtual S V) (z : Sizes) → JoinsSeats x z
-joins_seats {S} {V} x z id other o p both spent join s l at apart there =
+joins_seats {S} {V} x z g id other o p both spent join s l at apart there =
     let t = l.0 in
     let r = l.1 in
     let f = l.2 in
@@ -137,30 +137,33 @@ joins_seats {S} {V} x z id other o p both spent join s l at apart there =
           (λ k. let e = u.free_is q k in (e.0, free_moved other id other id (f.status q) e.1 (to_id other id other refl)))
           (in_either o.free p.free q h);
     } in (
-      t',
-      d.0,
-      record {
-        wide = f.wide;
-        tall = f.tall;
-        homes = f.homes;
-        views = map-set (λ q. q.view) (set s.views id mine) other empty ∙ ap (λ vs. set vs other spent) views1;
-        rest = f.rest;
-        status = λ q. moved other id (f.status q);
-        slots = λ q k. says_moved x z t' d.0 q (slice_index s.words q) (slice_index s.words (let_go_word z q)) other id (f.status q)
-            (says_still x z of_none t t' r d.0 q (slice_index s.words q) (slice_index s.words (let_go_word z q)) (f.status q) (λ i e b. refl) (λ b i e. d.1.0 b i)
-            (λ again b i e out. d.1.1 b i) (f.slots q k));
-        others = λ i k. ⊎_elim (λ e. inl (shows_moved other id i (f.status (slot_of z i)) e)) (λ h. inr (d.1.0 false i h.0, d.1.0 true i h.1)) (f.others i k);
-        owned = λ q k. owner_moved s.views id other o p both spent apart' at his q (f.status q) (f.owned q k);
-        own = λ j q here. ⊎_elim
-            (λ e. no_slots z (λ n. moved other id (f.status n)) j q.dirty q.free (ap (λ (y : Own V). y.dirty) (sym e.1)) (ap (λ (y : Own V). y.free) (sym e.1)))
-            (λ e. ⊎_elim
-            (λ g. subst (λ y. Owns z (λ n. moved other id (f.status n)) j y.dirty y.free) g.1 (subst (λ n. Owns z (λ m. moved other id (f.status m)) n mine.dirty mine.free) (sym g.0) united))
-            (λ g. let v = f.own j q g.1 in record {
-              dirty_is = λ n h. let k = v.dirty_is n h in (k.0, dirty_moved other id j j (f.status n) k.1 (stays other id j e.0));
-              free_is = λ n h. let k = v.free_is n h in (k.0, free_moved other id j j (f.status n) k.1 (stays other id j e.0));
-            })
-            (at_set s.views id j mine q e.1))
-            (at_set (set s.views id mine) other j empty q here);
-        whole = λ e. let w1 = f.whole e in record { shows = λ q l. shows_moved other id q (f.status q) (w1.shows q l); fresh = w1.fresh };
-      },
+      (
+        t',
+        d.0,
+        record {
+          wide = f.wide;
+          tall = f.tall;
+          homes = f.homes;
+          views = map-set (λ q. q.view) (set s.views id mine) other empty ∙ ap (λ vs. set vs other spent) views1;
+          rest = f.rest;
+          status = λ q. moved other id (f.status q);
+          slots = λ q k. says_moved x z t' d.0 q (slice_index s.words q) (slice_index s.words (let_go_word z q)) other id (f.status q)
+              (says_still x z of_none t t' r d.0 q (slice_index s.words q) (slice_index s.words (let_go_word z q)) (f.status q) (λ i e b. refl) (λ b i e. d.1.0 b i)
+              (λ again b i e out. d.1.1 b i) (f.slots q k));
+          others = λ i k. ⊎_elim (λ e. inl (shows_moved other id i (f.status (slot_of z i)) e)) (λ h. inr (d.1.0 false i h.0, d.1.0 true i h.1)) (f.others i k);
+          owned = λ q k. owner_moved s.views id other o p both spent apart' at his q (f.status q) (f.owned q k);
+          own = λ j q here. ⊎_elim
+              (λ e. no_slots z (λ n. moved other id (f.status n)) j q.dirty q.free (ap (λ (y : Own V). y.dirty) (sym e.1)) (ap (λ (y : Own V). y.free) (sym e.1)))
+              (λ e. ⊎_elim
+              (λ g. subst (λ y. Owns z (λ n. moved other id (f.status n)) j y.dirty y.free) g.1 (subst (λ n. Owns z (λ m. moved other id (f.status m)) n mine.dirty mine.free) (sym g.0) united))
+              (λ g. let v = f.own j q g.1 in record {
+                dirty_is = λ n h. let k = v.dirty_is n h in (k.0, dirty_moved other id j j (f.status n) k.1 (stays other id j e.0));
+                free_is = λ n h. let k = v.free_is n h in (k.0, free_moved other id j j (f.status n) k.1 (stays other id j e.0));
+              })
+              (at_set s.views id j mine q e.1))
+              (at_set (set s.views id mine) other j empty q here);
+          whole = λ e. let w1 = f.whole e in record { shows = λ q l. shows_moved other id q (f.status q) (w1.shows q l); fresh = w1.fresh };
+        },
+      ),
+      d.2,
     )

@@ -3,9 +3,9 @@ use Rattle.std.specs.Prelude.{◌≡◌, ◌≢◌, ◌≤◌, ◌<◌, ◌⊎�
 use prog.Atomic.{either}
 use mathlib.Core.Option.{some}
 use lib.ListN.{get_elem?}
-use Rattle.atomic_table.specs.Table.{State, Me, Act, Splits, Joins, Valid, stepped, carried_after}
+use Rattle.atomic_table.specs.Table.{State, Me, Act, Valid, stepped, carried_after}
 use Rattle.ipcz_slots.specs.declared.own.Own.{Own}
-use Rattle.ipcz_slots.specs.Slots.{Virtual, Sizes, Lasting, Unused, slot_of, let_go_word, has_number, without_number}
+use Rattle.ipcz_slots.specs.Slots.{Virtual, Sizes, Folds, Lasting, Unused, slot_of, let_go_word, has_number, without_number}
 
 -- what is known of a step of the virtual table, beside that the rule is kept
 abbrev pub Known : {S V : Type 0} → Virtual S V → Type 1
@@ -181,34 +181,51 @@ pub record Begins {S V : Type 0} (x : Virtual S V) (z : Sizes) (s : State S (Own
   pub none : (id : ℕ) (o : Own V) → get_elem? s.views id ≡ some o → (o.dirty ≡ []) × (o.free ≡ [])
 
 abbrev pub Starts : {S V : Type 0} → Virtual S V → Sizes → Type 0
-Starts {S} {V} x z = (s : State S (Own V)) (t : State S V) (r : x.holds t) → Begins x z s t r → Lasting x z s
+Starts {S} {V} x z = (s : State S (Own V)) (t : State S V) (r : x.holds t) → Begins x z s t r → Folds x z s t r
 
 -- the same ends are nowhere
 abbrev pub SameEnds : {S V : Type 0} (x : Virtual S V) (t : State S V) → x.holds t → (t' : State S V) → x.holds t' → Type 0
 SameEnds x t r t' r' = ((b : Bool) (i : ℕ) → x.gone t r b i → x.gone t' r' b i) × ((b : Bool) (i : ℕ) → x.gone t' r' b i → x.gone t r b i)
 
+-- a seat's view is cut in two, and a new seat has the second: what is known of that where there are no slots is known of it here
+abbrev pub SplitsKnown : {S V : Type 0} (x : Virtual S V) → Sizes → Known x → ℕ → Own V → Own V → Own V → Type 0
+SplitsKnown {S} {V} x z g id o left right =
+    (s : State S (Own V)) (l : Lasting x z s) → get_elem? s.views id ≡ some o →
+    (l' : Lasting x z (record { words = s.words; homes = s.homes; views = slice_set s.views id left ++ right ∷ [] })) × g l.0 l.1 l'.0 l'.1
+
+-- a seat takes in another's view, and the other is spent
+abbrev pub JoinsKnown : {S V : Type 0} (x : Virtual S V) → Sizes → Known x → ℕ → Own V → ℕ → Own V → Own V → Own V → Type 0
+JoinsKnown {S} {V} x z g id o other p both spent =
+    (s : State S (Own V)) (l : Lasting x z s) → get_elem? s.views id ≡ some o → ¬ (other ≡ id) → get_elem? (slice_set s.views id both) other ≡ some p →
+    (l' : Lasting x z (record { words = s.words; homes = s.homes; views = slice_set (slice_set s.views id both) other spent })) × g l.0 l.1 l'.0 l'.1
+
 -- a seat is dealt a part of a view, and its slots stay where they are
-abbrev pub Deals : {S V : Type 0} → Virtual S V → Sizes → Type 0
+abbrev pub Deals : {S V : Type 0} → Virtual S V → Sizes → Type 1
 Deals {S} {V} x z =
-    (id : ℕ) (o : Own V) (left right : V) →
+    (g : Known x) (id : ℕ) (o : Own V) (left right : V) →
     ((t : State S V) (r : x.holds t) → get_elem? t.views id ≡ some o.view →
     (r' : x.holds (record { words = t.words; homes = t.homes; views = slice_set t.views id left ++ right ∷ [] })) ×
-    SameEnds x t r (record { words = t.words; homes = t.homes; views = slice_set t.views id left ++ right ∷ [] }) r') →
-    Splits (Lasting x z) id o (record { view = left; dirty = o.dirty; free = o.free; looked = o.looked }) (record { view = right; dirty = []; free = []; looked = [] })
+    SameEnds x t r (record { words = t.words; homes = t.homes; views = slice_set t.views id left ++ right ∷ [] }) r' ×
+    g t r (record { words = t.words; homes = t.homes; views = slice_set t.views id left ++ right ∷ [] }) r') →
+    SplitsKnown x z g id o (record { view = left; dirty = o.dirty; free = o.free; looked = o.looked }) (record { view = right; dirty = []; free = []; looked = [] })
 
 -- a seat comes, and has no slot
-abbrev pub Comes : {S V : Type 0} → Virtual S V → Sizes → Type 0
+abbrev pub Comes : {S V : Type 0} → Virtual S V → Sizes → Type 1
 Comes {S} {V} x z =
-    (new : V) (s : State S (Own V)) (l : Lasting x z s) →
+    (g : Known x) (new : V) (s : State S (Own V)) (l : Lasting x z s) →
     ((r' : x.holds (record { words = l.0.words; homes = l.0.homes; views = l.0.views ++ new ∷ [] })) ×
-    SameEnds x l.0 l.1 (record { words = l.0.words; homes = l.0.homes; views = l.0.views ++ new ∷ [] }) r') →
-    Lasting x z (record { words = s.words; homes = s.homes; views = s.views ++ (record { view = new; dirty = []; free = []; looked = [] }) ∷ [] })
+    SameEnds x l.0 l.1 (record { words = l.0.words; homes = l.0.homes; views = l.0.views ++ new ∷ [] }) r' ×
+    g l.0 l.1 (record { words = l.0.words; homes = l.0.homes; views = l.0.views ++ new ∷ [] }) r') →
+    (l' : Lasting x z (record { words = s.words; homes = s.homes; views = s.views ++ (record { view = new; dirty = []; free = []; looked = [] }) ∷ [] })) ×
+    g l.0 l.1 l'.0 l'.1
 
 -- a seat takes in the view of another, and its slots
-abbrev pub JoinsSeats : {S V : Type 0} → Virtual S V → Sizes → Type 0
+abbrev pub JoinsSeats : {S V : Type 0} → Virtual S V → Sizes → Type 1
 JoinsSeats {S} {V} x z =
-    (id other : ℕ) (o p : Own V) (both spent : V) →
+    (g : Known x) (id other : ℕ) (o p : Own V) (both spent : V) →
     ((t : State S V) (r : x.holds t) → get_elem? t.views id ≡ some o.view → ¬ (other ≡ id) → get_elem? (slice_set t.views id both) other ≡ some p.view →
     (r' : x.holds (record { words = t.words; homes = t.homes; views = slice_set (slice_set t.views id both) other spent })) ×
-    SameEnds x t r (record { words = t.words; homes = t.homes; views = slice_set (slice_set t.views id both) other spent }) r') →
-    Joins (Lasting x z) id o other p (record { view = both; dirty = o.dirty ++ p.dirty; free = o.free ++ p.free; looked = o.looked }) (record { view = spent; dirty = []; free = []; looked = [] })
+    SameEnds x t r (record { words = t.words; homes = t.homes; views = slice_set (slice_set t.views id both) other spent }) r' ×
+    g t r (record { words = t.words; homes = t.homes; views = slice_set (slice_set t.views id both) other spent }) r') →
+    JoinsKnown x z g id o other p (record { view = both; dirty = o.dirty ++ p.dirty; free = o.free ++ p.free; looked = o.looked })
+    (record { view = spent; dirty = []; free = []; looked = [] })

@@ -1,3 +1,4 @@
+//! What a seat knows of slots, for proofs alone.
 use std::collections::LinkedList;
 
 /// What a seat knows of a table with slots, beside what it knows of the virtual table. No value of it is made.

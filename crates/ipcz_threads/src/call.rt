@@ -1,3 +1,4 @@
+//! The calls on a node's cell.
 use ipcz_base::{Bytes, End, Ends};
 
 /// A call on a node's cell.

@@ -1,3 +1,4 @@
+//! The program: its arguments, its texts and its statuses.
 ghost use Rattle.std.specs.Prelude.{◌≡◌, false, Ok, OnErr};
 ghost use Rattle.ipcz_threads.specs.Statuses.{help, status, usage, RunsOnThreads, RunsScript, Writes};
 

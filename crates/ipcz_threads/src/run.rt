@@ -1,3 +1,4 @@
+//! Scripts whose nodes run on threads.
 ghost use Rattle.std.specs.Prelude.{◌≡◌, ◌≤◌, ◌↔◌, false, length, IsTrue, IsErrOf, IfOk, vec_len};
 ghost use Rattle.ipcz_cell.specs.Making.{AreFirst};
 ghost use Rattle.ipcz_script.specs.ScriptLimits.{HasScriptLimits};

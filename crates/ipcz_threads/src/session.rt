@@ -1,3 +1,4 @@
+//! The workers of a script's nodes, with its names.
 ghost use Rattle.std.specs.Prelude.{◌≡◌, false, IfOk};
 ghost use Rattle.ipcz_threads.specs.Stages.{AreTurns, CallsHolder, CallsNamed, Opens, Puts, Runs, Settles, SettlesTo, Shows, TurnsTo};
 ghost use Rattle.ipcz_threads.specs.Workers.{CallsAt};

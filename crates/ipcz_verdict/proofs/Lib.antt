@@ -4,6 +4,7 @@ pub mod Below
 pub mod Binding
 pub mod Changing
 pub mod Closing
+pub mod Counting
 pub mod Deciding
 pub mod Facts
 pub mod Going

@@ -17,7 +17,7 @@ use Rattle.ipcz_verdict.proofs.Together.{append_nothing, eq_itself, calls-append
 
 -- ---- lists
 
-lines-append : (xs ys : List Taken) → taken_lines (xs ++ ys) ≡ taken_lines xs ++ taken_lines ys
+pub lines-append : (xs ys : List Taken) → taken_lines (xs ++ ys) ≡ taken_lines xs ++ taken_lines ys
 lines-append [] ys = refl
 lines-append (t ∷ ts) ys = ap (λ xs. t.entry ∷ xs) (lines-append ts ys)
 

@@ -21,7 +21,7 @@ use Rattle.ipcz_script.specs.Labels.{Labels, first_labels}
 use Rattle.ipcz_verdict.specs.declared.portal.Portal.{Portal}
 use Rattle.ipcz_verdict.specs.declared.line.Line.{Line}
 use Rattle.ipcz_verdict.specs.Accounts.{IsSound}
-use Rattle.ipcz_verdict.specs.Ledger.{Binds, Ledger, MayLine, MayLog, MayRest, MayTurns, first_ledger}
+use Rattle.ipcz_verdict.specs.Ledger.{Ledger, MayLine, MayLog, MayRest, MayTurns, first_ledger}
 
 -- ---- the books
 
@@ -224,10 +224,6 @@ pub record IsAt (d : Desk) (l : Ledger) : Type 0 where
   pub due : AreDue l.account d.pairs d.portals []
   pub pairs : l.pairs ≡ d.pairs
   pub labels : l.labels ≡ d.labels
-
--- names were bound to portals, or can't be
-abbrev pub BindsOnly : Labels → List (List ℕ) → List End → Bool → Labels → Type 0
-BindsOnly old names ends bound new = MatchBool bound (Binds old names ends new) ((c : Labels) → Binds old names ends c → ⊥)
 
 -- the books of the first pairs, and a judge before the first line
 abbrev pub first_books : List (ℕ × ℕ) → List Portal

@@ -1,5 +1,5 @@
 -- How a search for an order stands.
-use Rattle.std.specs.Prelude.{◌≡◌, ◌<◌, ◌≤◌, ◌+◌, ◌*◌, ℕ, Bool, true, false, cond, not, ◌&&◌, ◌||◌, nat_eq, bytes_eq, length, Option, Some, None, List, [], ◌∷◌, ◌++◌, map, slice_get}
+use Rattle.std.specs.Prelude.{◌≡◌, ◌≢◌, ◌⊎◌, ◌<◌, ◌≤◌, ◌+◌, ◌*◌, ℕ, Bool, true, false, cond, not, ◌&&◌, ◌||◌, nat_eq, bytes_eq, length, Option, Some, None, List, [], ◌∷◌, ◌++◌, map, slice_get, All, AllPairs, MatchBool}
 use Rattle.std.specs.Option.{unwrap_or}
 use Rattle.std.specs.FinMap.{get}
 use Rattle.ipcz_base.specs.declared.end.End.{End}
@@ -14,7 +14,7 @@ use Rattle.ipcz_verdict.specs.declared.search.Step.TheVariants as came
 use Rattle.ipcz_verdict.specs.declared.search.Taken.{Taken}
 use Rattle.ipcz_verdict.specs.Desks.{Desk, HasAllowed}
 use Rattle.ipcz_verdict.specs.Ledger.{IsAllowed}
-use Rattle.ipcz_verdict.specs.Together.{AgreesWith, AreAllowed, calls_of, of_log}
+use Rattle.ipcz_verdict.specs.Together.{AgreesWith, AreAllowed, IsFront, IsNextSomewhere, calls_of, of_log}
 
 -- ---- the logs
 
@@ -92,6 +92,45 @@ abbrev pub IsStep : ℕ → Profile → List Entry → Desk → List Taken → L
 IsStep nodes profile entries judge order left (came.On from) = IsSearch nodes profile entries judge order left from
 IsStep nodes profile entries judge order left came.Found = AreAllowed nodes profile entries
 IsStep nodes profile entries judge order left came.End = AreAllowed nodes profile entries → ⊥
+
+-- ---- which fronts were found
+
+-- none of these fronts goes on behind that order with a line of this key or a higher one
+abbrev pub NoneGoesOn : List (List Entry) → List Entry → ℕ → Type 0
+NoneGoesOn fronts order from = All (λ front. (e : Entry) (more : List Entry) → from ≤ key_of e → front ≢ order ++ e ∷ more) fronts
+
+-- none goes on in the place of a line that was taken with one of those keys from which to go on there; the line's own is lower
+abbrev pub AreFresh : List (List Entry) → List Entry → List Taken → Type 0
+AreFresh fronts order [] = Unit {0}
+AreFresh fronts order (t ∷ ts) = (key_of t.entry < t.next) × NoneGoesOn fronts order t.next × AreFresh fronts (order ++ t.entry ∷ []) ts
+
+-- these fronts were found, each once, and those that are tried next are others
+pub record HasFound (nodes : ℕ) (profile : Profile) (entries : List Entry) (fronts : List (List Entry)) (order : List Taken) (from : ℕ) : Type 0 where
+  pub are : All (IsFront nodes profile entries) fronts
+  pub apart : AllPairs (λ f g. f ≢ g) fronts
+  pub fresh : AreFresh fronts [] order
+  pub next : NoneGoesOn fronts (taken_lines order) from
+
+-- a line of this key or a higher one was taken, if one was
+abbrev pub Adds : List Taken → List Taken → ℕ → Bool → Type 0
+Adds old new from took = MatchBool took ((t : Taken) × (new ≡ old ++ t ∷ []) × (from ≤ key_of t.entry) × (key_of t.entry < t.next)) (new ≡ old)
+
+-- lines were taken back, and from this key on another stands in the place of the last of them
+abbrev pub IsShortened : List Taken → List Taken → ℕ → Type 0
+IsShortened old new from = (t : Taken) × (more : List Taken) × (old ≡ new ++ t ∷ more) × (from ≡ t.next)
+
+-- a step that isn't the last takes a line, or takes lines back
+abbrev pub Moves : List Taken → ℕ → List Taken → Step → Type 0
+Moves old from new (came.On next) = (Adds old new from true × (next ≡ 0)) ⊎ IsShortened old new next
+Moves old from new other = Unit {0}
+
+-- if there is no order, then a line with this number comes next somewhere
+abbrev pub IsStuck : ℕ → Profile → List Entry → ℕ → Type 0
+IsStuck nodes profile entries number = (AreAllowed nodes profile entries → ⊥) → IsNextSomewhere nodes profile entries number
+
+-- the number is that of a line that comes next in its log, if a line is left
+abbrev pub IsOfNext : List (List Entry) → ℕ → Type 0
+IsOfNext left number = ((log : ℕ) → left_of left log ≡ []) ⊎ ((log : ℕ) × (e : Entry) × (rest : List Entry) × (left_of left log ≡ e ∷ rest) × (e.number ≡ number))
 
 -- ---- names that are bound together
 

@@ -1,3 +1,4 @@
+//! A line of one of several logs.
 use crate::line::Line;
 
 /// A line of one of several logs, of which only the order within each log is known (docs/JUDGE.md, "Several logs").

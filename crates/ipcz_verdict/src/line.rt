@@ -1,3 +1,4 @@
+//! What a line of a log says.
 use ipcz_base::{Bytes, Refusal, Sequence};
 use ipcz_script::Text;
 

@@ -1,3 +1,4 @@
+//! A portal as the judge keeps it: its parcels that wait, and its counts.
 ghost use Rattle.std.specs.Prelude.{◌≡◌, ◌∷◌, ◌++◌, [], drop, slice_get, OnOk, IfSome, IfNone};
 ghost use Rattle.std.specs.Option.{option_copied};
 ghost use Rattle.ipcz_verdict.specs.Desks.{counted, ends_in, held_by, shut, took};

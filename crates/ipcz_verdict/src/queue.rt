@@ -1,3 +1,4 @@
+//! The rest of a log.
 ghost use Rattle.std.specs.Prelude.{◌≡◌, ◌∷◌, ◌++◌, [], slice_get, OnOk, IfSome, IfNone};
 ghost use Rattle.std.specs.Option.{option_copied};
 

@@ -1,12 +1,12 @@
 //! A search for an order of the lines of several logs in which they are allowed.
 
-ghost use Rattle.std.specs.Prelude.{◌≡◌, ◌<◌, ◌≤◌, ◌+◌, ◌++◌, ◌∷◌, [], ℕ, List, cond, length, IfNone, IfOk, IfSome, OnOk, MatchBool, slice_get};
+ghost use Rattle.std.specs.Prelude.{◌≡◌, ◌⊎◌, ◌<◌, ◌≤◌, ◌+◌, ◌++◌, ◌∷◌, [], ℕ, List, cond, length, IfNone, IfOk, IfSome, OnOk, MatchBool, slice_get};
 ghost use Rattle.std.specs.Option.{option_copied};
 ghost use Rattle.ipcz_base.specs.declared.profile.Profile.{Profile};
 ghost use Rattle.ipcz_verdict.specs.declared.entry.Entry.{Entry};
 ghost use Rattle.ipcz_verdict.specs.Desks.{HasAllowed};
 ghost use Rattle.ipcz_verdict.specs.Ledger.{IsAllowed};
-ghost use Rattle.ipcz_verdict.specs.Searches.{CanEnd, HasEntries, IsBack, IsSearch, IsStack, IsStep, IsWith, left_of, rank_of, taken_lines};
+ghost use Rattle.ipcz_verdict.specs.Searches.{Adds, CanEnd, HasEntries, IsBack, IsOfNext, IsSearch, IsShortened, IsStack, IsStep, IsStuck, IsWith, Moves, left_of, rank_of, taken_lines};
 ghost use Rattle.ipcz_verdict.specs.Together.{calls_of, IsFound};
 
 use crate::entry::Entry;
@@ -144,12 +144,22 @@ fn is_none_left(left: &[Queue]) -> bool
     true
 }
 
+// The lesser of a number and that of a line.
+fn lesser(least: u64, number: u64) -> u64
+    ensures one { (result ≡ least) ⊎ (result ≡ number) }
+    ensures first { least ≡ 18446744073709551615 → result ≡ number }
+{
+    if number < least { number } else { least }
+}
+
 // The least number of a line that is the next of its log.
-fn least_next(left: &[Queue]) -> u64 {
+fn least_next(left: &[Queue]) -> u64
+    ensures { IsOfNext left.now result }
+{
     let mut least = u64::MAX;
     for queue in left {
         if let Some(entry) = queue.first() {
-            least = least.min(entry.number);
+            least = lesser(least, entry.number);
         }
     }
     least
@@ -161,8 +171,10 @@ impl Search {
     // Takes the line with this key, if it is the next of its log and allowed now.
     fn try_key(&mut self, key: usize) -> Result<bool, AllocError>
         requires { key < 256 }
-        ensures { (nodes : ℕ) (profile : Profile) (entries : List Entry) → IsSearch nodes profile entries self.old.judge self.old.order.items self.old.left.items key →
+        ensures search { (nodes : ℕ) (profile : Profile) (entries : List Entry) → IsSearch nodes profile entries self.old.judge self.old.order.items self.old.left.items key →
             IfOk result (λ took. IsSearch nodes profile entries self.new.judge self.new.order.items self.new.left.items (cond took 0 (key + 1))) }
+        ensures adds { (nodes : ℕ) (profile : Profile) (entries : List Entry) → IsSearch nodes profile entries self.old.judge self.old.order.items self.old.left.items key →
+            IfOk result (λ took. Adds self.old.order.items self.new.order.items key took) }
     {
         let log = key % LOGS;
         let Some(entry) = first_left(&self.left, log) else {
@@ -185,8 +197,10 @@ impl Search {
 
     // Takes the first line from this key on that is allowed, if there is one.
     fn try_from(&mut self, from: usize) -> Result<bool, AllocError>
-        ensures { (nodes : ℕ) (profile : Profile) (entries : List Entry) → IsSearch nodes profile entries self.old.judge self.old.order.items self.old.left.items from →
+        ensures search { (nodes : ℕ) (profile : Profile) (entries : List Entry) → IsSearch nodes profile entries self.old.judge self.old.order.items self.old.left.items from →
             IfOk result (λ took. IsSearch nodes profile entries self.new.judge self.new.order.items self.new.left.items (cond took 0 256)) }
+        ensures adds { (nodes : ℕ) (profile : Profile) (entries : List Entry) → IsSearch nodes profile entries self.old.judge self.old.order.items self.old.left.items from →
+            IfOk result (λ took. Adds self.old.order.items self.new.order.items from took) }
     {
         for key in from..KEYS {
             if self.try_key(key)? {
@@ -198,8 +212,9 @@ impl Search {
 
     // Takes lines back until another may stand in the place of the last of them, and says from which key on. None is such a line if the search is at its end.
     fn take_back(&mut self) -> Result<Option<usize>, AllocError>
-        ensures { (nodes : ℕ) (profile : Profile) (entries : List Entry) → IsStack nodes profile entries self.old.order.items self.old.left.items →
+        ensures back { (nodes : ℕ) (profile : Profile) (entries : List Entry) → IsStack nodes profile entries self.old.order.items self.old.left.items →
             (CanEnd nodes profile entries (taken_lines self.old.order.items) → ⊥) → IfOk result (λ from. IsBack nodes profile entries self.new.order.items self.new.left.items from) }
+        ensures shortened { IfOk result (λ from. IfSome from (λ from. IsShortened self.old.order.items self.new.order.items from)) }
     {
         while let Some(taken) = self.order.pop() {
             let next = taken.next;
@@ -235,8 +250,10 @@ impl Search {
     ) -> Result<Step, AllocError>
         requires some { 0 < nodes }
         requires few { nodes ≤ 8 }
-        ensures { (entries : List Entry) → IsSearch nodes profile entries self.old.judge self.old.order.items self.old.left.items from →
+        ensures search { (entries : List Entry) → IsSearch nodes profile entries self.old.judge self.old.order.items self.old.left.items from →
             IfOk result (λ step. IsStep nodes profile entries self.new.judge self.new.order.items self.new.left.items step) }
+        ensures moves { (entries : List Entry) → IsSearch nodes profile entries self.old.judge self.old.order.items self.old.left.items from →
+            IfOk result (λ step. Moves self.old.order.items from self.new.order.items step) }
     {
         if self.try_from(from)? {
             return Ok(Step::On(0));
@@ -252,7 +269,10 @@ impl Search {
     }
 
     // Where the search may be stuck: here, if it never came farther.
-    fn stuck(&self, before: Stuck) -> Stuck {
+    fn stuck(&self, before: Stuck) -> Stuck
+        ensures { (nodes : ℕ) (profile : Profile) (entries : List Entry) → IsStack nodes profile entries self.now.order.items self.now.left.items →
+            IsStuck nodes profile entries before.number → IsStuck nodes profile entries result.number }
+    {
         if self.order.len() <= before.taken {
             return before;
         }
@@ -273,7 +293,7 @@ impl Search {
         requires some { 0 < nodes }
         requires few { nodes ≤ 8 }
         ensures { (entries : List Entry) → IsSearch nodes profile entries self.old.judge self.old.order.items self.old.left.items 0 →
-            IfOk result (λ found. IsFound nodes profile entries found) }
+            self.old.order.items ≡ [] → IfOk result (λ found. IsFound nodes profile entries steps found) }
     {
         let mut from = 0;
         let mut stuck = Stuck {
@@ -296,7 +316,9 @@ impl Search {
 // How many steps are left after one more: where lines were taken back, each that is left was judged again.
 fn steps_left(steps: u64, from: usize, taken: usize) -> u64
     requires { 0 < steps }
-    ensures { result < steps }
+    ensures fewer { result < steps }
+    ensures one { from ≡ 0 → steps ≡ result + 1 }
+    ensures least { steps ≤ result + 1 + taken }
 {
     if from == 0 {
         steps - 1
@@ -345,8 +367,9 @@ impl Logs {
     /// Whether the lines of these logs are allowed together, by an implementation with so many nodes whose puts have this profile.
     ///
     /// They are if the machine allows them in some order that keeps each log's own (`Found::Order`), and else they aren't (`Found::NoOrder`). A step takes a line,
-    /// or takes one again after others were taken back; if `steps` of them weren't enough, nothing is told (`Found::Untold`). So logs of n lines want n + 1 steps at
-    /// least, and where lines of several logs may come in either order, to tell that there is no order takes as many as there are orders.
+    /// or takes one again after others were taken back; if `steps` of them weren't enough, nothing is told (`Found::Untold`): then there are so many ways to begin an
+    /// order that to come to each of them takes as many. So logs of n lines want n + 1 steps at least, and where lines of several logs may come in either order, to
+    /// tell that there is no order takes as many as there are orders.
     ///
     /// Log 0 gets `a` as number 0 at `1>0`, and log 1 puts it at `0>1`: that is `Order`, in 3 steps, also if log 0 was read first. If log 1 puts `b`, it is
     /// `NoOrder` with the number of the get.
@@ -359,7 +382,7 @@ impl Logs {
     ) -> Result<Found, AllocError>
         requires some { 0 < nodes }
         requires few { nodes ≤ 8 }
-        ensures found { (entries : List Entry) → HasEntries self entries → IfOk result (λ found. IsFound nodes profile entries found) }
+        ensures found { (entries : List Entry) → HasEntries self entries → IfOk result (λ found. IsFound nodes profile entries steps found) }
     {
         let mut search = Search {
             judge: Judge::new(alloc, nodes, profile)?,

@@ -2,15 +2,13 @@
 use Rattle.std.specs.Prelude.{◌≡◌, ℕ, zero, suc, Some, List, [], ◌∷◌, slice_get}
 use Rattle.std.proofs.Common.{subst, sym}
 use Rattle.std.proofs.lemmas.Option.{same_Some}
-use Rattle.ipcz_world.proofs.Vocabulary.{World, Books, Reply}
-use Rattle.ipcz_world.specs.World.{new_world}
-use Rattle.ipcz_world.specs.Books.{no_books, advance}
-use Rattle.ipcz_world.specs.Routes.{first_routes, Routes, routes_after}
-use Rattle.ipcz_world.specs.Lawful.{Lawful, Headline}
+use Rattle.ipcz_world.proofs.Vocabulary.{World, Books, Reply, new_world, no_books, advance, Routes, routes_after, Lawful}
+use Rattle.ipcz_world.specs.Routes.{first_routes}
+use Rattle.ipcz_world.specs.Lawful.{Headline}
 use Rattle.ipcz_world.specs.Plain.{PlainRun}
 use Rattle.ipcz_world.specs.WorldLaws.{OnlyFlushesStray}
 use Rattle.ipcz_world.specs.HeldEnds.{passed_over, lose_words, grown, wet_act}
-use Rattle.ipcz_world.specs.Acts.{dry_act}
+use Rattle.ipcz_world.specs.HeldEnds.{dry_act}
 use Rattle.ipcz_world.specs.Lasting.{Deed, Steps, Passes, Grows, Dries, Wets, LastingRun, steps_in, replies_in, LastingRunsKeepTheTheorem}
 use Rattle.ipcz_world.proofs.Whole.{world_starts_lawful, each_step_keeps_lawful, replies_plainly, each_begins_locked, each_item_stands_once}
 use Rattle.ipcz_world.proofs.Whole.{lawful_worlds_give_the_headline, lawful_worlds_stray_nothing, lawful_worlds_owe, each_quiet_is_direct}

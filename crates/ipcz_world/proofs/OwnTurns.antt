@@ -3,8 +3,8 @@ use Rattle.std.specs.Prelude.{◌≡◌, true, List, [], ◌∷◌, Option, None
 use Rattle.std.proofs.Common.{refl, arith}
 use Rattle.ipcz_base.specs.declared.end.End.{End}
 use Rattle.ipcz_node.specs.declared.act.Act.TheVariants as acts
-use Rattle.ipcz_node.specs.Acts.{is_quiet, close_turn, router_turn}
-use Rattle.ipcz_node.specs.Node.{Node, Found, flagged_router}
+use Rattle.ipcz_world.proofs.Vocabulary.{is_quiet, close_turn, router_turn, flagged_router}
+use Rattle.ipcz_node.specs.Node.{Node, Found}
 
 pub idle_own : (n : Node) → is_quiet n ≡ true → close_turn n.pending (router_turn (flagged_router n)) ≡ acts.Idle
 unfolding is_quiet close_turn router_turn

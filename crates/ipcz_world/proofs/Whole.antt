@@ -1,30 +1,26 @@
 -- The laws of worlds and their runs.
-use Rattle.ipcz_world.specs.Steps.{claim_for_open, AnyAct}
-use Rattle.ipcz_world.specs.Remembering.{opening_records}
+use Rattle.ipcz_world.proofs.Vocabulary.{World, node_at, Books, is_closed, End, opposite_end, claim_for_open, new_world, no_books, Routes}
+use Rattle.ipcz_world.proofs.Vocabulary.{StepKeepsLawful, holds_end, Lawful, Printed, Wide}
+use Rattle.ipcz_world.specs.Steps.{AnyAct}
+use Rattle.ipcz_world.proofs.facts.RecordsAfter.{opening_records}
 use Rattle.std.proofs.Common.{◌∙◌, arith, ap, subst, sym}
 use Rattle.ipcz_world.specs.declared.step.Step.TheVariants as steps
 use Rattle.std.specs.Prelude.{◌≡◌, refl, Bool, true, false, nat_eq, is_some, ℕ, ◌<◌}
 use Rattle.std.proofs.lemmas.Bool.Decides.{nat_tests}
-use Rattle.ipcz_world.proofs.Vocabulary.{World, node_at, Books, is_closed, End, opposite_end}
-use Rattle.ipcz_world.specs.World.{new_world}
-use Rattle.ipcz_world.specs.Books.{no_books}
-use Rattle.ipcz_world.specs.Routes.{first_routes, Routes}
+use Rattle.ipcz_world.specs.Routes.{first_routes}
 use Rattle.ipcz_world.specs.WorldLaws.{LawfulGivesHeadline, LawfulStraysNothing, LawfulOwes, TerminalsKeepBooks, EndsStandOnce}
-use Rattle.ipcz_world.specs.WorldLaws.{ListsHaveLengths, NodesAreSound, QuietDelivers, OneNodeIsDirect, StartsLawful, StepKeepsLawful}
+use Rattle.ipcz_world.specs.WorldLaws.{ListsHaveLengths, NodesAreSound, QuietDelivers, OneNodeIsDirect, StartsLawful}
 use Rattle.ipcz_world.specs.WorldLaws.{FirstIsPossible, ClaimKeepsLawful, RepliesPlainly, BeginsLocked, LinksStay, HeadlineHolds}
 use Rattle.ipcz_world.specs.WorldLaws.{NothingIsForgotten, QuietIsDirect, ClosedPairsAreGone, QuietHasNoProxy}
 use Rattle.ipcz_world.proofs.lawful.QuietDirect.{no_proxies, pair_direct, none_closed}
 use Rattle.ipcz_world.specs.WorldLaws.{ItemsStandOnce, NothingStrays, GetsStayQuiet, HeldHaveTerminals, HandsFit}
 use Rattle.ipcz_world.specs.WorldLaws.{HandsStandInMail, OpeningWordsAreEmpty, PendingHaveTerminals, RunsArePlain, RepliesStrayNothing}
 use Rattle.ipcz_world.specs.Records.{is_linked}
-use Rattle.ipcz_node.specs.Node.{holds_end}
-use Rattle.ipcz_world.specs.Lawful.{Lawful}
 use Rattle.ipcz_world.proofs.acts.Puts.{terminal_there}
 use Rattle.ipcz_world.proofs.frames.Calling.{held_unclosed}
 use Rattle.ipcz_world.proofs.lawful.QuietGets.{gets_stay_quiet}
 use Rattle.ipcz_world.proofs.frames.Holding.{times_held-at, times-has}
 use Rattle.ipcz_world.proofs.frames.OfRecords.{holds_times}
-use Rattle.ipcz_base.specs.declared.profile.Profile.TheVariants.{Printed, Wide}
 use Rattle.ipcz_world.proofs.acts.CallReplies.{reply-open, reply-put, reply-get, reply-close}
 use Rattle.ipcz_world.proofs.runs.TurnReplies.{reply-turn, begins_locked}
 use Rattle.ipcz_world.proofs.runs.Starting.{starts}

@@ -2,12 +2,11 @@
 use Rattle.std.specs.Prelude.{◌≡◌, ℕ, zero, suc, Some, List, [], ◌∷◌, slice_get}
 use Rattle.std.proofs.Common.{subst}
 use Rattle.std.proofs.lemmas.Option.{same_Some}
-use Rattle.ipcz_world.specs.declared.step.Step.{Step}
+use Rattle.ipcz_world.proofs.Vocabulary.{Step, advance, Routes, routes_after, Lawful}
 use Rattle.ipcz_world.specs.declared.step.Reply.{Reply}
 use Rattle.ipcz_world.specs.World.{World}
-use Rattle.ipcz_world.specs.Books.{Books, advance}
-use Rattle.ipcz_world.specs.Routes.{Routes, routes_after}
-use Rattle.ipcz_world.specs.Lawful.{Lawful, RunAny, IsReached, Headline}
+use Rattle.ipcz_world.specs.Books.{Books}
+use Rattle.ipcz_world.specs.Lawful.{RunAny, IsReached, Headline}
 use Rattle.ipcz_world.specs.WorldLaws.{OnlyFlushesStray}
 use Rattle.ipcz_world.specs.Theorem.{TheTheoremHolds}
 use Rattle.ipcz_world.proofs.runs.Running.{reached_lawful}

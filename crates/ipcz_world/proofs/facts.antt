@@ -8,5 +8,7 @@ pub mod LinkTests
 pub mod NodeCount
 pub mod Queues
 pub mod Reaching
+pub mod RecordsAfter
 pub mod SameItems
 pub mod Tests
+pub mod Updates

@@ -1,5 +1,6 @@
 -- What is read of a world after a change: one lemma for each group of the invariant over each relation between a world and the next; who stands
 -- at a side, which messages are under way, and totals of places, books and ends.
+pub mod Aside
 pub mod Awaited
 pub mod BegunLengths
 pub mod Booking
@@ -31,7 +32,6 @@ pub mod Handing
 pub mod Having
 pub mod Holding
 pub mod Known
-pub mod LeftOff
 pub mod LeftRecords
 pub mod LeftSides
 pub mod LinksKept

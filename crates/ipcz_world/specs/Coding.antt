@@ -95,7 +95,3 @@ table_after t source act link = if is_claim act then (if has_unclaimed t then cl
 -- the link words of a world
 abbrev pub table_of : World → WordTable
 table_of w = record { words = w.words; claimed = w.claimed }
-
--- the world with other link words, as many as before
-abbrev pub with_table : World → WordTable → World
-with_table w t = record w { words = t.words; claimed = t.claimed }

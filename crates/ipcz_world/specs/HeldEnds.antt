@@ -8,7 +8,7 @@ use Rattle.ipcz_base.specs.declared.message.Message.TheVariants as messages
 use Rattle.ipcz_base.specs.Links.{has_link}
 use Rattle.ipcz_base.specs.Sides.{same_side}
 use Rattle.ipcz_router.specs.Router.{Router, router_has}
-use Rattle.ipcz_router.specs.ActEffects.{leaves_by, rewet}
+use Rattle.ipcz_router.specs.ActEffects.{leaves_by, rewet, run_dry}
 use Rattle.ipcz_router.specs.LettingGo.{let_go_end, let_go_spare}
 use Rattle.ipcz_router.specs.declared.act.RouterAct.{RouterAct}
 use Rattle.ipcz_router.specs.declared.act.RouterAct.TheVariants as acts
@@ -28,7 +28,6 @@ use Rattle.ipcz_world.specs.Flows.{IsUnderWay}
 use Rattle.ipcz_node.specs.declared.act.Act.{Act}
 use Rattle.ipcz_word.specs.Word.{Word, empty_word, is_free}
 use Rattle.ipcz_world.specs.World.{set_router}
-use Rattle.ipcz_world.specs.Acts.{dry_act}
 
 -- the world after a claim has passed over so many numbers
 abbrev pub passed_over : World → ℕ → World
@@ -52,6 +51,10 @@ grown w count = record w { words = w.words ++ replicate count empty_word; size =
 -- law: there may be more numbers at any time, so that no limit of them matters to the law
 abbrev pub GrowingKeepsLawful : Type 0
 GrowingKeepsLawful = (w : World) (b : Books) (g : Routes) (count : ℕ) → Lawful w b g → Lawful (grown w count) b g
+
+-- the world in which a router was told that no word is left
+abbrev pub dry_act : World → Key → Router → World
+dry_act w k r = set_router w k (run_dry r)
 
 -- law: a claim may be told that no word is left, whether or not numbers are left
 abbrev pub DryKeepsLawful : Type 0

@@ -8,7 +8,7 @@ use Rattle.ipcz_world.specs.declared.step.Step.{Step}
 use Rattle.ipcz_world.specs.declared.step.Reply.{Reply}
 use Rattle.ipcz_world.specs.World.{World, Key, router_at, new_world}
 use Rattle.ipcz_world.specs.Turns.{router_of, can_take}
-use Rattle.ipcz_world.specs.Acts.{dry_act}
+use Rattle.ipcz_world.specs.HeldEnds.{dry_act}
 use Rattle.ipcz_world.specs.Steps.{StepAny}
 use Rattle.ipcz_world.specs.Books.{Books, advance, no_books}
 use Rattle.ipcz_world.specs.Routes.{Routes, routes_after, first_routes}

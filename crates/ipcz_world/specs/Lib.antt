@@ -1,4 +1,3 @@
-pub mod Acts
 pub mod Arrived
 pub mod Asking
 pub mod Books
@@ -26,7 +25,6 @@ pub mod Plain
 pub mod PutBounds
 pub mod Ranks
 pub mod Records
-pub mod Remembering
 pub mod Retries
 pub mod Routes
 pub mod SettleBounds

@@ -1,5 +1,5 @@
 -- What is remembered of words, links, bypasses and ends, in addition to the world. Records only grow, and outlive the routers that they name.
-use Rattle.std.specs.Prelude.{ℕ, Bool, true, false, cond, ◌&&◌, nat_eq, nat_le, nat_lt, if◌then◌else◌, Option, Some, None, option_map}
+use Rattle.std.specs.Prelude.{ℕ, Bool, true, false, ◌&&◌, nat_le, nat_lt, if◌then◌else◌, Option, Some, None, option_map}
 use Rattle.ipcz_base.specs.declared.side.Side.{Side}
 use Rattle.ipcz_base.specs.declared.side.Side.TheVariants.{A, B}
 use Rattle.ipcz_base.specs.declared.end.End.{End}
@@ -8,8 +8,8 @@ use Rattle.ipcz_base.specs.declared.link_id.LinkId.TheVariants.{Central, Periphe
 use Rattle.ipcz_base.specs.declared.descriptor.Descriptor.{Descriptor}
 use Rattle.ipcz_base.specs.Sides.{opposite, same_side}
 use Rattle.ipcz_word.specs.SideSets.{Sides, has}
-use Rattle.ipcz_base.specs.Ends.{end_at, same_end}
-use Rattle.ipcz_world.specs.World.{World, Key, same_key, node_at}
+use Rattle.ipcz_base.specs.Ends.{end_at}
+use Rattle.ipcz_world.specs.World.{World, Key, node_at}
 use Rattle.ipcz_world.specs.Routes.{Routes}
 
 -- what a word is used for
@@ -93,34 +93,6 @@ is_unclaimed other = false
 unfoldable pub is_lost_owner : Owner → Bool
 is_lost_owner Lost = true
 is_lost_owner other = false
-
--- the records with another owner of a word
-abbrev pub set_owner : Records → ℕ → Owner → Records
-set_owner g i o = record g { owner = λ j. cond (nat_eq j i) o (g.owner j) }
-
--- the records with another record of a word's link
-abbrev pub set_central : Records → ℕ → CentralRecord → Records
-set_central g i c = record g { central = λ j. cond (nat_eq j i) c (g.central j) }
-
--- the records with another record of a peripheral link
-abbrev pub set_peripheral : Records → Key → PeripheralRecord → Records
-set_peripheral g k p = record g { peripheral = λ j. cond (same_key j k) p (g.peripheral j) }
-
--- the records with another record of a bypass
-abbrev pub set_bypass : Records → ℕ → Bypass → Records
-set_bypass g i b = record g { bypass = λ j. cond (nat_eq j i) b (g.bypass j) }
-
--- the records with a bypass that a router has begun
-abbrev pub set_begun : Records → Key → ℕ → Records
-set_begun g k o = record g { begun = λ j. cond (same_key j k) (Some o) (g.begun j) }
-
--- the records with another place of an end's terminal
-abbrev pub set_terminal : Records → End → Terminal → Records
-set_terminal g e t = record g { terminal = λ d. cond (same_end d e) t (g.terminal d) }
-
--- one side with a new value, the other as before
-abbrev pub at_side : {X : Type 0} → (Side → X) → Side → X → Side → X
-at_side f s x t = cond (same_side t s) x (f t)
 
 -- a router of a node, if it is known
 abbrev pub key_at : ℕ → Option ℕ → Option Key

@@ -1,3 +1,4 @@
+//! A world's link words, laid out as they are claimed.
 ghost use Rattle.std.specs.Prelude.{◌≡◌, ◌<◌, ◌≤◌, ◌+◌, ◌++◌, ◌-◌, Some, IfSome, IfOk, IsOk, OnOk, OnErr, length, map, replicate, if◌then◌else◌};
 ghost use Rattle.ipcz_word.specs.Layout.{word_of_bits};
 ghost use Rattle.ipcz_word.specs.Laws.{HasNode};

@@ -1,3 +1,4 @@
+//! A world's mailboxes, one for each way between two nodes.
 ghost use Rattle.std.specs.Prelude.{ℕ, ◌≡◌, ◌<◌, ◌≤◌, true, false, Option, Some, is_some, IfOk, IfErr, OnOk, OnErr, cond, length, replicate, List};
 ghost use Rattle.std.specs.Prelude.{option_copied};
 ghost use Rattle.ipcz_node.specs.Hands.{deliver, message_grows, message_lacks_serials};

@@ -1,3 +1,4 @@
+//! A world's nodes by number.
 ghost use Rattle.std.specs.Prelude.{◌≡◌, ◌<◌, ◌≤◌, IfOk, IfErr, length, map};
 ghost use Rattle.std.specs.Borrow.{sem};
 ghost use Rattle.ipcz_base.specs.Indexed.{place_at};

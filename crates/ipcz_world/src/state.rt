@@ -1,3 +1,4 @@
+//! The state of a world. What it does stands in the modules below.
 ghost use Rattle.std.specs.Prelude.{◌≡◌, ◌<◌, ◌≤◌, ◌+◌, IfOk, IfErr, IsOk, OnOk, OnErr, length, map};
 ghost use Rattle.ipcz_word.specs.Layout.{word_of_bits};
 ghost use Rattle.ipcz_world.specs.Coding.{claimed_word, table_of, AreUnclaimedEmpty, IsTable};

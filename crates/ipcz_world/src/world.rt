@@ -1,3 +1,4 @@
+//! Worlds, as callers have them: each call keeps the law.
 ghost use Rattle.std.specs.Prelude.{◌≡◌, ◌<◌, ◌≤◌, ◌+◌, ℕ, true, false, IfOk, IfErr, IfSome, IsOk, OnErr, OnOk, map, None};
 ghost use Rattle.ipcz_node.specs.Finding.{IsNextReady};
 ghost use Rattle.ipcz_node.specs.Looking.{IsLook};

@@ -1,3 +1,4 @@
+//! Calls of callers at a router that is filed.
 ghost use Rattle.std.specs.Prelude.{ℕ, ◌≡◌, ◌-◌, length, Some, None, true};
 ghost use Rattle.std.specs.Prelude.{is_some, OnOk, OnErr, IfOk, IfErr, IsSomeAnd, unwrap_or};
 ghost use Rattle.std.specs.FinMap.{get};

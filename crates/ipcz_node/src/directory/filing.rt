@@ -1,3 +1,4 @@
+//! The files of a directory, and how they follow a router that has changed.
 ghost use Rattle.std.specs.Prelude.{ℕ, ◌≡◌, ◌==◌, ◌+◌, ◌<◌, ◌≤◌, ◌&&◌, ◌||◌, not, false, if◌then◌else◌};
 ghost use Rattle.std.specs.Ordering.{nat_cmp};
 ghost use Rattle.ipcz_base.specs.Links.{has_link};

@@ -1,3 +1,4 @@
+//! Room in the files, made before an act that mustn't fail for want of it.
 ghost use Rattle.std.specs.Prelude.{◌≡◌, ◌+◌, ◌<◌, ◌≤◌, ◌^◌, ◌||◌};
 ghost use Rattle.ipcz_base.specs.Links.{has_link};
 ghost use Rattle.ipcz_node.specs.Directories.{takes_inside, ends_given, ends_taken};

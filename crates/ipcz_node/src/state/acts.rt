@@ -1,3 +1,4 @@
+//! Acts of a node's routers, and what they give their node.
 ghost use Rattle.std.specs.Prelude.{ℕ, ◌≡◌, ◌≤◌, ◌+◌, ◌++◌, Some, true, is_some, length, vec_capacity, vec_len, IsSomeAnd};
 ghost use Rattle.ipcz_router.specs.Router.{Router as RouterRecord};
 ghost use Rattle.ipcz_router.specs.ActTable.{may_take};

@@ -1,3 +1,4 @@
+//! Calls of a node's callers: opens, puts, gets, looks and closes.
 ghost use Rattle.std.specs.Prelude.{◌≡◌, [], Some, None, OnOk, OnErr, IfOk, IfErr, IsSomeAnd};
 ghost use Rattle.std.specs.Prelude.{unwrap_or, is_some, IsOk, not, if◌then◌else◌};
 ghost use Rattle.ipcz_base.specs.Ends.{has_end, end_at};

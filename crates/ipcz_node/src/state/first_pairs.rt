@@ -1,3 +1,4 @@
+//! A node as it begins, with its ends of the first pairs.
 ghost use Rattle.std.specs.Prelude.{◌≡◌, ◌<◌, ◌≤◌, ◌+◌, ◌*◌, [], ◌++◌, OnOk, IfOk, IfErr, replicate};
 ghost use Rattle.ipcz_base.specs.Limits.{no_number};
 ghost use Rattle.ipcz_node.specs.FirstPairs.{new_node, new_node_from, bare_from, add_pairs, pairs_from, first_pairs_from, first_pair_count, add_pair};

@@ -1,3 +1,4 @@
+//! What a node does with a message that it gets.
 ghost use Rattle.std.specs.Prelude.{◌≡◌, ◌<◌, ◌≤◌, ◌+◌, ◌^◌, Some, is_some, true, false, length, if◌then◌else◌, Ok, IsOk, OnOk, OnErr, IfOk, IfErr};
 ghost use Rattle.std.specs.Prelude.{IfSome, IfNone, IsSomeAnd, IsTrue, ℕ, Option, []};
 ghost use Rattle.ipcz_base.specs.Items.{ends_in};

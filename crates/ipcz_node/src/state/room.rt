@@ -1,3 +1,4 @@
+//! Room for an act, made before it.
 ghost use Rattle.std.specs.Prelude.{◌≡◌, ◌≤◌, true, false, if◌then◌else◌, OnOk, IfErr, IsOk};
 ghost use Rattle.ipcz_base.specs.Limits.{has_serials};
 ghost use Rattle.ipcz_node.specs.declared.act.Act.{Act};

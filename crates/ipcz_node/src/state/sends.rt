@@ -1,3 +1,4 @@
+//! Items that go out, with the terminals that move in them.
 ghost use Rattle.std.specs.Prelude.{◌≡◌, ◌<◌, ◌≤◌, ◌+◌, [], Some, length, vec_len};
 ghost use Rattle.std.specs.Prelude.{vec_capacity, IsSomeAnd};
 ghost use Rattle.ipcz_base.specs.Limits.{no_number};

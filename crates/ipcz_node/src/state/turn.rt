@@ -1,3 +1,4 @@
+//! Which act a node takes next.
 ghost use Rattle.std.specs.Prelude.{◌≡◌, false, not};
 ghost use Rattle.ipcz_base.specs.Indexed.{place_at};
 ghost use Rattle.ipcz_node.specs.Node.{flagged_router};

@@ -1,3 +1,4 @@
+//! The messages of a bypass, as a router hears them.
 ghost use Rattle.std.specs.Prelude.{◌≡◌, Some, None, Ok, Err, true, false, is_some, if◌then◌else◌, OnOk, OnErr};
 ghost use Rattle.ipcz_edge.specs.Edge.{edge_decays};
 ghost use Rattle.ipcz_router.specs.Router.{inward_edge};

@@ -1,3 +1,4 @@
+//! Calls of callers at a terminal, and items that come to a router.
 ghost use Rattle.std.specs.Prelude.{◌≡◌, ◌<◌, ◌≤◌, ◌-◌, ◌||◌, ◌&&◌, Some, None, true, false, is_some, is_none, IsOk, IfOk, IfErr, OnOk, OnErr, unwrap_or};
 ghost use Rattle.ipcz_base.specs.Limits.{last_number, no_number};
 ghost use Rattle.ipcz_seq.specs.Queue.{current_item, item_at, has_place, push_refusal};

@@ -1,3 +1,4 @@
+//! What an act of a router is about to give its node.
 ghost use Rattle.std.specs.Prelude.{◌≡◌};
 ghost use Rattle.ipcz_router.specs.ActEffects.{output_of};
 ghost use Rattle.ipcz_router.specs.Outlooks.{outlook_of};

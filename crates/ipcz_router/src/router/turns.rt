@@ -1,3 +1,4 @@
+//! Which act a router takes next, and what it does.
 ghost use Rattle.std.specs.Prelude.{◌≡◌, ◌||◌, true, false, [], ◌∷◌};
 ghost use Rattle.ipcz_edge.specs.Edge.{edge_decays};
 ghost use Rattle.ipcz_base.specs.Links.{word_of};

@@ -3,10 +3,9 @@ use Rattle.ipcz_world.proofs.frames.LiveLinks.{live-kept}
 use Rattle.ipcz_world.proofs.frames.Sealing.{live_of}
 use Rattle.std.specs.Prelude.{ℕ, refl}
 use Rattle.std.proofs.Common.{arith, sym}
-use Rattle.ipcz_world.proofs.Vocabulary.{Side, LinkEnd, Message, Router, World, Key, Books, Records, Inv}
-use Rattle.ipcz_world.specs.Acts.{accept_act}
-use Rattle.ipcz_router.specs.Bypass.{accept_bypass}
-use Rattle.ipcz_world.specs.Remembering.{accepted_records}
+use Rattle.ipcz_world.proofs.Vocabulary.{Side, LinkEnd, Message, Router, World, Key, Books, Records, Inv, accept_bypass}
+use Rattle.ipcz_world.proofs.facts.Updates.{accept_act}
+use Rattle.ipcz_world.proofs.facts.RecordsAfter.{accepted_records}
 use Rattle.ipcz_world.proofs.frames.Unmoved.{ordered-kept, spares-kept, moves-kept, terminals-kept, end_places-kept, books_kept-kept}
 use Rattle.ipcz_world.proofs.frames.Unmoved.{conserved-kept, held_once-kept, no_strays-kept}
 use Rattle.ipcz_world.proofs.frames.Handing.{handed_on}
@@ -18,7 +17,7 @@ use Rattle.ipcz_world.proofs.acts.AcceptBypassViews.{at_o, like, changed, agree,
 use Rattle.ipcz_world.proofs.acts.AcceptBypassNumbers.{items-accept, order-accept, proxy_numbers-accept, fresh_numbers-accept}
 use Rattle.ipcz_world.proofs.acts.AcceptBypassLinks.{counts-accept, links-accept, positions-accept}
 use Rattle.ipcz_world.proofs.acts.AcceptBypassStages.{retired-accept, gones-accept, stands-accept, words-accept, stages-accept, told-accept, descriptors}
-use Rattle.ipcz_world.specs.Acts.{tells_stop}
+use Rattle.ipcz_world.proofs.facts.Updates.{tells_stop}
 
 module _ (w : World) (b : Books) (g : Records) (from : ℕ) (k : Key) (r : Router) (e : LinkEnd) (o : ℕ) (side : Side) (fresh length : ℕ)
     (law : Sealed w b g) (can : Closed (CanAccept w from k r e o side fresh length)) where

@@ -4,22 +4,18 @@ use Rattle.std.specs.Prelude.{◌≡◌, ◌≢◌, ◌<◌, ◌≤◌, ℕ, Boo
 use Rattle.std.proofs.Common.{arith, ap, ◌∙◌, sym}
 use Rattle.std.proofs.lemmas.Bool.Decides.{nat_tests}
 use Rattle.std.proofs.lemmas.Option.{none-some, same_Some}
-use Rattle.ipcz_world.proofs.Vocabulary.{Side, A, B, LinkId, Central, Peripheral, LinkEnd, Item, Message, opposite, same_side}
-use Rattle.ipcz_world.proofs.Vocabulary.{has_link, item_at, Router, router_has, inward_edge, World, Key, node_at, mail_at, way, router_at}
-use Rattle.ipcz_world.proofs.Vocabulary.{flow, Books, Records, Linked, is_begun, is_linked, is_recorded, side_node, side_router}
-use Rattle.ipcz_world.proofs.Vocabulary.{proxy_side, across_side, side_length, Standing, view, next_sent, taking_queue, sending_queue}
-use Rattle.ipcz_world.proofs.Vocabulary.{fed_queue, has_primary, has_decaying, has_inward_decaying, key_passes, under_way, total_below}
-use Rattle.ipcz_world.proofs.Vocabulary.{total_list, Told, of_bypass, control_weight, inner_of, has_passed}
+use Rattle.ipcz_world.proofs.Vocabulary.{Side, A, B, LinkId, Central, Peripheral, LinkEnd, Item, Message, opposite, same_side, has_link, item_at}
+use Rattle.ipcz_world.proofs.Vocabulary.{Router, router_has, inward_edge, World, Key, node_at, mail_at, way, router_at, flow, Books, Records, Linked}
+use Rattle.ipcz_world.proofs.Vocabulary.{is_begun, is_linked, is_recorded, side_node, side_router, proxy_side, across_side, side_length, Standing}
+use Rattle.ipcz_world.proofs.Vocabulary.{view, next_sent, taking_queue, sending_queue, fed_queue, has_primary, has_decaying, has_inward_decaying}
+use Rattle.ipcz_world.proofs.Vocabulary.{key_passes, under_way, total_below, total_list, Told, of_bypass, control_weight, inner_of, has_passed}
+use Rattle.ipcz_world.proofs.Vocabulary.{key_at, Awaited, link_in, accept_bypass}
 use Rattle.ipcz_base.specs.declared.message.Message.TheVariants as messages
 use Rattle.ipcz_world.specs.declared.mail.Mail.TheVariants as mails
-use Rattle.ipcz_world.specs.Records.{key_at}
 use Rattle.ipcz_world.proofs.frames.RecordRules.{is_recorded-central}
-use Rattle.ipcz_world.specs.Standing.{Awaited}
-use Rattle.ipcz_world.specs.Structure.{link_in}
 use Rattle.ipcz_world.specs.Bypasses.{accept_of}
-use Rattle.ipcz_world.specs.Acts.{CanHand}
-use Rattle.ipcz_router.specs.Bypass.{accept_bypass}
-use Rattle.ipcz_world.specs.Remembering.{accepted_records}
+use Rattle.ipcz_world.proofs.facts.Updates.{CanHand}
+use Rattle.ipcz_world.proofs.facts.RecordsAfter.{accepted_records}
 use Rattle.ipcz_world.proofs.frames.Handing.{flow-hand}
 use Rattle.ipcz_world.proofs.frames.Viewing.{Stood, stood}
 use Rattle.ipcz_world.proofs.facts.Lengths.{opposite-twice, side_is, same_side-itself, same_side-tells, has_link-tells, HasEnd, passed}

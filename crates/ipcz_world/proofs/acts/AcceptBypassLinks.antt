@@ -1,5 +1,8 @@
 -- The router across takes the fresh link: each link is as its record says, and primary or decaying as its bypass says.
-use Rattle.ipcz_world.proofs.Vocabulary.{HasLinks}
+use Rattle.ipcz_world.proofs.Vocabulary.{HasLinks, Side, LinkId, Central, LinkEnd, Message, opposite, same_side, Router, World, Key, same_key}
+use Rattle.ipcz_world.proofs.Vocabulary.{node_at, mail_at, way, router_at, Books, hand_message, Records, is_begun, is_recorded, inner_link}
+use Rattle.ipcz_world.proofs.Vocabulary.{side_router, side_end, bypass_of, proxy_side, across_side, known_from, Counts, Links, IsRecorded, Positions}
+use Rattle.ipcz_world.proofs.Vocabulary.{is_outward, link_in, no_edge, accept_bypass}
 use Rattle.ipcz_world.proofs.frames.EachKept.{each-by}
 use Rattle.ipcz_world.proofs.frames.LinksKept.{links-still}
 use Rattle.std.specs.Prelude.{◌≡◌, ◌≢◌, ◌⊎◌, ◌<◌, ◌≤◌, ℕ, ◌+◌, ◌*◌, Bool, true, false, cond, ◌&&◌, nat_eq, is_some, is_none, Some, None}
@@ -7,17 +10,10 @@ use Rattle.std.specs.Prelude.{unwrap_or, refl}
 use Rattle.std.proofs.Common.{arith, ap, ◌∙◌, sym, inl, inr}
 use Rattle.std.proofs.lemmas.Bool.Decides.{nat_tests}
 use Rattle.std.proofs.lemmas.Option.{none-some, same_Some}
-use Rattle.ipcz_world.proofs.Vocabulary.{Side, LinkId, Central, LinkEnd, Message, opposite, same_side, Router, World, Key, same_key}
-use Rattle.ipcz_world.proofs.Vocabulary.{node_at, mail_at, way, router_at, Books, hand_message, Records, is_begun, is_recorded}
-use Rattle.ipcz_world.proofs.Vocabulary.{inner_link, side_router, side_end, bypass_of, proxy_side, across_side, known_from, Counts, Links}
-use Rattle.ipcz_world.proofs.Vocabulary.{IsRecorded, Positions, is_outward}
 use Rattle.ipcz_world.specs.declared.mail.Mail.TheVariants as mails
 use Rattle.ipcz_world.proofs.frames.Frames.{same_key-itself}
 use Rattle.ipcz_world.proofs.frames.RecordRules.{is_recorded-central, record_rules}
-use Rattle.ipcz_world.specs.Structure.{link_in}
-use Rattle.ipcz_edge.specs.Edge.{no_edge}
-use Rattle.ipcz_router.specs.Bypass.{accept_bypass}
-use Rattle.ipcz_world.specs.Remembering.{accepted_records}
+use Rattle.ipcz_world.proofs.facts.RecordsAfter.{accepted_records}
 use Rattle.ipcz_world.proofs.frames.Unmoved.{side_node-agree, side_end-agree, bypass_of-agree, proxy_side-agree, is_recorded-kept, WasLike}
 use Rattle.ipcz_world.proofs.frames.Handing.{handed_on, hand-handed_on, mail-handed_on, way_tells}
 use Rattle.ipcz_world.proofs.facts.Lengths.{same_side-itself, same_side-opposite, known_from-no}
@@ -27,7 +23,7 @@ use Rattle.ipcz_world.proofs.acts.AcceptBypassAround.{at_side, fresh_linked, fre
 use Rattle.ipcz_world.proofs.acts.AcceptBypassViews.{at_o, changed, agree, is_new, is_new-tells, router_of, stage_after, accepted_after}
 use Rattle.ipcz_world.proofs.acts.AcceptBypassViews.{taken_after, proxy_is_after, is_new-here}
 use Rattle.ipcz_world.proofs.acts.AcceptBypassNumbers.{router_j, was_router, across_side-after}
-use Rattle.ipcz_world.specs.Acts.{tells_stop}
+use Rattle.ipcz_world.proofs.facts.Updates.{tells_stop}
 use Rattle.ipcz_world.proofs.frames.Frames.{OneOrBefore, one_or_before}
 
 module _ {w : World} {b : Books} {g : Records} {from : ℕ} {k : Key} {r : Router} {e : LinkEnd} {o : ℕ} {side : Side} {fresh length : ℕ}

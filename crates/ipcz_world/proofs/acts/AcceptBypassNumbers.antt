@@ -9,14 +9,12 @@ use Rattle.std.proofs.lemmas.Bool.Decides.{nat_tests}
 use Rattle.std.proofs.lemmas.Option.{none-some, same_Some}
 use Rattle.ipcz_world.proofs.Vocabulary.{Side, A, B, LinkId, Central, LinkEnd, Item, Message, opposite, same_side, Queue, item_at, Router}
 use Rattle.ipcz_world.proofs.Vocabulary.{inward_edge, World, Key, same_key, router_at, Books, Records, is_begun, is_recorded, side_router}
-use Rattle.ipcz_world.proofs.Vocabulary.{across_side, side_length, is_gone, is_awaited, view, next_sent, taking_queue, sending_queue}
-use Rattle.ipcz_world.proofs.Vocabulary.{fed_queue, IsUnderWay, is_made_before, inner_of, Items, Order, ProxyNumbers, FreshNumbers}
-use Rattle.ipcz_world.proofs.Vocabulary.{has_passed, standing_router, Descriptor}
+use Rattle.ipcz_world.proofs.Vocabulary.{across_side, side_length, is_gone, is_awaited, view, next_sent, taking_queue, sending_queue, fed_queue}
+use Rattle.ipcz_world.proofs.Vocabulary.{IsUnderWay, is_made_before, inner_of, Items, Order, ProxyNumbers, FreshNumbers, has_passed, standing_router}
+use Rattle.ipcz_world.proofs.Vocabulary.{Descriptor, no_edge, accept_bypass}
 use Rattle.ipcz_base.specs.declared.message.Message.TheVariants as messages
 use Rattle.ipcz_world.proofs.frames.Frames.{same_key_tells}
-use Rattle.ipcz_edge.specs.Edge.{no_edge}
-use Rattle.ipcz_router.specs.Bypass.{accept_bypass}
-use Rattle.ipcz_world.specs.Remembering.{accepted_records}
+use Rattle.ipcz_world.proofs.facts.RecordsAfter.{accepted_records}
 use Rattle.ipcz_world.proofs.frames.Unmoved.{side_node-agree, proxy_side-agree, is_recorded-kept, WasLike, was_like}
 use Rattle.ipcz_world.proofs.frames.Handing.{handed_on, place_before, was_made_before}
 use Rattle.ipcz_world.proofs.frames.Viewing.{IsSameView}
@@ -31,7 +29,7 @@ use Rattle.ipcz_world.proofs.acts.AcceptBypassViews.{FromAcross, Inward, taken_a
 use Rattle.ipcz_world.proofs.acts.AcceptBypassViews.{makes_new, not_from_new, limit, some_grown, opposite-same, not_passed_before}
 use Rattle.ipcz_world.proofs.acts.AcceptBypassViews.{fresh_none, none_before, after_inner, after_old, not_new-old, not_new-inner}
 use Rattle.ipcz_world.proofs.acts.AcceptBypassViews.{view_z_after}
-use Rattle.ipcz_world.specs.Acts.{tells_stop}
+use Rattle.ipcz_world.proofs.facts.Updates.{tells_stop}
 use Rattle.ipcz_world.proofs.facts.Queues.{HasOutQueue, out_queue_of}
 
 module _ {w : World} {b : Books} {g : Records} {from : ℕ} {k : Key} {r : Router} {e : LinkEnd} {o : ℕ} {side : Side} {fresh length : ℕ}

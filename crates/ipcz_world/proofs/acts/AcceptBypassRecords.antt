@@ -1,16 +1,14 @@
 -- The router across accepts a bypass: what is said of shapes and of the bypasses' records is kept.
-use Rattle.ipcz_world.proofs.Vocabulary.{HasShape}
+use Rattle.ipcz_world.proofs.Vocabulary.{HasShape, Side, Central, LinkEnd, Router, World, Key, node_at, router_at, Records, is_begun, side_router}
+use Rattle.ipcz_world.proofs.Vocabulary.{proxy_side, across_side, BypassRecords, Shape, accept_bypass}
 use Rattle.ipcz_world.proofs.frames.EachKept.{each-one}
-use Rattle.ipcz_router.specs.Bypass.{accept_bypass}
 use Rattle.std.specs.Prelude.{◌≡◌, ◌⊎◌, ◌≤◌, ℕ, Bool, true, false, cond, nat_eq, Some, refl}
 use Rattle.std.proofs.Common.{arith, inl, inr}
 use Rattle.std.proofs.lemmas.Bool.Decides.{nat_tests}
-use Rattle.ipcz_world.proofs.Vocabulary.{Side, Central, LinkEnd, Router, World, Key, node_at, router_at, Records, is_begun, side_router}
-use Rattle.ipcz_world.proofs.Vocabulary.{proxy_side, across_side, BypassRecords, Shape}
 use Rattle.ipcz_world.proofs.frames.Frames.{frames}
 use Rattle.ipcz_world.proofs.frames.RecordRules.{record_rules}
-use Rattle.ipcz_world.specs.Remembering.{accepted_records}
-use Rattle.ipcz_world.specs.Acts.{accept_act}
+use Rattle.ipcz_world.proofs.facts.RecordsAfter.{accepted_records}
+use Rattle.ipcz_world.proofs.facts.Updates.{accept_act}
 use Rattle.ipcz_world.proofs.facts.Lengths.{same_side-itself, same_side-opposite}
 use Rattle.ipcz_world.proofs.facts.LinkTests.{side_is, central_word}
 

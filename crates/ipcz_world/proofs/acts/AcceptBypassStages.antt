@@ -2,7 +2,12 @@
 use Rattle.ipcz_world.proofs.frames.Booking.{flag}
 use Rattle.std.specs.Prelude.{◌||◌, length as list_length}
 use Rattle.std.proofs.Common.{subst}
-use Rattle.ipcz_world.proofs.Vocabulary.{IsRecorded, opposite_end}
+use Rattle.ipcz_world.proofs.Vocabulary.{IsRecorded, opposite_end, Side, A, B, End, LinkId, Central, LinkEnd, Message, opposite, has_link, Router}
+use Rattle.ipcz_world.proofs.Vocabulary.{World, Key, same_key, word_at, router_at, Books, Records, is_begun, is_linked, inner_link, side_node}
+use Rattle.ipcz_world.proofs.Vocabulary.{side_router, side_end, proxy_side, across_side, has_primary, has_decaying, has_inward_decaying, passes}
+use Rattle.ipcz_world.proofs.Vocabulary.{key_passes, IsUnderWay, of_end, moves_of, is_made_before, under_way, total_list, Words, Stands, Stages, Told}
+use Rattle.ipcz_world.proofs.Vocabulary.{of_bypass, control_weight, inner_of, Descriptor, RetiredEnds, Gones, is_left, is_retired, has_inward_primary}
+use Rattle.ipcz_world.proofs.Vocabulary.{fresh_of, no_edge, accept_bypass}
 use Rattle.ipcz_world.proofs.frames.Sealing.{links_of}
 use Rattle.ipcz_world.proofs.acts.AcceptBypassAround.{z_here, fresh_known}
 use Rattle.ipcz_world.proofs.acts.AcceptBypassAround as around
@@ -11,9 +16,6 @@ use Rattle.ipcz_world.proofs.frames.OneChange.{passes-same}
 use Rattle.ipcz_world.proofs.frames.Unmoved.{is_left-agree}
 use Rattle.ipcz_world.proofs.frames.Sealing.{retired_ends_of, gones_of}
 use Rattle.ipcz_world.proofs.frames.GonesKept.{gones-hand}
-use Rattle.ipcz_world.specs.Whereabouts.{RetiredEnds, Gones}
-use Rattle.ipcz_world.specs.Records.{is_left}
-use Rattle.ipcz_world.specs.Books.{is_retired}
 use Rattle.ipcz_base.specs.Ends as ends
 use Rattle.ipcz_world.proofs.frames.LeftSides.{not_left}
 use Rattle.ipcz_world.proofs.frames.Sourcing.{sourced-by, had-one}
@@ -24,19 +26,10 @@ use Rattle.std.specs.Prelude.{unwrap_or, refl}
 use Rattle.std.proofs.Common.{arith, ap, ◌∙◌, sym, inl, inr}
 use Rattle.std.proofs.lemmas.Bool.Decides.{nat_tests}
 use Rattle.std.proofs.lemmas.Option.{none-some, same_Some}
-use Rattle.ipcz_world.proofs.Vocabulary.{Side, A, B, End, LinkId, Central, LinkEnd, Message, opposite, has_link, Router}
-use Rattle.ipcz_world.proofs.Vocabulary.{World, Key, same_key, word_at, router_at, Books, Records, is_begun, is_linked, inner_link}
-use Rattle.ipcz_world.proofs.Vocabulary.{side_node, side_router, side_end, proxy_side, across_side, has_primary, has_decaying}
-use Rattle.ipcz_world.proofs.Vocabulary.{has_inward_decaying, passes, key_passes, IsUnderWay, of_end, moves_of, is_made_before, under_way}
-use Rattle.ipcz_world.proofs.Vocabulary.{total_list, Words, Stands, Stages, Told, of_bypass, control_weight, inner_of, Descriptor}
 use Rattle.ipcz_base.specs.declared.message.Message.TheVariants as messages
 use Rattle.ipcz_world.proofs.frames.Frames.{same_key_tells, same_key-itself}
-use Rattle.ipcz_world.specs.Standing.{has_inward_primary}
 use Rattle.ipcz_world.proofs.frames.StandingRules.{key_passes-none, standing_rules}
-use Rattle.ipcz_world.specs.Bypasses.{fresh_of}
-use Rattle.ipcz_edge.specs.Edge.{no_edge}
-use Rattle.ipcz_router.specs.Bypass.{accept_bypass}
-use Rattle.ipcz_world.specs.Remembering.{accepted_records}
+use Rattle.ipcz_world.proofs.facts.RecordsAfter.{accepted_records}
 use Rattle.ipcz_world.proofs.frames.Unmoved.{side_node-agree, side_end-agree, bypass_of-agree, side_router-inner-agree, about-agree}
 use Rattle.ipcz_world.proofs.frames.Unmoved.{expected-agree, proxy_side-agree, is_recorded-kept, WasLike}
 use Rattle.ipcz_world.proofs.frames.Handing.{handed_on, word-handed_on, place_before, was_under_way, was_made_before, under_way-handed_on}
@@ -50,7 +43,7 @@ use Rattle.ipcz_world.proofs.acts.AcceptBypassViews.{makes_new, none_before, not
 use Rattle.ipcz_world.proofs.acts.AcceptBypassNumbers.{router_j, was_proxy, two_of, across_side-after, across_is_after}
 use Rattle.ipcz_world.proofs.acts.AcceptBypassLinks.{known_after, central_is, not_both}
 use Rattle.ipcz_world.proofs.facts.Tests.{nat_eq-itself}
-use Rattle.ipcz_world.specs.Acts.{tells_stop}
+use Rattle.ipcz_world.proofs.facts.Updates.{tells_stop}
 use Rattle.ipcz_world.proofs.frames.WordsKept.{word-kept}
 
 old_end : (g : Records) (o : ℕ) (s : Side) → side_end g (Central o) s ≡ ends.end_at (g.central o).pair s

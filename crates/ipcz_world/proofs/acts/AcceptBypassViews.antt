@@ -1,8 +1,8 @@
 -- The router across takes the fresh link: the world and the records after it, and what stands at the sides of links then.
-use Rattle.ipcz_world.proofs.Vocabulary.{Weight, in_router, Side, A, B, LinkId, Central, Peripheral, LinkEnd, Item, Message, opposite}
-use Rattle.ipcz_world.proofs.Vocabulary.{same_side, has_link, same_link, Router, World, Key, router_at, Books, Records, is_begun}
-use Rattle.ipcz_world.proofs.Vocabulary.{inner_link, side_node, side_router, proxy_side, known_from, side_length, Standing, is_attached}
-use Rattle.ipcz_world.proofs.Vocabulary.{view, sending_queue, IsUnderWay, makes, inner_of, has_passed, Descriptor}
+use Rattle.ipcz_world.proofs.Vocabulary.{Weight, in_router, Side, A, B, LinkId, Central, Peripheral, LinkEnd, Item, Message, opposite, same_side}
+use Rattle.ipcz_world.proofs.Vocabulary.{has_link, same_link, Router, World, Key, router_at, Books, Records, is_begun, inner_link, side_node}
+use Rattle.ipcz_world.proofs.Vocabulary.{side_router, proxy_side, known_from, side_length, Standing, is_attached, view, sending_queue, IsUnderWay}
+use Rattle.ipcz_world.proofs.Vocabulary.{makes, inner_of, has_passed, Descriptor, may_have_sent, Awaited, accept_bypass}
 use Rattle.ipcz_world.specs.Places.{in_message as in_message'}
 use Rattle.std.specs.Prelude.{◌≡◌, ◌≢◌, ◌⊎◌, ◌<◌, ℕ, Bool, true, false, cond, ◌&&◌, ◌||◌, nat_eq, is_some, Option, Some, None, List, refl}
 use Rattle.std.proofs.Common.{arith, ap, ◌∙◌, sym, inl, inr}
@@ -11,10 +11,8 @@ use Rattle.std.proofs.lemmas.Option.{same_Some}
 use Rattle.ipcz_base.specs.declared.message.Message.TheVariants as messages
 use Rattle.ipcz_world.proofs.frames.Frames.{same_key-itself}
 use Rattle.ipcz_world.proofs.frames.RecordRules.{side_node-central, side_router-central}
-use Rattle.ipcz_world.specs.Standing.{may_have_sent, Awaited}
 use Rattle.ipcz_world.proofs.frames.OfRecords.{in_places}
-use Rattle.ipcz_router.specs.Bypass.{accept_bypass}
-use Rattle.ipcz_world.specs.Remembering.{accepted_records}
+use Rattle.ipcz_world.proofs.facts.RecordsAfter.{accepted_records}
 use Rattle.ipcz_world.proofs.frames.Unmoved.{IsLike, Changed, Carried, Agree, places-agree, proxy_side-agree}
 use Rattle.ipcz_world.proofs.frames.Placing.{places-handed_on}
 use Rattle.ipcz_world.proofs.frames.Handing.{handed_on, place_before, was_under_way, changed-handed_on}
@@ -29,7 +27,7 @@ use Rattle.ipcz_world.proofs.acts.AcceptBypassAround.{by_o, fresh_awaited, fresh
 use Rattle.ipcz_world.proofs.acts.AcceptBypassAround.{none_inner, y_out, y_in}
 use Rattle.ipcz_world.proofs.frames.Awaited.{no_router}
 use Rattle.ipcz_world.proofs.facts.Tests.{nat_eq-itself}
-use Rattle.ipcz_world.specs.Acts.{tells_stop}
+use Rattle.ipcz_world.proofs.facts.Updates.{tells_stop}
 
 module _ {w : World} {b : Books} {g : Records} {from : ℕ} {k : Key} {r : Router} {e : LinkEnd} {o : ℕ} {side : Side} {fresh length : ℕ}
     (law : Sealed w b g) (can : Closed (CanAccept w from k r e o side fresh length)) where

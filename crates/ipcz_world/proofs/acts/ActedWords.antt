@@ -1,19 +1,15 @@
 -- A node's acts on words, its claims and its rests in the world are the updates.
-use Rattle.ipcz_router.specs.ActEffects.{leaves_by}
+use Rattle.ipcz_world.proofs.Vocabulary.{Router, primary_word, output_of, router_in, commit, World, node_at, word_at, router_at, set_node, set_word}
+use Rattle.ipcz_world.proofs.Vocabulary.{set_claimed, after_act, answer_of, leaves_by, Plan, Locks, Waits, Refuses, plan_of, apply, on_router, send}
+use Rattle.ipcz_world.proofs.Vocabulary.{commit_router, keep_or_drop, after_router_act, touch, touch_word, link_answer, word_answer}
+use Rattle.ipcz_world.proofs.Vocabulary.{has_unclaimed_word}
 use Rattle.std.specs.Prelude.{◌≡◌, ℕ, true, false, Some, refl}
-use Rattle.ipcz_word.specs.Word.{Plan, Locks, Waits, Refuses, plan_of, word_by_plan}
-use Rattle.ipcz_world.proofs.Vocabulary.{Router, primary_word, output_of, router_in, commit, World, node_at, word_at, router_at, set_node}
-use Rattle.ipcz_world.proofs.Vocabulary.{set_word, set_claimed, after_act, answer_of}
-use Rattle.ipcz_router.specs.ActEffects.{apply}
+use Rattle.ipcz_word.specs.Word.{word_by_plan}
 use Rattle.ipcz_router.specs.declared.act.RouterAct.TheVariants as acts
 use Rattle.ipcz_node.specs.declared.act.Act.TheVariants.{Router as OfRouter}
-use Rattle.ipcz_node.specs.Node.{on_router}
-use Rattle.ipcz_node.specs.Sends.{send}
-use Rattle.ipcz_node.specs.Acts.{commit_router, keep_or_drop}
-use Rattle.ipcz_world.specs.Turns.{after_router_act}
-use Rattle.ipcz_world.specs.WordAnswers.{touch, touch_word, word_after, link_answer, word_answer, try_answer}
-use Rattle.ipcz_world.specs.Acts.{lock_act, unlock_act, claim_act, dry_act, rest_act}
-use Rattle.ipcz_world.specs.World.{has_unclaimed_word}
+use Rattle.ipcz_world.specs.WordAnswers.{word_after, try_answer}
+use Rattle.ipcz_world.proofs.facts.Updates.{lock_act, unlock_act, claim_act, rest_act}
+use Rattle.ipcz_world.specs.HeldEnds.{dry_act}
 
 pub acted-rest : (w : World) (n s : ℕ) (r : Router) → router_at w (record { node = n; serial = s }) ≡ Some r →
     after_act w n (OfRouter s acts.Rest) ≡ rest_act w (record { node = n; serial = s }) r

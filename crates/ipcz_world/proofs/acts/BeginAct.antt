@@ -1,22 +1,17 @@
 -- A bypass begins: the invariant is kept, every begin that is possible is one of these, and a node's begin is this update.
-use Rattle.ipcz_router.specs.ActEffects.{leaves_by}
+use Rattle.ipcz_world.proofs.Vocabulary.{B, LinkId, Central, Peripheral, LinkEnd, word_of, Router, inward_edge, is_possible, output_of, with_router}
+use Rattle.ipcz_world.proofs.Vocabulary.{router_in, commit, World, Key, node_at, router_at, set_node, after_act, Books, Records, inner_link}
+use Rattle.ipcz_world.proofs.Vocabulary.{is_outward, Inv, leaves_by, apply, message_output, on_router, send, commit_router, keep_or_drop}
+use Rattle.ipcz_world.proofs.Vocabulary.{after_router_act, touch}
 use Rattle.ipcz_world.proofs.acts.BegunStages.{live-begun, retired-begun, gones-begun}
 use Rattle.std.specs.Prelude.{◌≡◌, ◌<◌, ℕ, Option, Some, None, refl}
 use Rattle.std.proofs.Common.{arith, sym, ◌∙◌, ap, subst}
-use Rattle.ipcz_world.proofs.Vocabulary.{B, LinkId, Central, Peripheral, LinkEnd, word_of, Router, inward_edge, is_possible, output_of}
-use Rattle.ipcz_world.proofs.Vocabulary.{with_router, router_in, commit, World, Key, node_at, router_at, set_node, after_act, Books}
-use Rattle.ipcz_world.proofs.Vocabulary.{Records, inner_link, is_outward, Inv}
-use Rattle.ipcz_router.specs.ActEffects.{begin_bypass, begin_message as begin_sending, apply, message_output}
+use Rattle.ipcz_router.specs.ActEffects.{begin_bypass, begin_message as begin_sending}
 use Rattle.ipcz_router.specs.declared.act.RouterAct.TheVariants as acts
 use Rattle.ipcz_router.specs.declared.act.Applied.TheVariants as sends
 use Rattle.ipcz_node.specs.declared.act.Act.TheVariants.{Router as OfRouter}
-use Rattle.ipcz_node.specs.Node.{on_router}
-use Rattle.ipcz_node.specs.Sends.{send}
-use Rattle.ipcz_node.specs.Acts.{commit_router, keep_or_drop}
-use Rattle.ipcz_world.specs.Turns.{after_router_act}
-use Rattle.ipcz_world.specs.WordAnswers.{touch}
-use Rattle.ipcz_world.specs.Remembering.{begin_records}
-use Rattle.ipcz_world.specs.Acts.{CanAct, begin_act}
+use Rattle.ipcz_world.proofs.facts.RecordsAfter.{begin_records}
+use Rattle.ipcz_world.proofs.facts.Updates.{CanAct, begin_act}
 use Rattle.ipcz_world.proofs.acts.Beginning.{CanBegin, Begins, begins-of}
 use Rattle.ipcz_world.proofs.acts.BegunWorld.{Sends, sends-push}
 use Rattle.ipcz_world.proofs.acts.BegunAround.{IsBegunFrom, begun-from}

@@ -1,15 +1,12 @@
 -- A bypass begins: what it rests on, and what the records say after it.
-use Rattle.ipcz_world.specs.Records.{is_left}
+use Rattle.ipcz_world.proofs.Vocabulary.{Side, A, B, Central, LinkEnd, opposite, same_side, has, word_of, Router, inward_edge, is_possible, World}
+use Rattle.ipcz_world.proofs.Vocabulary.{Key, word_at, router_at, Books, Records, Spare, is_linked, is_begun, is_recorded, inner_link, bypass_of}
+use Rattle.ipcz_world.proofs.Vocabulary.{side_router, side_node, side_end, has_primary, IsRecorded, is_outward, Inv, is_left, is_proxy}
 use Rattle.ipcz_world.proofs.frames.LeftSides.{not_left, held_stays}
 use Rattle.std.specs.Prelude.{option_map}
 use Rattle.std.specs.Prelude.{◌≡◌, ◌⊎◌, ℕ, true, false, Option, Some, None, is_some, refl}
 use Rattle.std.proofs.Common.{arith, sym, ◌∙◌, ap, inl, inr}
 use Rattle.std.proofs.lemmas.Option.{same_Some}
-use Rattle.ipcz_world.proofs.Vocabulary.{Side, A, B, Central, LinkEnd, opposite, same_side, has, word_of, Router, inward_edge}
-use Rattle.ipcz_world.proofs.Vocabulary.{is_possible, World, Key, word_at, router_at, Books, Records, Spare, is_linked, is_begun}
-use Rattle.ipcz_world.proofs.Vocabulary.{is_recorded, inner_link, bypass_of, side_router, side_node, side_end, has_primary, IsRecorded}
-use Rattle.ipcz_world.proofs.Vocabulary.{is_outward, Inv}
-use Rattle.ipcz_router.specs.Router.{is_proxy}
 use Rattle.ipcz_router.specs.declared.act.RouterAct.TheVariants as acts
 use Rattle.ipcz_world.proofs.frames.RecordRules.{bypass_of-inner}
 use Rattle.ipcz_world.proofs.frames.StandingRules.{standing_rules}

@@ -1,22 +1,19 @@
 -- A proxy begins: what it was and is, and what the records say of the links around it before and after.
 use Rattle.ipcz_world.proofs.facts.Lengths.{same_side-itself}
-use Rattle.ipcz_world.proofs.Vocabulary.{End, opposite_end, side_end}
-use Rattle.ipcz_world.specs.Records.{is_left}
-use Rattle.ipcz_world.specs.Books.{is_retired}
+use Rattle.ipcz_world.proofs.Vocabulary.{End, opposite_end, side_end, Side, A, B, LinkId, Central, Peripheral, LinkEnd, Message, opposite, Edge}
+use Rattle.ipcz_world.proofs.Vocabulary.{Router, is_terminal, inward_edge, World, Key, same_key, router_at, Books, Records, is_begun, is_recorded}
+use Rattle.ipcz_world.proofs.Vocabulary.{inner_link, bypass_of, side_router, proxy_side, across_side, IsRecorded, is_outward, Inv, is_left}
+use Rattle.ipcz_world.proofs.Vocabulary.{is_retired, is_proxy}
 use Rattle.ipcz_base.specs.Ends as ends
 use Rattle.ipcz_world.proofs.frames.LeftSides.{not_left, held_unretired}
 use Rattle.std.specs.Prelude.{◌≡◌, ◌≢◌, ◌⊎◌, ℕ, Bool, true, false, cond, nat_eq, Option, Some, None, is_some, refl}
 use Rattle.std.proofs.Common.{arith, sym, ◌∙◌, ap, inl, inr}
 use Rattle.std.proofs.lemmas.Bool.Decides.{nat_tests}
 use Rattle.std.proofs.lemmas.Option.{same_Some, none-some}
-use Rattle.ipcz_world.proofs.Vocabulary.{Side, A, B, LinkId, Central, Peripheral, LinkEnd, Message, opposite, Edge, Router, is_terminal}
-use Rattle.ipcz_world.proofs.Vocabulary.{inward_edge, World, Key, same_key, router_at, Books, Records, is_begun, is_recorded, inner_link}
-use Rattle.ipcz_world.proofs.Vocabulary.{bypass_of, side_router, proxy_side, across_side, IsRecorded, is_outward, Inv}
-use Rattle.ipcz_router.specs.Router.{is_proxy}
 use Rattle.ipcz_router.specs.ActEffects.{begin_bypass}
 use Rattle.ipcz_world.proofs.frames.Frames.{same_key_tells, same_key-itself}
 use Rattle.ipcz_world.proofs.frames.RecordRules.{bypass_of-inner}
-use Rattle.ipcz_world.specs.Remembering.{begin_records}
+use Rattle.ipcz_world.proofs.facts.RecordsAfter.{begin_records}
 use Rattle.ipcz_world.proofs.facts.LinkTests.{side_is}
 use Rattle.ipcz_world.proofs.frames.BegunLengths.{begun-bypass_of}
 use Rattle.ipcz_world.proofs.acts.Beginning.{Begins}

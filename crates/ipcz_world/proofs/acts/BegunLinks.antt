@@ -1,8 +1,9 @@
 -- A proxy begins: its links decay, as their records and the bypass say; the counters go on.
-use Rattle.ipcz_world.proofs.Vocabulary.{HasLinks}
+use Rattle.ipcz_world.proofs.Vocabulary.{HasLinks, HasShape, Central, LinkEnd, Message, opposite, Router, inward_edge, World, Key, same_key, mail_at}
+use Rattle.ipcz_world.proofs.Vocabulary.{way, router_at, Books, Records, is_unclaimed, is_begun, inner_link, bypass_of, across_side, known_from}
+use Rattle.ipcz_world.proofs.Vocabulary.{Counts, Shape, Links, IsRecorded, Positions, is_outward, Inv, is_begun_router}
 use Rattle.ipcz_world.proofs.frames.EachKept.{each-by}
 use Rattle.ipcz_world.proofs.frames.LinksKept.{links-still}
-use Rattle.ipcz_world.proofs.Vocabulary.{HasShape}
 use Rattle.ipcz_world.proofs.frames.EachKept.{each-one}
 use Rattle.ipcz_world.proofs.facts.Tests.{not_both}
 use Rattle.ipcz_world.proofs.acts.BegunAround.{unsent}
@@ -10,13 +11,9 @@ use Rattle.std.specs.Prelude.{◌≡◌, ◌≢◌, ◌⊎◌, ◌≤◌, ℕ, �
 use Rattle.std.proofs.Common.{arith, sym, ◌∙◌, ap, subst, inl, inr}
 use Rattle.std.proofs.lemmas.Bool.Decides.{nat_tests}
 use Rattle.std.proofs.lemmas.Option.{same_Some}
-use Rattle.ipcz_world.proofs.Vocabulary.{Central, LinkEnd, Message, opposite, Router, inward_edge, World, Key, same_key, mail_at}
-use Rattle.ipcz_world.proofs.Vocabulary.{way, router_at, Books, Records, is_unclaimed, is_begun, inner_link, bypass_of, across_side}
-use Rattle.ipcz_world.proofs.Vocabulary.{known_from, Counts, Shape, Links, IsRecorded, Positions, is_outward, Inv}
 use Rattle.ipcz_world.proofs.frames.Frames.{same_key_tells}
 use Rattle.ipcz_world.proofs.frames.RecordRules.{bypass_of-inner}
-use Rattle.ipcz_world.specs.Remembering.{begin_records}
-use Rattle.ipcz_world.specs.Structure.{is_begun_router}
+use Rattle.ipcz_world.proofs.facts.RecordsAfter.{begin_records}
 use Rattle.ipcz_world.proofs.facts.LinkTests.{same_side-opposite, known_from-early}
 use Rattle.ipcz_world.proofs.facts.Lengths.{same_side-itself}
 use Rattle.ipcz_world.proofs.acts.Beginning.{Begins}

@@ -1,19 +1,16 @@
 -- A proxy begins: its message is the one of the first stage, and the messages of the other bypasses are as they were.
-use Rattle.ipcz_world.specs.Records.{Retired}
+use Rattle.ipcz_world.proofs.Vocabulary.{Side, A, B, LinkId, Central, LinkEnd, Descriptor, Message, opposite, same_link, Router, World, Key, flow}
+use Rattle.ipcz_world.proofs.Vocabulary.{Books, Records, Terminal, terminal_descriptor, At, inner_link, bypass_of, side_router, side_node, proxy_side}
+use Rattle.ipcz_world.proofs.Vocabulary.{across_side, IsUnderWay, is_made_before, under_way, of_end, moves_of, total_list, Told, inner_of, of_bypass}
+use Rattle.ipcz_world.proofs.Vocabulary.{control_weight, moving_link, Inv, Retired, Nowhere, Moving, key_at, is_made_by, move_weight}
 use Rattle.std.specs.Prelude.{◌≡◌, ◌≤◌, ℕ, ◌+◌, Bool, true, false, cond, nat_eq, Option, Some, None, is_some, slice_get, refl}
 use Rattle.std.proofs.Common.{arith, sym, ◌∙◌, ap, subst, inl, inr}
 use Rattle.std.proofs.lemmas.Bool.Decides.{nat_tests}
 use Rattle.std.proofs.lemmas.Option.{same_Some, none-some}
-use Rattle.ipcz_world.proofs.Vocabulary.{Side, A, B, LinkId, Central, LinkEnd, Descriptor, Message, opposite, same_link, Router, World}
-use Rattle.ipcz_world.proofs.Vocabulary.{Key, flow, Books, Records, Terminal, terminal_descriptor, At, inner_link, bypass_of, side_router}
-use Rattle.ipcz_world.proofs.Vocabulary.{side_node, proxy_side, across_side, IsUnderWay, is_made_before, under_way, of_end, moves_of}
-use Rattle.ipcz_world.proofs.Vocabulary.{total_list, Told, inner_of, of_bypass, control_weight, moving_link, Inv}
 use Rattle.ipcz_base.specs.declared.message.Message.TheVariants as messages
-use Rattle.ipcz_world.specs.Records.{Bypass, Nowhere, Moving, key_at}
+use Rattle.ipcz_world.specs.Records.{Bypass}
 use Rattle.ipcz_world.proofs.frames.RecordRules.{side_router-inner, side_router-proxy, side_node-proxy}
-use Rattle.ipcz_world.specs.Remembering.{begin_records}
-use Rattle.ipcz_world.specs.Flows.{is_made_by}
-use Rattle.ipcz_world.specs.Bypasses.{move_weight}
+use Rattle.ipcz_world.proofs.facts.RecordsAfter.{begin_records}
 use Rattle.ipcz_world.proofs.frames.Flowing.{total_list-found, IsLast, under_way-pushed, found, made_within, made_last, under_way-congr}
 use Rattle.ipcz_world.proofs.acts.Beginning.{Begins}
 use Rattle.ipcz_world.proofs.acts.BegunRecords.{router-begun, node-begun, begun-here, begun-else, side-begun}

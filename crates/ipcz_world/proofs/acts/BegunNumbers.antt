@@ -1,18 +1,16 @@
 -- A proxy begins: no item moves, so numbers and places are as they were.
-use Rattle.ipcz_world.proofs.Vocabulary.{IsOrdered}
+use Rattle.ipcz_world.proofs.Vocabulary.{IsOrdered, Weight, in_router, at_end, names_end, times, Side, A, B, End, LinkId, Central, Peripheral}
+use Rattle.ipcz_world.proofs.Vocabulary.{LinkEnd, Descriptor, Item, Message, opposite, same_end, has_end, opposite_end, has_link, same_link, Router}
+use Rattle.ipcz_world.proofs.Vocabulary.{World, Key, same_key, node_at, router_at, Books, is_closed, Records, is_linked, is_begun, is_recorded}
+use Rattle.ipcz_world.proofs.Vocabulary.{is_nowhere, inner_link, side_router, side_length, across_side, IsUnderWay, makes, of_end, moves_of}
+use Rattle.ipcz_world.proofs.Vocabulary.{total_below, total_list, Standing, view, view_by, router_view, is_attached, sending_queue, fed_queue}
+use Rattle.ipcz_world.proofs.Vocabulary.{next_sent, taking_queue, is_gone, is_awaited, Ordered, inner_of, moving_link, Terminals, EndPlaces}
+use Rattle.ipcz_world.proofs.Vocabulary.{BooksKept, Conserved, HeldOnce, times_held, Items, Order, ProxyNumbers, FreshNumbers, has_passed}
+use Rattle.ipcz_world.proofs.Vocabulary.{standing_router, Inv, is_left, may_have_sent, Moves, IsItemUnderWay}
 use Rattle.ipcz_world.proofs.frames.EachKept.{each-one}
 use Rattle.std.specs.Prelude.{◌||◌}
-use Rattle.ipcz_world.specs.Records.{is_left}
 use Rattle.ipcz_world.proofs.acts.BegunRecords.{left-begun}
 use Rattle.ipcz_world.proofs.frames.OfRecords.{holds, held_times, in_places}
-use Rattle.ipcz_world.proofs.Vocabulary.{Weight, in_router, at_end, names_end, times, Side, A, B, End, LinkId, Central, Peripheral}
-use Rattle.ipcz_world.proofs.Vocabulary.{LinkEnd, Descriptor, Item, Message, opposite, same_end, has_end, opposite_end, has_link}
-use Rattle.ipcz_world.proofs.Vocabulary.{same_link, Router, World, Key, same_key, node_at, router_at, Books, is_closed, Records}
-use Rattle.ipcz_world.proofs.Vocabulary.{is_linked, is_begun, is_recorded, is_nowhere, inner_link, side_router, side_length, across_side}
-use Rattle.ipcz_world.proofs.Vocabulary.{IsUnderWay, makes, of_end, moves_of, total_below, total_list, Standing, view, view_by}
-use Rattle.ipcz_world.proofs.Vocabulary.{router_view, is_attached, sending_queue, fed_queue, next_sent, taking_queue, is_gone, is_awaited}
-use Rattle.ipcz_world.proofs.Vocabulary.{Ordered, inner_of, moving_link, Terminals, EndPlaces, BooksKept, Conserved, HeldOnce, times_held}
-use Rattle.ipcz_world.proofs.Vocabulary.{Items, Order, ProxyNumbers, FreshNumbers, has_passed, standing_router, Inv}
 use Rattle.ipcz_world.specs.Places.{in_message as in_message'}
 use Rattle.std.specs.Prelude.{◌≡◌, ◌≢◌, ◌⊎◌, ◌≤◌, ◌<◌, ℕ, zero, suc, ◌+◌, Bool, true, false, cond, nat_eq, Option, Some, None, is_some}
 use Rattle.std.specs.Prelude.{List, [], ◌∷◌, slice_get, refl}
@@ -23,10 +21,7 @@ use Rattle.ipcz_base.specs.declared.message.Message.TheVariants as messages
 use Rattle.ipcz_node.specs.Hands.{has_moved}
 use Rattle.ipcz_world.proofs.frames.Frames.{same_key_tells}
 use Rattle.ipcz_world.proofs.frames.RecordRules.{is_recorded-central}
-use Rattle.ipcz_world.specs.Remembering.{begin_records}
-use Rattle.ipcz_world.specs.Standing.{may_have_sent}
-use Rattle.ipcz_world.specs.Bypasses.{Moves}
-use Rattle.ipcz_world.specs.Numbers.{IsItemUnderWay}
+use Rattle.ipcz_world.proofs.facts.RecordsAfter.{begin_records}
 use Rattle.ipcz_world.proofs.frames.Sums.{total_below-same}
 use Rattle.ipcz_world.proofs.frames.Weights.{in_option}
 use Rattle.ipcz_world.proofs.frames.Views.{Stood, view_rules}

@@ -1,17 +1,15 @@
 -- The records after a bypass has begun, against those before.
 use Rattle.ipcz_word.specs.SideSets.{has}
-use Rattle.ipcz_world.specs.Records.{is_left}
+use Rattle.ipcz_world.proofs.Vocabulary.{Side, A, B, LinkId, Central, Peripheral, opposite_end, World, Key, same_key, Records, Spare, is_linked}
+use Rattle.ipcz_world.proofs.Vocabulary.{is_begun, is_recorded, bypass_of, side_length, side_router, side_node, side_end, proxy_side, known_from}
+use Rattle.ipcz_world.proofs.Vocabulary.{view, view_by, is_left, bypass_length, length_by}
 use Rattle.ipcz_world.specs.Routes.{source as source'}
 use Rattle.std.specs.Prelude.{◌≡◌, ◌≢◌, ◌⊎◌, ℕ, Bool, true, false, cond, nat_eq, Option, Some, None, refl}
 use Rattle.std.proofs.Common.{arith, sym, ap, subst, inl, inr}
 use Rattle.std.proofs.lemmas.Bool.Decides.{nat_tests}
-use Rattle.ipcz_world.proofs.Vocabulary.{Side, A, B, LinkId, Central, Peripheral, opposite_end, World, Key, same_key, Records, Spare}
-use Rattle.ipcz_world.proofs.Vocabulary.{is_linked, is_begun, is_recorded, bypass_of, side_length, side_router, side_node, side_end}
-use Rattle.ipcz_world.proofs.Vocabulary.{proxy_side, known_from, view, view_by}
 use Rattle.ipcz_world.proofs.frames.Frames.{same_key_tells}
-use Rattle.ipcz_world.specs.Records.{bypass_length, length_by}
 use Rattle.ipcz_world.proofs.frames.OfRecords.{source}
-use Rattle.ipcz_world.specs.Remembering.{begin_records}
+use Rattle.ipcz_world.proofs.facts.RecordsAfter.{begin_records}
 
 pub proxy_at : (g : Records) (k : Key) (o fresh : ℕ) (p q : Key) →
     ((begin_records g k o fresh p).peripheral q).proxy ≡ (g.peripheral q).proxy

@@ -2,33 +2,27 @@
 use Rattle.ipcz_base.specs.Ends as ends
 use Rattle.ipcz_base.specs.Ends.{opposite_end}
 use Rattle.ipcz_world.proofs.frames.RecordRules.{bypass_of-inner}
-use Rattle.ipcz_world.proofs.Vocabulary.{Peripheral, bypass_of, is_terminal}
-use Rattle.ipcz_world.specs.Books.{is_retired, is_closed}
-use Rattle.ipcz_world.specs.Whereabouts.{RetiredEnds, Gones}
-use Rattle.ipcz_world.specs.Records.{is_left}
+use Rattle.ipcz_world.proofs.Vocabulary.{Peripheral, bypass_of, is_terminal, Side, A, B, LinkId, Central, LinkEnd, Message, opposite, same_side, has}
+use Rattle.ipcz_world.proofs.Vocabulary.{Word, Router, inward_edge, World, Key, same_key, router_at, Books, Records, Owner, Spare, Fresh, Linked}
+use Rattle.ipcz_world.proofs.Vocabulary.{Opening, is_linked, is_begun, is_recorded, inner_link, side_router, side_node, side_end, proxy_side}
+use Rattle.ipcz_world.proofs.Vocabulary.{across_side, key_passes, has_primary, has_decaying, has_inward_decaying, Stands, Words, Spares}
+use Rattle.ipcz_world.proofs.Vocabulary.{BypassRecords, Stages, inner_of, Inv, IsBypassRecorded, HasWord, is_retired, RetiredEnds, Gones, is_left}
+use Rattle.ipcz_world.proofs.Vocabulary.{LiveLinks, has_inward_primary, spare_of, is_begun_router, fresh_of}
+use Rattle.ipcz_world.specs.Books.{is_closed}
 use Rattle.ipcz_world.proofs.frames.LeftSides.{not_left}
 use Rattle.ipcz_world.proofs.acts.BegunRecords.{left-begun}
 use Rattle.ipcz_world.proofs.acts.BegunAround.{none_left, central_unleft, inner_unleft, unretired, unsent, by-central}
 use Rattle.ipcz_world.proofs.frames.LiveLinks.{same_word}
-use Rattle.ipcz_world.specs.Bypasses.{LiveLinks}
 use Rattle.std.proofs.Common.{true≢false}
 use Rattle.ipcz_world.proofs.frames.Sourcing.{sourced-by, had-itself}
 use Rattle.std.specs.Prelude.{◌≡◌, ◌≢◌, ◌⊎◌, ◌≤◌, ℕ, Bool, true, false, cond, not, nat_eq, Option, Some, None, is_some, refl}
 use Rattle.std.proofs.Common.{arith, sym, ◌∙◌, ap, subst, inl, inr}
 use Rattle.std.proofs.lemmas.Bool.Decides.{nat_tests}
 use Rattle.std.proofs.lemmas.Option.{same_Some, none-some}
-use Rattle.ipcz_world.proofs.Vocabulary.{Side, A, B, LinkId, Central, LinkEnd, Message, opposite, same_side, has, Word, Router}
-use Rattle.ipcz_world.proofs.Vocabulary.{inward_edge, World, Key, same_key, router_at, Books, Records, Owner, Spare, Fresh}
-use Rattle.ipcz_world.proofs.Vocabulary.{Linked, Opening, is_linked, is_begun, is_recorded, inner_link, side_router, side_node, side_end}
-use Rattle.ipcz_world.proofs.Vocabulary.{proxy_side, across_side, key_passes, has_primary, has_decaying, has_inward_decaying, Stands}
-use Rattle.ipcz_world.proofs.Vocabulary.{Words, Spares, BypassRecords, Stages, inner_of, Inv}
 use Rattle.ipcz_world.proofs.facts.Lengths.{HasEnd, has_link-tells}
 use Rattle.ipcz_world.proofs.frames.Frames.{same_key_tells, same_key-itself}
-use Rattle.ipcz_world.specs.Remembering.{begin_records}
-use Rattle.ipcz_world.specs.Standing.{has_inward_primary, spare_of}
+use Rattle.ipcz_world.proofs.facts.RecordsAfter.{begin_records}
 use Rattle.ipcz_world.proofs.frames.StandingRules.{standing_rules}
-use Rattle.ipcz_world.specs.Structure.{is_begun_router}
-use Rattle.ipcz_world.specs.Bypasses.{fresh_of}
 use Rattle.ipcz_world.proofs.facts.LinkTests.{has_link-is}
 use Rattle.ipcz_world.proofs.acts.Beginning.{Begins}
 use Rattle.ipcz_world.proofs.acts.BegunRecords.{router-begun, node-begun, end-begun, linked-begun, begun-here, begun-else, by_word}
@@ -36,9 +30,7 @@ use Rattle.ipcz_world.proofs.acts.BegunRecords.{side-begun, by-inner, end_at}
 use Rattle.ipcz_world.proofs.acts.BegunWorld.{Sends}
 use Rattle.ipcz_world.proofs.acts.BegunAround.{IsBegunFrom, rec-begun, not-begun, not-inner, word_same, key_same, side-here}
 use Rattle.ipcz_world.proofs.frames.BypassesKept.{KeepsBypass, IsSameBypass, same_bypass, bypass-kept}
-use Rattle.ipcz_world.proofs.Vocabulary.{IsBypassRecorded}
 use Rattle.ipcz_world.proofs.frames.WordsKept.{KeepsWord, word-kept}
-use Rattle.ipcz_world.proofs.Vocabulary.{HasWord}
 
 inner-side_end : (g : Records) (q : Key) (s : Side) → side_end g (inner_link q) s ≡ (g.peripheral q).end
 unfolding side_end

@@ -3,12 +3,11 @@ use Rattle.ipcz_world.specs.Places.{in_node as in_node'}
 use Rattle.std.specs.Prelude.{◌≡◌, ◌<◌, ℕ, ◌+◌, ◌*◌, Bool, true, false, cond, ◌&&◌, nat_eq, Some, [], ◌∷◌, ◌++◌, refl}
 use Rattle.std.proofs.Common.{arith, sym, ◌∙◌, ap, append_assoc}
 use Rattle.std.proofs.lemmas.Bool.Decides.{nat_tests}
-use Rattle.ipcz_world.proofs.Vocabulary.{Message, Router, Node, outbox, World, Key, same_key, node_at, word_at, mail_at, way, router_at}
-use Rattle.ipcz_world.proofs.Vocabulary.{flow, messages_in, set_router, Records, Weight, in_router}
+use Rattle.ipcz_world.proofs.Vocabulary.{Message, Router, Node, outbox, World, Key, same_key, node_at, word_at, mail_at, way, router_at, flow}
+use Rattle.ipcz_world.proofs.Vocabulary.{messages_in, set_router, Records, Weight, in_router, push_out}
 use Rattle.std.specs.FinMap.{get}
 use Rattle.ipcz_base.proofs.Indexed.{place_at-put_place}
-use Rattle.ipcz_node.specs.Node.{push_out}
-use Rattle.ipcz_world.specs.World.{push_message}
+use Rattle.ipcz_world.proofs.facts.Updates.{push_message}
 use Rattle.ipcz_world.proofs.frames.Frames.{frames, node-set_node, word-set_node, mail-set_node, claimed-set_node, size-set_node}
 use Rattle.ipcz_world.proofs.frames.Frames.{count-set_node, router-set_node, router-set_router}
 use Rattle.ipcz_world.proofs.frames.OfRecords.{in_places, in_node, in_message}

@@ -6,8 +6,8 @@ use Rattle.ipcz_world.proofs.Vocabulary.{Side, LinkId, Message, opposite, EndPla
 use Rattle.ipcz_world.proofs.Vocabulary.{World, Key, Books, Records, at_end, names_end, bypass_peer, Inv}
 use Rattle.ipcz_base.specs.declared.message.Message.TheVariants as messages
 use Rattle.ipcz_world.specs.Whereabouts.{times_closed}
-use Rattle.ipcz_world.specs.Acts.{peer_act}
-use Rattle.ipcz_world.specs.Remembering.{taken_records}
+use Rattle.ipcz_world.proofs.facts.Updates.{peer_act}
+use Rattle.ipcz_world.proofs.facts.RecordsAfter.{taken_records}
 use Rattle.ipcz_world.proofs.frames.Unmoved.{ordered-kept, moves-kept, end_places-kept, books_kept-kept, conserved-kept, held_once-kept}
 use Rattle.ipcz_world.proofs.frames.Unmoved.{no_strays-kept}
 use Rattle.ipcz_world.proofs.frames.Handing.{handed_on}

@@ -1,28 +1,24 @@
 -- The router inward has the message that begins its bypass and takes the fresh link: who stands around it, before and after.
 use Rattle.ipcz_world.proofs.frames.Sealing.{stands_of}
 use Rattle.ipcz_word.specs.SideSets.{has, has-none}
-use Rattle.ipcz_world.specs.Records.{is_left}
+use Rattle.ipcz_world.proofs.Vocabulary.{Side, A, B, LinkId, Central, Peripheral, LinkEnd, Message, opposite, same_side, is_central, has_link}
+use Rattle.ipcz_world.proofs.Vocabulary.{same_link, word_of, Router, router_has, World, Key, same_key, mail_at, way, router_at, Books, Records, Fresh}
+use Rattle.ipcz_world.proofs.Vocabulary.{is_begun, is_linked, is_recorded, inner_link, side_node, side_router, side_end, bypass_of, proxy_side}
+use Rattle.ipcz_world.proofs.Vocabulary.{across_side, Standing, is_attached, view, has_primary, IsRecorded, inner_of, bypass_peer, is_left, key_at}
+use Rattle.ipcz_world.proofs.Vocabulary.{Awaited, link_in}
 use Rattle.ipcz_world.specs.Routes.{source as source'}
 use Rattle.std.specs.Prelude.{◌≡◌, ◌≢◌, ◌⊎◌, ◌<◌, ◌≤◌, ℕ, Bool, true, false, cond, ◌||◌, nat_eq, if◌then◌else◌, is_some, Option, Some, None}
 use Rattle.std.specs.Prelude.{refl}
 use Rattle.std.proofs.Common.{arith, ap, ◌∙◌, sym, inl, inr}
 use Rattle.std.proofs.lemmas.Bool.Decides.{nat_tests}
 use Rattle.std.proofs.lemmas.Option.{none-some, same_Some}
-use Rattle.ipcz_world.proofs.Vocabulary.{Side, A, B, LinkId, Central, Peripheral, LinkEnd, Message, opposite, same_side, is_central}
-use Rattle.ipcz_world.proofs.Vocabulary.{has_link, same_link, word_of, Router, router_has, World, Key, same_key, mail_at, way, router_at}
-use Rattle.ipcz_world.proofs.Vocabulary.{Books, Records, Fresh, is_begun, is_linked, is_recorded, inner_link, side_node, side_router}
-use Rattle.ipcz_world.proofs.Vocabulary.{side_end, bypass_of, proxy_side, across_side, Standing, is_attached, view, has_primary}
-use Rattle.ipcz_world.proofs.Vocabulary.{IsRecorded, inner_of, bypass_peer}
 use Rattle.ipcz_base.specs.declared.message.Message.TheVariants as messages
 use Rattle.ipcz_world.specs.declared.mail.Mail.TheVariants as mails
 use Rattle.ipcz_world.proofs.frames.Frames.{same_key-itself}
-use Rattle.ipcz_world.specs.Records.{key_at}
 use Rattle.ipcz_world.proofs.frames.OfRecords.{source}
 use Rattle.ipcz_world.proofs.frames.RecordRules.{side_node-central, bypass_of-inner, is_recorded-central}
-use Rattle.ipcz_world.specs.Standing.{Awaited}
-use Rattle.ipcz_world.specs.Structure.{link_in}
-use Rattle.ipcz_world.specs.Acts.{CanHand}
-use Rattle.ipcz_world.specs.Remembering.{taken_records}
+use Rattle.ipcz_world.proofs.facts.Updates.{CanHand}
+use Rattle.ipcz_world.proofs.facts.RecordsAfter.{taken_records}
 use Rattle.ipcz_world.proofs.frames.Unmoved.{IsLike, Changed, WasLike, was_like}
 use Rattle.ipcz_world.proofs.frames.Handing.{handed_on, changed-handed_on}
 use Rattle.ipcz_world.proofs.frames.Viewing.{IsSameView, view-kept-at}

@@ -1,21 +1,17 @@
 -- The router inward takes the fresh link: each link is as its record says, and primary or decaying as its bypass says.
-use Rattle.ipcz_world.proofs.Vocabulary.{HasLinks}
+use Rattle.ipcz_world.proofs.Vocabulary.{HasLinks, HasShape, Side, B, LinkId, Central, LinkEnd, Message, opposite, Router, World, Key, same_key}
+use Rattle.ipcz_world.proofs.Vocabulary.{router_at, Books, Records, is_begun, inner_link, side_router, bypass_of, across_side, known_from, Shape}
+use Rattle.ipcz_world.proofs.Vocabulary.{Links, IsRecorded, Positions, is_outward, inner_of, bypass_peer, link_in, no_edge}
 use Rattle.ipcz_world.proofs.frames.EachKept.{each-by}
 use Rattle.ipcz_world.proofs.frames.LinksKept.{links-still}
-use Rattle.ipcz_world.proofs.Vocabulary.{HasShape}
 use Rattle.ipcz_world.proofs.frames.EachKept.{each-one}
 use Rattle.std.specs.Prelude.{◌≡◌, ◌≢◌, ◌⊎◌, ◌≤◌, ℕ, true, false, ◌&&◌, nat_eq, is_some, is_none, Some, unwrap_or, refl}
 use Rattle.std.proofs.Common.{arith, ap, ◌∙◌, sym, inl, inr}
 use Rattle.std.proofs.lemmas.Option.{same_Some}
-use Rattle.ipcz_world.proofs.Vocabulary.{Side, B, LinkId, Central, LinkEnd, Message, opposite, Router, World, Key, same_key}
-use Rattle.ipcz_world.proofs.Vocabulary.{router_at, Books, Records, is_begun, inner_link, side_router, bypass_of, across_side, known_from}
-use Rattle.ipcz_world.proofs.Vocabulary.{Shape, Links, IsRecorded, Positions, is_outward, inner_of, bypass_peer}
 use Rattle.ipcz_base.specs.declared.message.Message.TheVariants as messages
 use Rattle.ipcz_world.proofs.frames.Frames.{same_key-itself}
 use Rattle.ipcz_world.proofs.frames.RecordRules.{bypass_of-inner}
-use Rattle.ipcz_world.specs.Structure.{link_in}
-use Rattle.ipcz_edge.specs.Edge.{no_edge}
-use Rattle.ipcz_world.specs.Remembering.{taken_records}
+use Rattle.ipcz_world.proofs.facts.RecordsAfter.{taken_records}
 use Rattle.ipcz_world.proofs.frames.Handing.{handed_on}
 use Rattle.ipcz_world.proofs.facts.Lengths.{same_side-tells, known_from-no}
 use Rattle.ipcz_world.proofs.frames.Sealing.{Sealed, Closed, stands_of, shape_of, links_of, positions_of}

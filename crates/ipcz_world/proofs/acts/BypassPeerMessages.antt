@@ -1,16 +1,16 @@
 -- The router inward takes the fresh link: the messages of bypasses, the descriptors under way, and the places of items.
-use Rattle.ipcz_world.proofs.Vocabulary.{Weight, in_router, Side, A, B, End, LinkId, Central, Peripheral, Message, opposite, is_central}
-use Rattle.ipcz_world.proofs.Vocabulary.{same_link, total, total_below, total_list, Router, World, Key, node_at, flow, Books, Records}
-use Rattle.ipcz_world.proofs.Vocabulary.{is_begun, is_recorded, inner_link, side_node, proxy_side, across_side, IsUnderWay, of_end}
-use Rattle.ipcz_world.proofs.Vocabulary.{moves_of, under_way, Told, of_bypass, control_weight, inner_of, bypass_peer, Descriptor}
+use Rattle.ipcz_world.proofs.Vocabulary.{Weight, in_router, Side, A, B, End, LinkId, Central, Peripheral, Message, opposite, is_central, same_link}
+use Rattle.ipcz_world.proofs.Vocabulary.{total, total_below, total_list, Router, World, Key, node_at, flow, Books, Records, is_begun, is_recorded}
+use Rattle.ipcz_world.proofs.Vocabulary.{inner_link, side_node, proxy_side, across_side, IsUnderWay, of_end, moves_of, under_way, Told, of_bypass}
+use Rattle.ipcz_world.proofs.Vocabulary.{control_weight, inner_of, bypass_peer, Descriptor, Moves}
 use Rattle.ipcz_world.specs.Places.{in_message as in_message', in_node as in_node', in_places as in_places'}
 use Rattle.std.specs.Prelude.{◌≡◌, ◌≢◌, ◌⊎◌, ◌≤◌, ℕ, ◌+◌, Bool, true, false, cond, nat_eq, is_some, Option, Some, None, refl}
 use Rattle.std.proofs.Common.{arith, ap, ◌∙◌, sym, inl, inr}
 use Rattle.std.proofs.lemmas.Bool.Decides.{nat_tests}
 use Rattle.ipcz_base.specs.declared.message.Message.TheVariants as messages
 use Rattle.ipcz_world.proofs.frames.OfRecords.{in_node, in_places, in_message}
-use Rattle.ipcz_world.specs.Bypasses.{Moves, is_by}
-use Rattle.ipcz_world.specs.Remembering.{taken_records}
+use Rattle.ipcz_world.specs.Bypasses.{is_by}
+use Rattle.ipcz_world.proofs.facts.RecordsAfter.{taken_records}
 use Rattle.ipcz_world.proofs.frames.Unmoved.{Agree}
 use Rattle.ipcz_world.proofs.frames.Placing.{places-handed_on}
 use Rattle.ipcz_world.proofs.frames.Totalling.{total_below-same, total_pairs-same, total_pairs}

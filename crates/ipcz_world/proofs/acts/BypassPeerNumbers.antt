@@ -7,17 +7,14 @@ use Rattle.std.specs.Prelude.{refl}
 use Rattle.std.proofs.Common.{arith, ap, ◌∙◌, sym, inl, inr}
 use Rattle.std.proofs.lemmas.Bool.Decides.{nat_tests}
 use Rattle.std.proofs.lemmas.Option.{none-some, same_Some}
-use Rattle.ipcz_world.proofs.Vocabulary.{Side, A, B, LinkId, Central, Peripheral, LinkEnd, Item, Message, opposite, same_side, same_link}
-use Rattle.ipcz_world.proofs.Vocabulary.{Queue, item_at, Router, inward_edge, World, Key, router_at, Books, Records, is_begun}
-use Rattle.ipcz_world.proofs.Vocabulary.{is_linked, is_recorded, inner_link, across_side, known_from, side_length, is_gone, Standing}
-use Rattle.ipcz_world.proofs.Vocabulary.{view, next_sent, taking_queue, sending_queue, fed_queue, has_inward_decaying, IsUnderWay, makes}
-use Rattle.ipcz_world.proofs.Vocabulary.{is_made_before, inner_of, Items, Order, ProxyNumbers, FreshNumbers, has_passed, standing_router}
-use Rattle.ipcz_world.proofs.Vocabulary.{bypass_peer, Descriptor}
+use Rattle.ipcz_world.proofs.Vocabulary.{Side, A, B, LinkId, Central, Peripheral, LinkEnd, Item, Message, opposite, same_side, same_link, Queue}
+use Rattle.ipcz_world.proofs.Vocabulary.{item_at, Router, inward_edge, World, Key, router_at, Books, Records, is_begun, is_linked, is_recorded}
+use Rattle.ipcz_world.proofs.Vocabulary.{inner_link, across_side, known_from, side_length, is_gone, Standing, view, next_sent, taking_queue}
+use Rattle.ipcz_world.proofs.Vocabulary.{sending_queue, fed_queue, has_inward_decaying, IsUnderWay, makes, is_made_before, inner_of, Items, Order}
+use Rattle.ipcz_world.proofs.Vocabulary.{ProxyNumbers, FreshNumbers, has_passed, standing_router, bypass_peer, Descriptor, none, no_edge}
 use Rattle.ipcz_base.specs.declared.message.Message.TheVariants as messages
-use Rattle.ipcz_word.specs.SideSets.{none}
 use Rattle.ipcz_world.proofs.frames.RecordRules.{is_recorded-central}
-use Rattle.ipcz_edge.specs.Edge.{no_edge}
-use Rattle.ipcz_world.specs.Remembering.{taken_records}
+use Rattle.ipcz_world.proofs.facts.RecordsAfter.{taken_records}
 use Rattle.ipcz_world.proofs.frames.Unmoved.{Carried, WasLike}
 use Rattle.ipcz_world.proofs.frames.Handing.{handed_on, place_before, was_under_way, was_made_before}
 use Rattle.ipcz_world.proofs.frames.Viewing.{Stood, stood, IsSameView}

@@ -2,15 +2,13 @@
 use Rattle.std.specs.Prelude.{◌≡◌, ◌≢◌, ◌⊎◌, ◌<◌, ℕ, Bool, true, false, cond, nat_eq, is_some, Some, None, refl}
 use Rattle.std.proofs.Common.{arith, ap, ◌∙◌, sym, subst, inl, inr}
 use Rattle.std.proofs.lemmas.Option.{none-some, same_Some}
-use Rattle.ipcz_world.proofs.Vocabulary.{Side, A, B, LinkId, Central, Message, opposite, same_side, Router, World, Key, Books, Records}
-use Rattle.ipcz_world.proofs.Vocabulary.{is_unclaimed, Fresh, Linked, is_begun, is_linked, is_recorded, inner_link, side_node}
-use Rattle.ipcz_world.proofs.Vocabulary.{side_router, proxy_side, across_side, Counts, BypassRecords, IsBypassRecorded, inner_of}
-use Rattle.ipcz_world.proofs.Vocabulary.{bypass_peer}
+use Rattle.ipcz_world.proofs.Vocabulary.{Side, A, B, LinkId, Central, Message, opposite, same_side, Router, World, Key, Books, Records, is_unclaimed}
+use Rattle.ipcz_world.proofs.Vocabulary.{Fresh, Linked, is_begun, is_linked, is_recorded, inner_link, side_node, side_router, proxy_side, across_side}
+use Rattle.ipcz_world.proofs.Vocabulary.{Counts, BypassRecords, IsBypassRecorded, inner_of, bypass_peer, fresh_of}
 use Rattle.ipcz_world.proofs.frames.BypassesKept.{KeepsBypass, bypass-kept}
 use Rattle.ipcz_base.specs.declared.message.Message.TheVariants as messages
 use Rattle.ipcz_world.proofs.frames.RecordRules.{is_recorded-central}
-use Rattle.ipcz_world.specs.Bypasses.{fresh_of}
-use Rattle.ipcz_world.specs.Remembering.{taken_records}
+use Rattle.ipcz_world.proofs.facts.RecordsAfter.{taken_records}
 use Rattle.ipcz_world.proofs.frames.Handing.{handed_on, hand-handed_on, mail-handed_on}
 use Rattle.ipcz_world.proofs.facts.Lengths.{side_is, same_side-itself, same_side-opposite}
 use Rattle.ipcz_world.proofs.frames.Counting.{IsReceived, counts-received}

@@ -1,23 +1,23 @@
 -- The router inward takes the fresh link: who stands where, the words, and where the terminals are.
 use Rattle.ipcz_world.proofs.acts.BypassPeerAround.{left_same, left_recorded, fresh_left, r_pair, end_same, bypass_same, recorded_more, begun_apart, accepted_same}
-use Rattle.ipcz_world.proofs.Vocabulary.{opposite_end, End}
+use Rattle.ipcz_world.proofs.Vocabulary.{opposite_end, End, side_node, Side, A, B, LinkId, Central, LinkEnd, Message, has, opposite, same_side}
+use Rattle.ipcz_world.proofs.Vocabulary.{empty_word, same_end, Terminals, is_terminal, Router, World, Key, same_key, word_at, router_at, Books}
+use Rattle.ipcz_world.proofs.Vocabulary.{Records, is_nowhere, Fresh, Spare, Opening, Linked, is_begun, is_linked, is_recorded, inner_link}
+use Rattle.ipcz_world.proofs.Vocabulary.{side_router, side_end, proxy_side, across_side, has_primary, has_decaying, has_inward_decaying, passes}
+use Rattle.ipcz_world.proofs.Vocabulary.{key_passes, Words, Spares, Stands, Stages, inner_of, bypass_peer, RetiredEnds, Gones, is_left, is_retired}
+use Rattle.ipcz_world.proofs.Vocabulary.{LiveLinks, spare_of, has_inward_primary, fresh_of, no_edge}
 use Rattle.std.proofs.Common.{subst}
 use Rattle.std.specs.Prelude.{◌||◌, nat_le}
 use Rattle.ipcz_world.proofs.frames.OneChange.{passes-same}
 use Rattle.ipcz_world.proofs.frames.Sealing.{retired_ends_of, gones_of}
 use Rattle.ipcz_world.proofs.frames.GonesKept.{gones-hand}
-use Rattle.ipcz_world.specs.Whereabouts.{RetiredEnds, Gones}
-use Rattle.ipcz_world.specs.Records.{is_left}
-use Rattle.ipcz_world.specs.Books.{is_retired}
 use Rattle.ipcz_base.specs.Ends as ends
 use Rattle.ipcz_world.proofs.frames.LeftSides.{not_left}
 use Rattle.ipcz_world.proofs.frames.LiveLinks.{first_begun}
-use Rattle.ipcz_world.specs.Bypasses.{LiveLinks}
 use Rattle.ipcz_world.proofs.frames.Sealing.{live_of}
 use Rattle.ipcz_world.proofs.acts.BypassPeerAround.{r_pair, two, central_same, begun_apart, stage_at}
 use Rattle.ipcz_world.proofs.facts.Tests.{nat_eq-itself}
 use Rattle.std.proofs.Common.{true≢false}
-use Rattle.ipcz_world.proofs.Vocabulary.{side_node}
 use Rattle.ipcz_world.proofs.acts.BypassPeerAround.{node_same}
 use Rattle.ipcz_world.proofs.frames.Sourcing.{sourced-by, had-one}
 use Rattle.ipcz_word.specs.Word.{Word}
@@ -27,18 +27,10 @@ use Rattle.std.specs.Prelude.{unwrap_or, refl}
 use Rattle.std.proofs.Common.{arith, ap, ◌∙◌, sym, inl, inr}
 use Rattle.std.proofs.lemmas.Bool.Decides.{nat_tests}
 use Rattle.std.proofs.lemmas.Option.{none-some, same_Some}
-use Rattle.ipcz_world.proofs.Vocabulary.{Side, A, B, End, LinkId, Central, LinkEnd, Message, has, opposite, same_side, empty_word}
-use Rattle.ipcz_world.proofs.Vocabulary.{same_end, Terminals, is_terminal, Router, World, Key, same_key, word_at, router_at, Books}
-use Rattle.ipcz_world.proofs.Vocabulary.{Records, is_nowhere, Fresh, Spare, Opening, Linked, is_begun, is_linked, is_recorded, inner_link}
-use Rattle.ipcz_world.proofs.Vocabulary.{side_router, side_end, proxy_side, across_side, has_primary, has_decaying, has_inward_decaying}
-use Rattle.ipcz_world.proofs.Vocabulary.{passes, key_passes, Words, Spares, Stands, Stages, inner_of, bypass_peer}
 use Rattle.ipcz_base.specs.declared.message.Message.TheVariants as messages
 use Rattle.ipcz_world.proofs.frames.Frames.{same_key_tells}
-use Rattle.ipcz_world.specs.Standing.{spare_of, has_inward_primary}
 use Rattle.ipcz_world.proofs.frames.StandingRules.{key_passes-none, standing_rules}
-use Rattle.ipcz_world.specs.Bypasses.{fresh_of}
-use Rattle.ipcz_edge.specs.Edge.{no_edge}
-use Rattle.ipcz_world.specs.Remembering.{taken_records}
+use Rattle.ipcz_world.proofs.facts.RecordsAfter.{taken_records}
 use Rattle.ipcz_world.proofs.frames.Handing.{handed_on, word-handed_on}
 use Rattle.ipcz_world.proofs.facts.Lengths.{side_is, has_link-tells, has_link-none, HasEnd, passed}
 use Rattle.ipcz_world.proofs.frames.Sealing.{spares_of, Sealed, Closed, stands_of, words_of, shape_of, stages_of, bypasses_of}

@@ -4,26 +4,21 @@ use Rattle.std.specs.Prelude.{slice_get, refl}
 use Rattle.std.proofs.Common.{arith, ap, subst, ◌∙◌, sym, inl, inr}
 use Rattle.std.proofs.lemmas.Bool.Decides.{nat_tests}
 use Rattle.std.proofs.lemmas.Option.{same_Some}
-use Rattle.ipcz_world.proofs.Vocabulary.{A, B, End, Item, Refusal, opposite_end, has_end, current_item, is_terminal, Found, terminal_of}
-use Rattle.ipcz_world.proofs.Vocabulary.{Reply, World, Key, node_at, router_at, set_claimed, unless, Books, read, is_closed, Records}
-use Rattle.ipcz_world.proofs.Vocabulary.{is_linked, Inv}
+use Rattle.ipcz_world.proofs.Vocabulary.{A, B, End, Item, Refusal, opposite_end, has_end, current_item, is_terminal, Found, terminal_of, Reply, World}
+use Rattle.ipcz_world.proofs.Vocabulary.{Key, node_at, router_at, set_claimed, unless, Books, read, is_closed, Records, is_linked, Inv, Parcel, Mark}
+use Rattle.ipcz_world.proofs.Vocabulary.{Gone, Profile, Printed, Wide, end_at, next_number, holds_end, put_refusal, get_refusal, close_refusal}
+use Rattle.ipcz_world.proofs.Vocabulary.{serials_refusal, Step, Effect, refuse, open_with, open_on, open_step, close_step, has_mark, advance}
+use Rattle.ipcz_world.proofs.Vocabulary.{has_unclaimed_word}
 use Rattle.ipcz_base.specs.declared.parcel.Parcel as parcels
-use Rattle.ipcz_base.specs.declared.item.Item.TheVariants.{Parcel, Mark, Gone}
-use Rattle.ipcz_base.specs.declared.profile.Profile.{Profile}
-use Rattle.ipcz_base.specs.declared.profile.Profile.TheVariants.{Printed, Wide}
 use Rattle.ipcz_base.specs.declared.refusal.Refusal.TheVariants as refusals
-use Rattle.ipcz_base.specs.Ends.{end_at}
 use Rattle.ipcz_base.specs.Limits.{last_number, takes_bytes, has_serials}
-use Rattle.ipcz_router.specs.Calls.{next_number, item_refusal, router_get_refusal, router_put_refusal}
-use Rattle.ipcz_node.specs.Node.{holds_end}
-use Rattle.ipcz_node.specs.Calls.{are_held_once, are_too_many, refusal_at, number_at, put_refusal, put_number, get_refusal, close_refusal}
-use Rattle.ipcz_node.specs.Calls.{serials_refusal}
-use Rattle.ipcz_world.specs.declared.step.Step.{Step}
+use Rattle.ipcz_router.specs.Calls.{item_refusal, router_get_refusal, router_put_refusal}
+use Rattle.ipcz_node.specs.Calls.{are_held_once, are_too_many, refusal_at, number_at, put_number}
 use Rattle.ipcz_world.specs.declared.step.Step.TheVariants.{Open, Get, Close}
 use Rattle.ipcz_world.specs.declared.step.Reply.TheVariants as replies
-use Rattle.ipcz_world.specs.Steps.{Effect, refuse, open_with, open_on, open_step, put_of, put_step, PutGives, got_reply, get_reply, get_step}
-use Rattle.ipcz_world.specs.Steps.{close_step, Scheduler, StepBy, Gives}
-use Rattle.ipcz_world.specs.Books.{next_item, has_mark, advance}
+use Rattle.ipcz_world.specs.Steps.{put_of, put_step, PutGives, got_reply, get_reply, get_step}
+use Rattle.ipcz_world.specs.Steps.{Scheduler, StepBy, Gives}
+use Rattle.ipcz_world.specs.Books.{next_item}
 use Rattle.ipcz_world.specs.Plain.{IsUnwritten, MayRefuse, MayRefusePut, Plain}
 use Rattle.ipcz_world.proofs.facts.Finding.{IsTerminalOf, terminal_tells}
 use Rattle.ipcz_world.proofs.acts.Puts.{router_found, not_false}
@@ -36,7 +31,6 @@ use Rattle.ipcz_world.proofs.facts.Tests.{not_both}
 use Rattle.ipcz_world.proofs.acts.Gets.{get_tells}
 use Rattle.ipcz_world.proofs.acts.Reading.{in_numbers}
 use Rattle.ipcz_world.proofs.frames.RecordRules.{unclaimed-is}
-use Rattle.ipcz_world.specs.World.{has_unclaimed_word}
 use Rattle.ipcz_world.specs.Steps.{opened_reply}
 
 module _ (w : World) (b : Books) (g : Records) (law : Inv w b g) where

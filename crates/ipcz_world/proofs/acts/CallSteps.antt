@@ -1,32 +1,27 @@
 -- The steps of callers: each keeps the invariant, with the books, the records and the routes that the run writes.
-use Rattle.ipcz_word.specs.SideSets.{none}
+use Rattle.ipcz_world.proofs.Vocabulary.{B, End, Refusal, open_word, terminal_of, Reply, World, node_at, set_node, set_word, set_claimed, unless}
+use Rattle.ipcz_world.proofs.Vocabulary.{Books, Records, Opening, Linked, is_linked, Inv, none, is_lost_owner, Profile, Printed, Wide, put_refusal}
+use Rattle.ipcz_world.proofs.Vocabulary.{put_node, get_refusal, get_node, close_refusal, close_node, serials_refusal, open_node, Step, Effect, refuse}
+use Rattle.ipcz_world.proofs.Vocabulary.{open_with, open_on, open_step, close_step, advance, routes_after, CentralRecord, routes_of}
+use Rattle.ipcz_world.proofs.Vocabulary.{has_unclaimed_word}
 use Rattle.ipcz_world.proofs.facts.Lost.{not_lost}
-use Rattle.ipcz_world.specs.Records.{is_lost_owner}
 use Rattle.std.specs.Prelude.{◌≡◌, ◌<◌, ◌+◌, ℕ, Bool, true, false, cond, nat_eq, nat_lt, Option, Some, None, List, refl}
 use Rattle.std.proofs.Common.{arith, ap, subst, ◌∙◌, sym, inl, inr}
 use Rattle.std.proofs.lemmas.Bool.Decides.{nat_tests}
-use Rattle.ipcz_world.proofs.Vocabulary.{B, End, Refusal, open_word, terminal_of, Reply, World, node_at, set_node, set_word}
-use Rattle.ipcz_world.proofs.Vocabulary.{set_claimed, unless, Books, Records, Opening, Linked, is_linked, Inv}
 use Rattle.ipcz_base.specs.declared.parcel.Parcel as parcels
-use Rattle.ipcz_base.specs.declared.profile.Profile.{Profile}
-use Rattle.ipcz_base.specs.declared.profile.Profile.TheVariants.{Printed, Wide}
 use Rattle.ipcz_base.specs.declared.refusal.Refusal.TheVariants as refusals
-use Rattle.ipcz_node.specs.Calls.{put_refusal, put_node, put_number, get_refusal, get_node, close_refusal, close_node, serials_refusal}
-use Rattle.ipcz_node.specs.Calls.{open_node}
-use Rattle.ipcz_world.specs.declared.step.Step.{Step}
+use Rattle.ipcz_node.specs.Calls.{put_number}
 use Rattle.ipcz_world.specs.declared.step.Step.TheVariants.{Open, Get, Close}
 use Rattle.ipcz_world.specs.declared.step.Reply.TheVariants as replies
-use Rattle.ipcz_world.specs.Steps.{Effect, refuse, open_with, open_on, open_step, put_of, put_step, got_reply, get_reply, get_step}
-use Rattle.ipcz_world.specs.Steps.{close_step, Scheduler, StepBy, Gives}
-use Rattle.ipcz_world.specs.Books.{advance}
-use Rattle.ipcz_world.specs.Routes.{add_link, routes_after}
-use Rattle.ipcz_world.specs.Records.{CentralRecord, set_owner, set_central, at_side, routes_of}
-use Rattle.ipcz_world.specs.Remembering.{opening_records, open_records, records_after}
+use Rattle.ipcz_world.specs.Steps.{put_of, put_step, got_reply, get_reply, get_step}
+use Rattle.ipcz_world.specs.Steps.{Scheduler, StepBy, Gives}
+use Rattle.ipcz_world.specs.Routes.{add_link}
+use Rattle.ipcz_world.proofs.facts.RecordsAfter.{set_owner, set_central, at_side}
+use Rattle.ipcz_world.proofs.facts.RecordsAfter.{opening_records, open_records, records_after}
 use Rattle.ipcz_world.proofs.acts.Puts.{inv-put, inv-close}
 use Rattle.ipcz_world.proofs.acts.Gets.{get_tells, inv-get}
 use Rattle.ipcz_world.proofs.acts.OpeningPair.{inv-opened}
 use Rattle.ipcz_world.proofs.acts.Opening.{inv-open}
-use Rattle.ipcz_world.specs.World.{has_unclaimed_word}
 use Rattle.ipcz_world.specs.Steps.{opened_reply}
 
 -- what a step leads to: the invariant with the books and records after it, whose routes are those that the run writes

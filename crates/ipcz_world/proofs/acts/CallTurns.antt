@@ -1,27 +1,19 @@
 -- What callers leave to be done, a close that is pending and a sink's discard, and the first half of an open: each keeps the invariant,
 -- with the books, the records and the routes that the run writes.
-use Rattle.ipcz_router.specs.Acts.{has_gone_next}
+use Rattle.ipcz_world.proofs.Vocabulary.{End, Router, is_possible, Close, router_in, World, node_at, router_at, after_act, can_take, Books, Records}
+use Rattle.ipcz_world.proofs.Vocabulary.{Owner, Spare, Opening, Fresh, Linked, is_linked, is_unclaimed, Inv, has_gone_next, is_lost_owner, Lost}
+use Rattle.ipcz_world.proofs.Vocabulary.{Happened, event_of, Turn, router_of, router_seen, turn_event, claim_for_open, after_turn, advance}
+use Rattle.ipcz_world.proofs.Vocabulary.{routes_after_turn, routes_after, Unclaimed, routes_of}
 use Rattle.ipcz_world.proofs.facts.Lost.{not_lost}
-use Rattle.ipcz_world.specs.Records.{is_lost_owner}
-use Rattle.ipcz_world.specs.Records.{Lost}
 use Rattle.std.specs.Prelude.{◌≡◌, ◌<◌, ℕ, Bool, true, false, cond, nat_eq, Some, None, refl}
 use Rattle.std.proofs.Common.{arith, ap, subst, ◌∙◌, sym}
 use Rattle.std.proofs.lemmas.Bool.Decides.{nat_tests}
-use Rattle.ipcz_world.proofs.Vocabulary.{End, Router, is_possible, Close, router_in, World, node_at, router_at, after_act, can_take}
-use Rattle.ipcz_world.proofs.Vocabulary.{Books, Records, Owner, Spare, Opening, Fresh, Linked, is_linked, is_unclaimed, Inv}
 use Rattle.ipcz_router.specs.declared.act.RouterAct.TheVariants.{Discard}
 use Rattle.ipcz_node.specs.declared.act.Act.TheVariants.{Router as OfRouter}
-use Rattle.ipcz_node.specs.declared.happened.Happened.{Happened}
 use Rattle.ipcz_node.specs.declared.happened.Happened.TheVariants as events
-use Rattle.ipcz_node.specs.Events.{router_event, event_at, event_of}
-use Rattle.ipcz_world.specs.declared.step.Step.TheVariants.{Turn}
+use Rattle.ipcz_node.specs.Events.{router_event, event_at}
 use Rattle.ipcz_world.specs.declared.step.Reply.TheVariants.{Turned}
-use Rattle.ipcz_world.specs.Turns.{router_of, router_seen, turn_event}
-use Rattle.ipcz_world.specs.Steps.{claim_for_open}
-use Rattle.ipcz_world.specs.Books.{after_turn, advance}
-use Rattle.ipcz_world.specs.Routes.{routes_after_turn, routes_after}
-use Rattle.ipcz_world.specs.Records.{Unclaimed, routes_of}
-use Rattle.ipcz_world.specs.Remembering.{opening_records, records_after_turn, records_after}
+use Rattle.ipcz_world.proofs.facts.RecordsAfter.{opening_records, records_after_turn, records_after}
 use Rattle.ipcz_world.proofs.acts.Puts.{inv-pending}
 use Rattle.ipcz_world.proofs.acts.Gets.{inv-discard}
 use Rattle.ipcz_world.proofs.acts.OpenedNodes.{inv-claim_for_open}

@@ -1,8 +1,10 @@
 -- A proxy claims a word: the invariant is kept.
-use Rattle.ipcz_world.proofs.Vocabulary.{HasShape}
+use Rattle.ipcz_world.proofs.Vocabulary.{HasShape, A, B, Central, LinkId, has, Router, is_possible, word_of, World, Key, same_key, word_at, mail_at}
+use Rattle.ipcz_world.proofs.Vocabulary.{way, router_at, set_router, Books, Records, Owner, Spare, Fresh, Linked, is_linked, is_unclaimed}
+use Rattle.ipcz_world.proofs.Vocabulary.{is_recorded, side_router, side_node, Weight, names_end, key_passes, Inv, inner_link, Unclaimed, spare_of}
+use Rattle.ipcz_world.proofs.Vocabulary.{is_left, is_proxy, is_on_central, is_done}
 use Rattle.ipcz_world.proofs.frames.EachKept.{each-one}
 use Rattle.ipcz_world.proofs.frames.GivingUp.{stays_bare}
-use Rattle.ipcz_world.proofs.Vocabulary.{A, B}
 use Rattle.ipcz_world.proofs.frames.LiveLinks.{live-kept}
 use Rattle.ipcz_world.proofs.frames.Sourcing.{sourced-by, had-one}
 use Rattle.ipcz_word.specs.Word.{Word}
@@ -10,39 +12,31 @@ use Rattle.ipcz_world.specs.Routes.{source as source'}
 use Rattle.std.specs.Prelude.{◌≡◌, ◌≢◌, ◌⊎◌, ◌<◌, ◌+◌, ◌*◌, ℕ, Bool, true, false, cond, not, nat_eq, Option, Some, None, refl}
 use Rattle.std.proofs.Common.{arith, sym, ◌∙◌, ap, inl, inr}
 use Rattle.std.proofs.lemmas.Bool.Decides.{nat_tests}
-use Rattle.ipcz_world.proofs.Vocabulary.{Central, LinkId, has, Router, is_possible, word_of, World, Key, same_key, word_at}
-use Rattle.ipcz_world.proofs.Vocabulary.{mail_at, way, router_at, set_router, Books, Records, Owner, Spare, Fresh, Linked, is_linked}
-use Rattle.ipcz_world.proofs.Vocabulary.{is_unclaimed, is_recorded, side_router, side_node, Weight, names_end, key_passes, Inv}
 use Rattle.ipcz_router.specs.ActEffects.{claim_word}
 use Rattle.ipcz_router.specs.declared.act.RouterAct.TheVariants as acts
 use Rattle.ipcz_world.proofs.frames.Frames.{frames, same_key_tells, same_key-itself}
-use Rattle.ipcz_world.specs.Records.{Unclaimed}
-use Rattle.ipcz_world.specs.Remembering.{claim_records}
+use Rattle.ipcz_world.proofs.facts.RecordsAfter.{claim_records}
 use Rattle.ipcz_world.proofs.frames.OfRecords.{in_places}
-use Rattle.ipcz_world.specs.Standing.{spare_of}
 use Rattle.ipcz_world.proofs.frames.StandingRules.{standing_rules}
-use Rattle.ipcz_world.specs.Acts.{CanAct, claim_act}
+use Rattle.ipcz_world.proofs.facts.Updates.{CanAct, claim_act}
 use Rattle.ipcz_world.proofs.frames.OneRouter.{SameButRouter, set-router, set-claimed}
 use Rattle.ipcz_world.proofs.frames.SameMessages.{recorded-same, told-same, moves-same}
 use Rattle.ipcz_world.proofs.frames.GivingUp.{was, Gives, same-messages, ordered-gives, links-gives, positions-gives, stands-gives}
 use Rattle.ipcz_world.proofs.frames.GivenUp.{Settled, stays, stages-flags, terminals-gives, end_places-gives, books-gives, items-gives}
 use Rattle.ipcz_world.proofs.frames.GivenUp.{order-gives, proxy_numbers-gives, fresh_numbers-gives, conserved-gives, held_once-gives}
 use Rattle.ipcz_world.proofs.acts.Flags.{IsFlagged, flagged-part, flagged-settled}
-use Rattle.ipcz_world.proofs.frames.Owners.{linked-owned, recorded-owned, links-owned, positions-owned, stands-owned, stages-owned}
-use Rattle.ipcz_world.proofs.frames.Owners.{moves-owned, told-owned, terminals-owned, items-owned, order-owned, proxy_numbers-owned}
-use Rattle.ipcz_world.proofs.frames.Owners.{fresh_numbers-owned}
+use Rattle.ipcz_world.proofs.frames.Aside.{IsAside, central_left, peripheral_left, recorded-aside, links-aside, positions-aside, stands-aside}
+use Rattle.ipcz_world.proofs.frames.Aside.{stages-aside, moves-aside, told-aside, terminals-aside, items-aside, order-aside}
+use Rattle.ipcz_world.proofs.frames.Aside.{proxy_numbers-aside, fresh_numbers-aside}
+use Rattle.ipcz_world.proofs.frames.Owners.{is_owned}
 use Rattle.ipcz_world.proofs.frames.RecordRules.{unclaimed-is}
 use Rattle.ipcz_world.proofs.frames.Owners.{retired-owned}
 use Rattle.ipcz_world.proofs.frames.GonesKept.{gones-by}
 use Rattle.ipcz_world.proofs.frames.GivenUp.{part_gone}
-use Rattle.ipcz_world.specs.Records.{is_left}
-use Rattle.ipcz_router.specs.Router.{is_proxy, is_on_central}
-use Rattle.ipcz_router.specs.ActTable.{is_done}
 use Rattle.std.proofs.lemmas.Bool.{or_left}
 use Rattle.std.specs.Prelude.{◌||◌, ◌&&◌}
 use Rattle.ipcz_world.proofs.frames.SourceWeights.{places-sources}
 use Rattle.ipcz_world.proofs.frames.BypassesKept.{bypasses-alike, same_bypass}
-use Rattle.ipcz_world.proofs.Vocabulary.{inner_link}
 
 pub inv-claim : (w : World) (b : Books) (g : Records) (k : Key) (r : Router) → Inv w b g → CanAct w k r acts.Claim → w.claimed < w.size →
     Inv (claim_act w k r) b (claim_records g k w.claimed)
@@ -74,9 +68,9 @@ inv-claim w b g k r law can left = record {
     spare_proxy = λ j e. ready;
     spare_central = λ j e. central;
   });
-  links = links-owned v b g i (Spare k) unlinked refl (links-gives w v g k r (Some y) gives law.links);
-  positions = positions-owned v b g i (Spare k) unlinked refl (positions-gives w v g k r (Some y) gives law.positions);
-  stands = stands-owned v b g i (Spare k) unlinked refl (stands-gives w v g k r (Some y) gives (stays_bare r y) law.stands);
+  links = links-aside aside_here v (links-gives w v g k r (Some y) gives law.links);
+  positions = positions-aside aside_here v (positions-gives w v g k r (Some y) gives law.positions);
+  stands = stands-aside aside_here v (stands-gives w v g k r (Some y) gives (stays_bare r y) law.stands);
   words = record {
     each = λ j. record {
       unused = λ a. grind (arith, frames, (law.words.each j).unused, linked j, a);
@@ -117,12 +111,12 @@ inv-claim w b g k r law can left = record {
         recorded = λ p. recorded (inner_link p);
       })
       law.bypasses;
-  stages = stages-owned v b g i (Spare k) unlinked refl (stages-flags w v g k r (Some y) gives (stays_bare r y) settled law.stages
+  stages = stages-aside aside_here v (stages-flags w v g k r (Some y) gives (stays_bare r y) settled law.stages
       (λ o a d. flag (λ z. z.marked) refl _ ∙ (law.stages o).across_marked a d)
       (λ o a d. flag (λ z. not z.holds) refl _ ∙ (law.stages o).across_free a d));
-  told = told-owned v b g i (Spare k) unlinked refl (told-same w v g (same-messages one) law.told);
-  moves = moves-owned v b g i (Spare k) unlinked refl (moves-same w v g (same-messages one) law.moves);
-  terminals = terminals-owned v b g i (Spare k) unlinked refl (terminals-gives w v g k r (Some y) gives (stays_bare r y).no_terminal law.terminals);
+  told = told-aside aside_here v (told-same w v g (same-messages one) law.told);
+  moves = moves-aside aside_here v (moves-same w v g (same-messages one) law.moves);
+  terminals = terminals-aside aside_here v (terminals-gives w v g k r (Some y) gives (stays_bare r y).no_terminal law.terminals);
   end_places = let e = end_places-gives w v g k r (Some y) gives law.end_places in
       record {
         held = e.held;
@@ -131,22 +125,15 @@ inv-claim w b g k r law can left = record {
         within = e.within;
       };
   books_kept = let e = books-gives w v b g k r (Some y) gives law.books_kept in
-      record {
-        own_pair = e.own_pair;
-        mark_last = e.mark_last;
-        gone_last = e.gone_last;
-        retired_closed = e.retired_closed;
-        numbers = e.numbers;
-        mark_seen = e.mark_seen;
-      };
-  retired_ends = retired-owned v b g i (Spare k) unlinked refl law.retired_ends;
+      (assumption e);
+  retired_ends = retired-owned g i (Spare k) unlinked refl law.retired_ends;
   gones = gones-by w v b g (claim_records g k i) (λ q z at. let o = was gives q z at in
       record { router = o.router; at = o.at; alike = part_gone o.router z o.part }) (λ l s h. h) law.gones;
-  items = items-owned v b g i (Spare k) unlinked refl (items-gives w v g k r (Some y) gives settled law.items);
-  order = order-owned v b g i (Spare k) unlinked refl (order-gives w v g k r (Some y) gives law.order);
-  proxy_numbers = proxy_numbers-owned v b g i (Spare k) unlinked refl
+  items = items-aside aside_here v (items-gives w v g k r (Some y) gives settled law.items);
+  order = order-aside aside_here v (order-gives w v g k r (Some y) gives law.order);
+  proxy_numbers = proxy_numbers-aside aside_here v
       (proxy_numbers-gives w v g k r (Some y) gives settled law.proxy_numbers);
-  fresh_numbers = fresh_numbers-owned v b g i (Spare k) unlinked refl (fresh_numbers-gives w v g k r (Some y) gives law.fresh_numbers);
+  fresh_numbers = fresh_numbers-aside aside_here v (fresh_numbers-gives w v g k r (Some y) gives law.fresh_numbers);
   conserved = let e = conserved-gives w v b g k r (Some y) gives (law.counts.on_node k r gives.here) law.conserved in record {
     exact = λ d f. places _ ∙ e.exact d f;
     read_put = e.read_put;
@@ -184,8 +171,11 @@ inv-claim w b g k r law can left = record {
     unlinked : is_linked (g.owner i) ≡ false
     unlinked = ap is_linked mine
 
+    aside_here : IsAside g (claim_records g k i).owner (central_left g) (peripheral_left g) g.terminal
+    aside_here = is_owned g i (Spare k) unlinked refl
+
     linked : (j : ℕ) → is_linked ((claim_records g k i).owner j) ≡ is_linked (g.owner j)
-    linked j = linked-owned v b g i (Spare k) unlinked refl j
+    linked j = aside_here.linked j
 
     same : IsFlagged r y
     same = record { end = refl; outward = refl; inward = refl; out_queue = refl; in_queue = refl; closed = refl; mark_seen = refl; mark_dropped = refl; gone_sent = refl }
@@ -197,7 +187,7 @@ inv-claim w b g k r law can left = record {
     settled = flagged-settled w v b g k r y law can.here same
 
     recorded : (l : LinkId) → is_recorded v (claim_records g k i) l ≡ is_recorded w g l
-    recorded l = recorded-owned v b g i (Spare k) unlinked refl l ∙ recorded-same w v g l (same-messages one)
+    recorded l = recorded-aside aside_here v l ∙ recorded-same w v g l (same-messages one)
 
     word : (j : ℕ) → word_at v j ≡ word_at w j
     word j = grind (arith, frames)

@@ -4,22 +4,18 @@ use Rattle.std.specs.Prelude.{slice_get, refl}
 use Rattle.std.proofs.Common.{arith, ap, subst, ◌∙◌, sym, inl, inr}
 use Rattle.std.proofs.lemmas.Option.{none-some}
 use Rattle.std.proofs.lemmas.Bool.{and_parts}
-use Rattle.ipcz_base.specs.declared.item.Item.TheVariants.{Gone}
-use Rattle.ipcz_router.specs.Router.{is_sink}
-use Rattle.ipcz_router.specs.Acts.{drop_item, has_gone_next}
+use Rattle.ipcz_world.proofs.Vocabulary.{End, LinkId, Router, is_terminal, is_possible, opposite_end, same_end, World, Key, same_key, node_at}
+use Rattle.ipcz_world.proofs.Vocabulary.{router_at, set_node, Books, read, is_closed, Records, At, is_recorded, side_end, Terminals, Inv, key_passes}
+use Rattle.ipcz_world.proofs.Vocabulary.{current_item, Gone, is_sink, drop_item, has_gone_next, is_retired, Retired, is_left, RetiredEnds}
 use Rattle.ipcz_router.specs.declared.act.RouterAct.TheVariants as acts
 use Rattle.ipcz_node.specs.Node.{with_router}
-use Rattle.ipcz_world.proofs.Vocabulary.{End, LinkId, Router, is_terminal, is_possible, opposite_end, same_end, World, Key, same_key, node_at}
-use Rattle.ipcz_world.proofs.Vocabulary.{router_at, set_node, Books, read, is_closed, Records, At, is_recorded, side_end, Terminals, Inv}
 use Rattle.ipcz_world.specs.World.{set_router}
-use Rattle.ipcz_world.specs.Acts.{discard_leave_act}
-use Rattle.ipcz_world.specs.Books.{is_retired, add_gone, after_discard}
-use Rattle.ipcz_world.specs.Records.{Retired, set_terminal, is_left}
-use Rattle.ipcz_world.proofs.Vocabulary.{key_passes, current_item}
+use Rattle.ipcz_world.proofs.facts.Updates.{discard_leave_act}
+use Rattle.ipcz_world.specs.Books.{add_gone, after_discard}
+use Rattle.ipcz_world.proofs.facts.RecordsAfter.{set_terminal}
 use Rattle.std.specs.Prelude.{is_some}
 use Rattle.ipcz_world.proofs.facts.LinkTests.{same_end-tells}
-use Rattle.ipcz_world.specs.Remembering.{leave_records}
-use Rattle.ipcz_world.specs.Whereabouts.{RetiredEnds}
+use Rattle.ipcz_world.proofs.facts.RecordsAfter.{leave_records}
 use Rattle.ipcz_world.proofs.acts.Leaving.{gone_leaver}
 use Rattle.ipcz_world.proofs.acts.Gets.{inv-dropped_at}
 use Rattle.ipcz_world.proofs.acts.Reading.{in_numbers}
@@ -30,7 +26,7 @@ use Rattle.ipcz_world.proofs.frames.NearInv.{inv-near, near-inv}
 use Rattle.ipcz_world.proofs.frames.Ended as ends
 use Rattle.ipcz_world.proofs.frames.Frames.{same_key-itself, same_key_tells}
 use Rattle.ipcz_world.proofs.frames.GivingUp.{Gives, Keeps, passes-still, same-messages}
-use Rattle.ipcz_world.proofs.frames.LeftOff.{terminals-off}
+use Rattle.ipcz_world.proofs.frames.Aside.{recorded-aside, terminals-aside}
 use Rattle.ipcz_world.proofs.frames.LeftRecords.{off_of}
 use Rattle.ipcz_world.proofs.frames.OneRouter.{SameButRouter, replaced, set-router, remove-router, words-set_router, words-remove_router}
 use Rattle.ipcz_world.proofs.frames.Booking.{end_tells}
@@ -111,7 +107,7 @@ module _ (w : World) (b : Books) (g : Records) (k : Key) (r : Router) (law : Inv
       go (inr e) = (sym (one.routers q ∙ ap (λ b. cond b None (router_at u q)) e.0) ∙ a, e.1)
 
   off_terminals : Terminals u h'
-  off_terminals = terminals-off (is_off_here (near-inv dropped) leaver gives keeps) u dropped.terminals
+  off_terminals = terminals-aside (is_off_here (near-inv dropped) leaver gives keeps) u dropped.terminals
 
   terminals : Terminals v t
   unfolding side_end
@@ -119,21 +115,21 @@ module _ (w : World) (b : Books) (g : Records) (k : Key) (r : Router) (law : Inv
     each = λ q z a. let o = other q z a in let is = off_terminals.each q z o.0 in record {
       terminal = λ s. ends.other-ended v c h' r.end k at z.end
           (λ e. absurd (o.1 (same_at (sym (is.terminal s) ∙ ap h'.terminal e ∙ at)))) ∙ is.terminal s;
-      opened = ends.nowhere-ended v c h' r.end k at z.end ∙ is.opened;
+      opened = (ends.is_ended v c h' r.end k at).nowhere z.end ∙ is.opened;
     };
     stands = λ d q a. stood d q a (end_tells d r.end);
-    link_opened = λ l s a. ends.nowhere-ended v c h' r.end k at (side_end h' l s) ∙
+    link_opened = λ l s a. (ends.is_ended v c h' r.end k at).nowhere (side_end h' l s) ∙
         off_terminals.link_opened l s (sym (recorded-same u v h' l (same-messages one)) ∙ sym (recorded-t l) ∙ a);
-    both = λ d. ends.nowhere-ended v c h' r.end k at (opposite_end d) ∙ off_terminals.both d ∙ sym (ends.nowhere-ended v c h' r.end k at d);
-    unopened = λ d a. ends.nowhere-ended v c h' r.end k at d ∙ off_terminals.unopened d a;
-    other_pair = λ d a e. ends.nowhere-ended v c h' r.end k at d ∙ off_terminals.other_pair d a e;
+    both = λ d. (ends.is_ended v c h' r.end k at).nowhere (opposite_end d) ∙ off_terminals.both d ∙ sym ((ends.is_ended v c h' r.end k at).nowhere d);
+    unopened = λ d a. (ends.is_ended v c h' r.end k at).nowhere d ∙ off_terminals.unopened d a;
+    other_pair = λ d a e. (ends.is_ended v c h' r.end k at).nowhere d ∙ off_terminals.other_pair d a e;
   }
     where
       same_at : {q : Key} → At q ≡ At k → q ≡ k
       same_at e = cc
 
       recorded-t : (l : LinkId) → is_recorded v t l ≡ is_recorded v h' l
-      recorded-t l = ends.recorded-ended v c h' r.end k at l
+      recorded-t l = recorded-aside (ends.is_ended v c h' r.end k at) v l
 
       not_at : (q : Key) → Retired ≡ At q → ⊥
       not_at q e = cc

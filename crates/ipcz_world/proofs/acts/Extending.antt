@@ -1,23 +1,18 @@
 -- A terminal whose end moves becomes a proxy: the invariant is kept, with one more of the ends moved.
 use Rattle.std.specs.Prelude.{Bool, true, refl}
-use Rattle.ipcz_world.proofs.Vocabulary.{LinkEnd, opposite, opposite_end, same_end, End, Central}
+use Rattle.ipcz_world.proofs.Vocabulary.{LinkEnd, opposite, opposite_end, same_end, End, Central, Side, LinkId, Descriptor, Item, Message, has_end}
+use Rattle.ipcz_world.proofs.Vocabulary.{Router, ends_in, World, Key, node_at, Books, read, is_closed, Records, inner_link, IsUnderWay, under_way}
+use Rattle.ipcz_world.proofs.Vocabulary.{Weight, at_end, names_end, total_below, Conserved, HeldOnce, decays, is_left, Moving, Retired, is_retired}
+use Rattle.ipcz_world.proofs.Vocabulary.{RetiredEnds, Gones, descriptor_of}
 use Rattle.ipcz_world.proofs.facts.LinkTests.{same_end-itself, same_end-tells}
 use Rattle.std.proofs.lemmas.Option.{same_Some}
 use Rattle.std.specs.Prelude.{◌||◌}
 use Rattle.std.proofs.Common.{true≢false}
-use Rattle.ipcz_router.specs.Router.{decays}
 use Rattle.ipcz_world.proofs.frames.GonesKept.{IsGoneRight, right-of, right-left, gones-one, gones-all, open_unretired}
-use Rattle.ipcz_world.specs.Records.{is_left, Moving, Retired}
-use Rattle.ipcz_world.specs.Books.{is_retired}
-use Rattle.ipcz_world.specs.Whereabouts.{RetiredEnds, Gones}
 use Rattle.ipcz_world.proofs.acts.ExtendingAround.{left_same, new_left, end_same, side_same, stage_begun}
 use Rattle.std.specs.Prelude.{◌≡◌, ◌≢◌, ◌⊎◌, ℕ, true, false, cond, Some, List, [], ◌∷◌, ◌++◌, length, slice_get}
 use Rattle.std.proofs.Common.{arith, ap, subst, ◌∙◌, sym, inl, inr}
-use Rattle.ipcz_world.proofs.Vocabulary.{Side, LinkId, Descriptor, Item, Message, has_end, Router, ends_in, World, Key, node_at, Books}
-use Rattle.ipcz_world.proofs.Vocabulary.{read, is_closed, Records, inner_link, IsUnderWay, under_way, Weight, at_end, names_end}
-use Rattle.ipcz_world.proofs.Vocabulary.{total_below, Conserved, HeldOnce}
 use Rattle.ipcz_base.specs.declared.message.Message.TheVariants as messages
-use Rattle.ipcz_router.specs.Calls.{descriptor_of}
 use Rattle.ipcz_world.proofs.frames.OfRecords.{in_message, in_node, in_places}
 use Rattle.ipcz_world.proofs.frames.Touching.{HasSameEnds, Hands}
 use Rattle.ipcz_world.proofs.frames.Flowing.{IsRewritten, under_way-rewritten, under_way-congr}

@@ -1,20 +1,18 @@
 -- A terminal that moves becomes a proxy with a new peripheral link: what the records say of what was there, and of the new link.
 use Rattle.ipcz_world.specs.Standing.{passes}
 use Rattle.ipcz_word.specs.SideSets.{has, has-none}
-use Rattle.ipcz_world.specs.Records.{is_left}
-use Rattle.ipcz_word.specs.SideSets.{none}
+use Rattle.ipcz_world.proofs.Vocabulary.{Side, A, B, LinkId, Central, Peripheral, same_link, has_link, Edge, Router, is_terminal, World, Key}
+use Rattle.ipcz_world.proofs.Vocabulary.{same_key, node_at, word_at, router_at, Books, Records, is_recorded, is_begun, bypass_of, inner_link}
+use Rattle.ipcz_world.proofs.Vocabulary.{side_node, side_router, side_end, proxy_side, is_nowhere, key_passes, is_outward, Descriptor, is_left, none}
+use Rattle.ipcz_world.proofs.Vocabulary.{descriptor_of, Moving}
 use Rattle.ipcz_world.specs.Routes.{source as source'}
 use Rattle.std.specs.Prelude.{◌≡◌, ◌≢◌, ◌⊎◌, ◌≤◌, ◌<◌, ◌+◌, ℕ, Bool, true, false, cond, ◌&&◌, nat_eq, nat_le, nat_lt, Option, Some, None}
 use Rattle.std.specs.Prelude.{is_none, refl}
 use Rattle.std.proofs.Common.{arith, ap, ◌∙◌, sym, inl, inr}
 use Rattle.std.proofs.lemmas.Bool.Decides.{nat_tests}
-use Rattle.ipcz_world.proofs.Vocabulary.{Side, A, B, LinkId, Central, Peripheral, same_link, has_link, Edge, Router, is_terminal, World}
-use Rattle.ipcz_world.proofs.Vocabulary.{Key, same_key, node_at, word_at, router_at, Books, Records, is_recorded, is_begun, bypass_of}
-use Rattle.ipcz_world.proofs.Vocabulary.{inner_link, side_node, side_router, side_end, proxy_side, is_nowhere, key_passes, is_outward}
-use Rattle.ipcz_world.proofs.Vocabulary.{Descriptor}
-use Rattle.ipcz_router.specs.Calls.{extend, descriptor_of}
+use Rattle.ipcz_router.specs.Calls.{extend}
 use Rattle.ipcz_world.proofs.frames.Frames.{same_key_tells}
-use Rattle.ipcz_world.specs.Records.{Moving, set_terminal, set_peripheral}
+use Rattle.ipcz_world.proofs.facts.RecordsAfter.{set_terminal, set_peripheral}
 use Rattle.ipcz_world.proofs.frames.RecordRules.{is_recorded-inner}
 use Rattle.ipcz_world.proofs.frames.OfRecords.{source}
 use Rattle.ipcz_world.proofs.frames.StandingRules.{standing_rules}

@@ -1,7 +1,7 @@
 -- Small facts that moving an end rests on: of descriptors, of lists of ends, and of what messages weigh.
-use Rattle.ipcz_world.proofs.Vocabulary.{Weight, Side, A, B, End, Descriptor, Item, Message, same_side, is_central, same_end}
-use Rattle.ipcz_world.proofs.Vocabulary.{opposite_end, item_at, Router, World, Key, router_at, set_router, Node, Records, inner_link}
-use Rattle.ipcz_world.proofs.Vocabulary.{terminal_descriptor, IsUnderWay, total_list, moving_link}
+use Rattle.ipcz_world.proofs.Vocabulary.{Weight, Side, A, B, End, Descriptor, Item, Message, same_side, is_central, same_end, opposite_end, item_at}
+use Rattle.ipcz_world.proofs.Vocabulary.{Router, World, Key, router_at, set_router, Node, Records, inner_link, terminal_descriptor, IsUnderWay}
+use Rattle.ipcz_world.proofs.Vocabulary.{total_list, moving_link, Moving, key_at}
 use Rattle.ipcz_world.specs.Places.{in_node as in_node'}
 use Rattle.std.specs.Prelude.{◌≡◌, ◌≢◌, ◌⊎◌, ◌≤◌, ◌<◌, ◌+◌, ℕ, zero, suc, Bool, true, false, cond, nat_eq, Some, None, refl, List, [], ◌∷◌}
 use Rattle.std.specs.Prelude.{◌++◌, length, slice_get}
@@ -10,7 +10,6 @@ use Rattle.std.specs.Cmp.{nat_cmp_total}
 use Rattle.std.specs.FinMap.{remove, nat_cmp-IsAntisymmetric}
 use Rattle.std.proofs.Common.{arith, ap, inl, inr}
 use Rattle.std.proofs.lemmas.Bool.Decides.{nat_tests}
-use Rattle.ipcz_world.specs.Records.{Moving, key_at}
 use Rattle.ipcz_world.proofs.frames.OfRecords.{in_message, in_node, in_places}
 use Rattle.ipcz_world.proofs.frames.Flowing.{same_way}
 use Rattle.ipcz_world.proofs.frames.Weighing.{in_router-is, in_places-set_router, in_places-has, still_under_way}

@@ -7,24 +7,19 @@ use Rattle.std.specs.Cmp.{nat_cmp_total}
 use Rattle.std.specs.FinMap.{remove, nat_cmp-IsAntisymmetric, get-empty}
 use Rattle.std.proofs.Common.{arith, ap, subst, ◌∙◌, sym, inl, inr, length-drop}
 use Rattle.std.proofs.lemmas.Bool.Decides.{nat_tests}
-use Rattle.ipcz_world.proofs.Vocabulary.{Side, A, B, LinkId, Central, Peripheral, Descriptor, Item, Message, opposite, same_side}
-use Rattle.ipcz_world.proofs.Vocabulary.{same_link, has_link, same_end, opposite_end, Queue, item_at, Router, inward_edge, World, Key}
-use Rattle.ipcz_world.proofs.Vocabulary.{same_key, router_at, Books, read, Records, At, is_recorded, is_begun, bypass_of, known_from}
-use Rattle.ipcz_world.proofs.Vocabulary.{inner_link, side_router, side_end, side_length, across_side, terminal_descriptor, Standing, view}
-use Rattle.ipcz_world.proofs.Vocabulary.{view_by, router_view, next_sent, taking_queue, is_gone, is_awaited, is_attached, sending_queue}
-use Rattle.ipcz_world.proofs.Vocabulary.{fed_queue, makes, is_made_before, Weight, at_end, of_bypass, control_weight, inner_of}
-use Rattle.ipcz_world.proofs.Vocabulary.{moving_link, Conserved, Order, ProxyNumbers, has_passed}
+use Rattle.ipcz_world.proofs.Vocabulary.{Side, A, B, LinkId, Central, Peripheral, Descriptor, Item, Message, opposite, same_side, same_link, has_link}
+use Rattle.ipcz_world.proofs.Vocabulary.{same_end, opposite_end, Queue, item_at, Router, inward_edge, World, Key, same_key, router_at, Books, read}
+use Rattle.ipcz_world.proofs.Vocabulary.{Records, At, is_recorded, is_begun, bypass_of, known_from, inner_link, side_router, side_end, side_length}
+use Rattle.ipcz_world.proofs.Vocabulary.{across_side, terminal_descriptor, Standing, view, view_by, router_view, next_sent, taking_queue, is_gone}
+use Rattle.ipcz_world.proofs.Vocabulary.{is_awaited, is_attached, sending_queue, fed_queue, makes, is_made_before, Weight, at_end, of_bypass}
+use Rattle.ipcz_world.proofs.Vocabulary.{control_weight, inner_of, moving_link, Conserved, Order, ProxyNumbers, has_passed, descriptor_of, Moving}
+use Rattle.ipcz_world.proofs.Vocabulary.{length_by, bypass_length, awaited_view, may_have_sent, from_number}
 use Rattle.ipcz_base.specs.declared.message.Message.TheVariants as messages
 use Rattle.ipcz_seq.specs.Queue.{queue_from}
-use Rattle.ipcz_router.specs.Calls.{descriptor_of}
 use Rattle.ipcz_node.specs.Hands.{has_moved}
 use Rattle.ipcz_world.proofs.frames.Frames.{same_key_tells, same_key-itself}
-use Rattle.ipcz_world.specs.Records.{Moving}
-use Rattle.ipcz_world.specs.Records.{length_by, bypass_length}
 use Rattle.ipcz_world.proofs.frames.RecordRules.{is_recorded-central, record_rules, bypass_of-inner, side_router-proxy, side_router-inner}
-use Rattle.ipcz_world.specs.Standing.{View, Waiting, awaited_view}
-use Rattle.ipcz_world.specs.Standing.{may_have_sent}
-use Rattle.ipcz_world.specs.Places.{from_number}
+use Rattle.ipcz_world.specs.Standing.{View, Waiting}
 use Rattle.ipcz_world.proofs.frames.Seen.{view_by-known, view_by-unknown, view-apart}
 use Rattle.ipcz_world.proofs.frames.Draining.{next_sent-standing, taking_queue-standing, view_rules}
 use Rattle.ipcz_world.proofs.frames.Fitting.{ItemFits}

@@ -1,20 +1,16 @@
 -- A terminal that moves becomes a proxy: each link is as its record says, and primary or decaying as its bypass says.
-use Rattle.ipcz_world.proofs.Vocabulary.{HasLinks}
+use Rattle.ipcz_world.proofs.Vocabulary.{HasLinks, HasShape, is_terminal, Side, A, B, Central, LinkEnd, opposite, Router, inward_edge, World, Key}
+use Rattle.ipcz_world.proofs.Vocabulary.{node_at, router_at, Books, Records, is_begun, bypass_of, inner_link, side_node, side_router, side_end}
+use Rattle.ipcz_world.proofs.Vocabulary.{proxy_side, across_side, Counts, Shape, Links, IsRecorded, Positions, is_outward, link_in}
 use Rattle.ipcz_world.proofs.frames.EachKept.{each-by}
 use Rattle.ipcz_world.proofs.frames.LinksKept.{links-still}
-use Rattle.ipcz_world.proofs.Vocabulary.{HasShape}
 use Rattle.ipcz_world.proofs.frames.EachKept.{each-one}
 use Rattle.std.specs.Prelude.{◌≡◌, ◌<◌, ℕ, true, false, Option, Some, None, is_some, refl}
 use Rattle.ipcz_world.proofs.facts.Tests.{not_both, and_second}
-use Rattle.ipcz_world.proofs.Vocabulary.{is_terminal}
 use Rattle.std.proofs.Common.{arith, ap, subst, ◌∙◌, sym, inl, inr}
-use Rattle.ipcz_world.proofs.Vocabulary.{Side, A, B, Central, LinkEnd, opposite, Router, inward_edge, World, Key, node_at, router_at}
-use Rattle.ipcz_world.proofs.Vocabulary.{Books, Records, is_begun, bypass_of, inner_link, side_node, side_router, side_end, proxy_side}
-use Rattle.ipcz_world.proofs.Vocabulary.{across_side, Counts, Shape, Links, IsRecorded, Positions, is_outward}
 use Rattle.ipcz_world.proofs.frames.Frames.{same_key_tells, same_key-itself}
 use Rattle.ipcz_world.proofs.frames.RecordRules.{record_rules, bypass_of-inner, side_router-proxy, side_router-inner, side_node-proxy}
 use Rattle.ipcz_world.proofs.frames.RecordRules.{side_node-inner}
-use Rattle.ipcz_world.specs.Structure.{link_in}
 use Rattle.ipcz_world.proofs.frames.Touching.{Hands}
 use Rattle.ipcz_world.proofs.frames.Opened.{OpenInv}
 use Rattle.ipcz_world.proofs.acts.ExtendingAround.{next_key, extended, extended_records, IsGrown, IsExtend, is_outward-A, no_inward}

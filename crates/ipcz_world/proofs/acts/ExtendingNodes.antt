@@ -3,12 +3,11 @@
 use Rattle.std.specs.Prelude.{◌≡◌, ◌≢◌, ◌+◌, ℕ, Bool, true, false, cond, nat_eq, refl, List, [], ◌∷◌, ◌++◌}
 use Rattle.std.proofs.Common.{arith, ap, ◌∙◌, sym}
 use Rattle.std.proofs.lemmas.Bool.Decides.{nat_tests}
-use Rattle.ipcz_world.proofs.Vocabulary.{Side, LinkId, Descriptor, Item, Message, has_end, put_place, Router, Node, outbox, with_router}
-use Rattle.ipcz_world.proofs.Vocabulary.{ends_in, World, Key, node_at, mail_at, way, messages_in, set_node, set_router, Books, Records}
-use Rattle.ipcz_world.proofs.Vocabulary.{inner_link, Weight, total_below}
+use Rattle.ipcz_world.proofs.Vocabulary.{Side, LinkId, Descriptor, Item, Message, has_end, put_place, Router, Node, outbox, with_router, ends_in}
+use Rattle.ipcz_world.proofs.Vocabulary.{World, Key, node_at, mail_at, way, messages_in, set_node, set_router, Books, Records, inner_link, Weight}
+use Rattle.ipcz_world.proofs.Vocabulary.{total_below, descriptor_of}
 use Rattle.ipcz_base.specs.declared.message.Message.TheVariants as messages
 use Rattle.ipcz_base.proofs.Indexed.{place_at-put_place}
-use Rattle.ipcz_router.specs.Calls.{descriptor_of}
 use Rattle.ipcz_world.proofs.frames.Frames.{frames, router-set_router, node-set_node, word-set_node, mail-set_node, claimed-set_node}
 use Rattle.ipcz_world.proofs.frames.Frames.{size-set_node, count-set_node}
 use Rattle.ipcz_world.proofs.frames.OfRecords.{in_node}

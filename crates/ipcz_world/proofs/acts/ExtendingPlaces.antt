@@ -1,24 +1,19 @@
 -- A terminal becomes a proxy, and the message that takes its end along gets the descriptor: the messages, and the place of each end.
-use Rattle.ipcz_word.specs.SideSets.{none}
+use Rattle.ipcz_world.proofs.Vocabulary.{Side, A, B, End, LinkId, Central, Descriptor, Item, Message, opposite, same_link, is_central, same_end}
+use Rattle.ipcz_world.proofs.Vocabulary.{has_end, item_at, Router, ends_in, World, Key, node_at, router_at, Books, is_closed, Records, is_recorded}
+use Rattle.ipcz_world.proofs.Vocabulary.{is_begun, inner_link, side_node, side_router, side_end, is_nowhere, terminal_node, view, IsUnderWay, makes}
+use Rattle.ipcz_world.proofs.Vocabulary.{is_made_before, under_way, of_end, moves_of, names_end, times, total_list, Told, of_bypass, control_weight}
+use Rattle.ipcz_world.proofs.Vocabulary.{inner_of, moving_link, EndPlaces, BooksKept, times_held, Items, FreshNumbers, standing_router, none}
+use Rattle.ipcz_world.proofs.Vocabulary.{descriptor_of, Moving, key_at, move_weight, IsItemUnderWay}
 use Rattle.ipcz_world.proofs.frames.OfRecords.{holds, held_times, holds_times, in_message, in_places}
 use Rattle.std.specs.Prelude.{◌≡◌, ◌≢◌, ◌⊎◌, ◌≤◌, ◌<◌, ◌+◌, ℕ, Bool, true, false, cond, Some, None, is_some, refl, List, [], ◌∷◌}
 use Rattle.std.specs.Prelude.{◌++◌, length, slice_get}
 use Rattle.std.proofs.Common.{arith, ap, subst, ◌∙◌, sym, inl, inr}
-use Rattle.ipcz_world.proofs.Vocabulary.{Side, A, B, End, LinkId, Central, Descriptor, Item, Message, opposite, same_link, is_central}
-use Rattle.ipcz_world.proofs.Vocabulary.{same_end, has_end, item_at, Router, ends_in, World, Key, node_at, router_at, Books, is_closed}
-use Rattle.ipcz_world.proofs.Vocabulary.{Records, is_recorded, is_begun, inner_link, side_node, side_router, side_end, is_nowhere}
-use Rattle.ipcz_world.proofs.Vocabulary.{terminal_node, view, IsUnderWay, makes, is_made_before, under_way, of_end, moves_of, names_end}
-use Rattle.ipcz_world.proofs.Vocabulary.{times, total_list, Told, of_bypass, control_weight, inner_of, moving_link, EndPlaces, BooksKept}
-use Rattle.ipcz_world.proofs.Vocabulary.{times_held, Items, FreshNumbers, standing_router}
 use Rattle.ipcz_base.specs.declared.message.Message.TheVariants as messages
-use Rattle.ipcz_router.specs.Calls.{descriptor_of}
 use Rattle.ipcz_world.proofs.frames.Frames.{same_key_tells, same_key-itself}
-use Rattle.ipcz_world.specs.Records.{PeripheralRecord, Moving}
-use Rattle.ipcz_world.specs.Records.{key_at}
+use Rattle.ipcz_world.specs.Records.{PeripheralRecord}
 use Rattle.ipcz_world.proofs.frames.RecordRules.{side_router-inner, side_node-proxy, side_node-inner}
-use Rattle.ipcz_world.specs.Bypasses.{move_weight}
 use Rattle.ipcz_world.specs.Whereabouts.{times_closed}
-use Rattle.ipcz_world.specs.Numbers.{IsItemUnderWay}
 use Rattle.ipcz_world.proofs.frames.Touching.{HasSameEnds}
 use Rattle.ipcz_world.proofs.frames.Draining.{standing-standing}
 use Rattle.ipcz_world.proofs.frames.Fitting.{fits_of, items_by}

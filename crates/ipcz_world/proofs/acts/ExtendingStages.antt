@@ -1,26 +1,17 @@
 -- A terminal that moves becomes a proxy: who stands where, the words, the bypasses, and where the terminals are.
-use Rattle.ipcz_world.proofs.Vocabulary.{IsOrdered}
+use Rattle.ipcz_world.proofs.Vocabulary.{IsOrdered, LinkId, same_link, A, B, Word, Side, End, Central, opposite, same_end, opposite_end, Router}
+use Rattle.ipcz_world.proofs.Vocabulary.{is_terminal, inward_edge, World, Key, same_key, router_at, Books, Records, At, is_linked, is_begun}
+use Rattle.ipcz_world.proofs.Vocabulary.{inner_link, side_router, side_end, proxy_side, across_side, is_nowhere, key_passes, has_primary}
+use Rattle.ipcz_world.proofs.Vocabulary.{has_decaying, has_inward_decaying, Ordered, Stands, Words, Spares, BypassRecords, Stages, inner_of}
+use Rattle.ipcz_world.proofs.Vocabulary.{Terminals, is_left, descriptor_of, Moving, spare_of, has_inward_primary, is_begun_router, fresh_of}
 use Rattle.ipcz_world.proofs.frames.EachKept.{each-one}
-use Rattle.ipcz_world.proofs.Vocabulary.{LinkId, same_link, A, B}
-use Rattle.ipcz_world.specs.Records.{is_left}
 use Rattle.ipcz_world.proofs.acts.ExtendingAround.{left_same, bypass_same}
-use Rattle.ipcz_world.proofs.Vocabulary.{Word}
 use Rattle.ipcz_world.proofs.frames.Sourcing.{sourced-by, had-one}
 use Rattle.std.specs.Prelude.{◌≡◌, ◌≤◌, ℕ, Bool, true, false, not, cond, ◌&&◌, Some, None, is_some, refl}
 use Rattle.std.proofs.Common.{arith, ap, subst, ◌∙◌, sym, inl, inr}
-use Rattle.ipcz_world.proofs.Vocabulary.{Side, A, B, End, Central, opposite, same_link, same_end, opposite_end, Router}
-use Rattle.ipcz_world.proofs.Vocabulary.{is_terminal, inward_edge, World, Key, same_key, router_at, Books, Records, At, is_linked}
-use Rattle.ipcz_world.proofs.Vocabulary.{is_begun, inner_link, side_router, side_end, proxy_side, across_side, is_nowhere}
-use Rattle.ipcz_world.proofs.Vocabulary.{key_passes, has_primary, has_decaying, has_inward_decaying, Ordered, Stands, Words, Spares}
-use Rattle.ipcz_world.proofs.Vocabulary.{BypassRecords, Stages, inner_of, Terminals}
-use Rattle.ipcz_router.specs.Calls.{descriptor_of}
 use Rattle.ipcz_world.proofs.frames.Frames.{same_key_tells, same_key-itself}
-use Rattle.ipcz_world.specs.Records.{Moving}
 use Rattle.ipcz_world.proofs.frames.RecordRules.{side_router-proxy, side_router-inner}
-use Rattle.ipcz_world.specs.Standing.{spare_of, has_inward_primary}
 use Rattle.ipcz_world.proofs.frames.StandingRules.{standing_rules}
-use Rattle.ipcz_world.specs.Structure.{is_begun_router}
-use Rattle.ipcz_world.specs.Bypasses.{fresh_of}
 use Rattle.ipcz_world.proofs.frames.Opened.{OpenInv}
 use Rattle.ipcz_world.proofs.acts.SendingOut.{has_link-end}
 use Rattle.ipcz_world.proofs.acts.ExtendingAround.{next_key, extended, extended_records, IsGrown, IsExtend, inner_one, two_begun}

@@ -1,11 +1,11 @@
 -- A router gives a decaying link up: the invariant is kept, for all that was to come over the link has come.
 use Rattle.std.proofs.lemmas.Bool.{or_left}
 use Rattle.ipcz_world.proofs.frames.GivingUp.{stays_bare}
-use Rattle.ipcz_world.proofs.Vocabulary.{in_router, at_end, Side, A, B, End, LinkId, Central, Peripheral, LinkEnd, Descriptor, Item}
-use Rattle.ipcz_world.proofs.Vocabulary.{opposite, opposite_end, has_link, item_at, Edge, Router, is_terminal, inward_edge, is_possible}
-use Rattle.ipcz_world.proofs.Vocabulary.{World, Key, router_at, Books, read, Records, inner_link, is_begun, is_recorded, proxy_side}
-use Rattle.ipcz_world.proofs.Vocabulary.{across_side, side_end, side_length, Standing, view, is_attached, passes, has_decaying, fed_queue}
-use Rattle.ipcz_world.proofs.Vocabulary.{sending_queue, next_sent, taking_queue, is_outward, IsRecorded, inner_of, has_passed, Inv}
+use Rattle.ipcz_world.proofs.Vocabulary.{in_router, at_end, Side, A, B, End, LinkId, Central, Peripheral, LinkEnd, Descriptor, Item, opposite}
+use Rattle.ipcz_world.proofs.Vocabulary.{opposite_end, has_link, item_at, Edge, Router, is_terminal, inward_edge, is_possible, World, Key, router_at}
+use Rattle.ipcz_world.proofs.Vocabulary.{Books, read, Records, inner_link, is_begun, is_recorded, proxy_side, across_side, side_end, side_length}
+use Rattle.ipcz_world.proofs.Vocabulary.{Standing, view, is_attached, passes, has_decaying, fed_queue, sending_queue, next_sent, taking_queue}
+use Rattle.ipcz_world.proofs.Vocabulary.{is_outward, IsRecorded, inner_of, has_passed, Inv, reach, edge_has, is_proxy, IsItemUnderWay}
 use Rattle.ipcz_world.specs.Places.{in_message as in_message'}
 use Rattle.ipcz_world.specs.Routes.{source as source'}
 use Rattle.std.specs.Prelude.{◌≡◌, ◌⊎◌, ◌≤◌, ◌<◌, ℕ, Bool, true, false, nat_le, Option, Some, None, is_some, List, drop, refl}
@@ -13,16 +13,13 @@ use Rattle.std.proofs.Common.{arith, sym, ◌∙◌, ap, subst, inl, inr}
 use Rattle.std.proofs.lemmas.Bool.Decides.{nat_tests}
 use Rattle.std.proofs.lemmas.Option.{same_Some, none-some}
 use Rattle.ipcz_base.specs.declared.message.Message.TheVariants as messages
-use Rattle.ipcz_seq.specs.Queue.{reach}
-use Rattle.ipcz_edge.specs.Edge.{edge_has, can_finish, has_come_to, finish}
-use Rattle.ipcz_router.specs.Router.{is_proxy}
+use Rattle.ipcz_edge.specs.Edge.{can_finish, has_come_to, finish}
 use Rattle.ipcz_router.specs.ActEffects.{finish_out, finish_in}
 use Rattle.ipcz_router.specs.declared.act.RouterAct.TheVariants as acts
 use Rattle.ipcz_world.proofs.frames.RecordRules.{bypass_of-inner}
 use Rattle.ipcz_world.proofs.frames.OfRecords.{source, in_message}
 use Rattle.ipcz_world.proofs.frames.StandingRules.{standing_rules}
-use Rattle.ipcz_world.specs.Numbers.{IsItemUnderWay}
-use Rattle.ipcz_world.specs.Acts.{CanAct, finish_out_act, finish_in_act}
+use Rattle.ipcz_world.proofs.facts.Updates.{CanAct, finish_out_act, finish_in_act}
 use Rattle.ipcz_world.proofs.frames.Sums.{just, just_once}
 use Rattle.ipcz_world.proofs.facts.Queues.{reach_filled}
 use Rattle.ipcz_world.proofs.frames.Weights.{in_two_places, in_out_queue, in_in_queue}

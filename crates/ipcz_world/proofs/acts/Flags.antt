@@ -1,31 +1,26 @@
 -- A router changes in flags alone, and a word with it: the invariant is kept.
-use Rattle.ipcz_world.proofs.Vocabulary.{HasShape}
+use Rattle.ipcz_world.proofs.Vocabulary.{HasShape, End, Side, A, B, LinkId, Central, Peripheral, LinkEnd, opposite, has, word_of, Word, Router}
+use Rattle.ipcz_world.proofs.Vocabulary.{primary_word, World, Key, same_key, word_at, router_at, Books, Records, is_recorded, is_linked, is_begun}
+use Rattle.ipcz_world.proofs.Vocabulary.{side_router, side_end, across_side, is_attached, passes, key_passes, has_primary, Shape, Words, IsRecorded}
+use Rattle.ipcz_world.proofs.Vocabulary.{Inv, source_of, is_proxy, decays, is_on_central, is_done, is_left, rest}
 use Rattle.ipcz_world.proofs.frames.EachKept.{each-one}
 use Rattle.ipcz_world.proofs.frames.GivingUp.{stays_bare}
 use Rattle.ipcz_world.proofs.frames.Sourcing.{central_word}
 use Rattle.ipcz_world.proofs.facts.Tests.{nat_eq-itself}
 use Rattle.ipcz_edge.specs.Edge.{Edge}
-use Rattle.ipcz_router.specs.Router.{source_of}
 use Rattle.std.specs.Prelude.{◌≡◌, ◌≢◌, ◌⊎◌, ◌≤◌, ℕ, Bool, true, false, cond, nat_eq, Option, Some, None, is_some, is_none, refl}
 use Rattle.std.proofs.Common.{arith, sym, ◌∙◌, ap, inl, inr}
 use Rattle.std.proofs.lemmas.Bool.Decides.{nat_tests}
 use Rattle.std.proofs.lemmas.Option.{same_Some, none-some}
-use Rattle.ipcz_world.proofs.Vocabulary.{End, Side, A, B, LinkId, Central, Peripheral, LinkEnd, opposite, has, word_of, Word, Router}
-use Rattle.ipcz_world.proofs.Vocabulary.{primary_word, World, Key, same_key, word_at, router_at, Books, Records, is_recorded, is_linked}
-use Rattle.ipcz_world.proofs.Vocabulary.{is_begun, side_router, side_end, across_side, is_attached, passes, key_passes, has_primary}
-use Rattle.ipcz_world.proofs.Vocabulary.{Shape, Words, IsRecorded, Inv}
 use Rattle.ipcz_world.proofs.facts.Lengths.{HasEnd, has_link-tells}
-use Rattle.ipcz_router.specs.Router.{is_proxy, decays, is_on_central}
-use Rattle.ipcz_router.specs.ActTable.{is_done}
-use Rattle.ipcz_world.specs.Records.{is_left}
 use Rattle.ipcz_world.proofs.frames.LeftSides.{not_left}
 use Rattle.std.specs.Prelude.{◌||◌, ◌&&◌}
 use Rattle.ipcz_router.specs.ActEffects.{run_dry}
-use Rattle.ipcz_router.specs.Acts.{rest}
 use Rattle.ipcz_world.proofs.frames.Frames.{same_key_tells, same_key-itself}
 use Rattle.ipcz_world.proofs.frames.RecordRules.{is_recorded-central}
 use Rattle.ipcz_world.proofs.frames.StandingRules.{standing_rules}
-use Rattle.ipcz_world.specs.Acts.{dry_act, rest_act}
+use Rattle.ipcz_world.specs.HeldEnds.{dry_act}
+use Rattle.ipcz_world.proofs.facts.Updates.{rest_act}
 use Rattle.ipcz_world.proofs.frames.OneRouter.{SameWords, SameButRouter, set-router, words-set_router}
 use Rattle.ipcz_world.proofs.facts.LinkTests.{side_is}
 use Rattle.ipcz_world.proofs.frames.Views.{IsPart}

@@ -1,31 +1,22 @@
 -- A caller's get and a sink's discard keep the invariant with the books after them.
-use Rattle.ipcz_base.specs.declared.item.Item.TheVariants.{Gone}
-use Rattle.ipcz_router.specs.ActEffects.{leaves_by}
+use Rattle.ipcz_world.proofs.Vocabulary.{End, Item, opposite_end, same_end, has_end, current_item, Router, is_terminal, is_possible, output_of, Node}
+use Rattle.ipcz_world.proofs.Vocabulary.{Found, terminal_of, with_router, router_in, ends_in, commit, World, Key, node_at, router_at, set_node}
+use Rattle.ipcz_world.proofs.Vocabulary.{after_act, Books, read, is_closed, Records, Weight, in_router, names_end, times, Inv, Gone, leaves_by}
+use Rattle.ipcz_world.proofs.Vocabulary.{is_mark, is_gone_item, drop_item, item_passes, has_gone_next, Parcel, Mark, is_sink, apply, discard_output}
+use Rattle.ipcz_world.proofs.Vocabulary.{on_found, on_router, holds_end, get_refusal, get_at_router, get_node, commit_router, keep_or_drop, send}
+use Rattle.ipcz_world.proofs.Vocabulary.{after_router_act, touch}
 use Rattle.ipcz_world.proofs.frames.OfRecords.{holds, held_times, holds_times}
 use Rattle.std.specs.Prelude.{◌≡◌, ◌⊎◌, ◌≤◌, ◌<◌, ◌+◌, ℕ, zero, suc, true, false, cond, not, Option, Some, None, is_some, List, []}
 use Rattle.std.specs.Prelude.{◌∷◌, ◌++◌, length, take, map, slice_get, refl}
-use Rattle.ipcz_base.specs.Items.{is_mark, is_gone_item}
-use Rattle.ipcz_router.specs.Acts.{drop_item, item_passes, has_gone_next}
 use Rattle.std.specs.Prelude.{Bool, ◌||◌}
 use Rattle.ipcz_world.proofs.frames.Touching.{either}
 use Rattle.std.proofs.Common.{arith, ap, subst, ◌∙◌, sym, inl, inr}
-use Rattle.ipcz_world.proofs.Vocabulary.{End, Item, opposite_end, same_end, has_end, current_item, Router, is_terminal, is_possible}
-use Rattle.ipcz_world.proofs.Vocabulary.{output_of, Node, Found, terminal_of, with_router, router_in, ends_in, commit, World, Key}
-use Rattle.ipcz_world.proofs.Vocabulary.{node_at, router_at, set_node, after_act, Books, read, is_closed, Records, Weight, in_router}
-use Rattle.ipcz_world.proofs.Vocabulary.{names_end, times, Inv}
 use Rattle.ipcz_base.specs.declared.parcel.Parcel as parcels
-use Rattle.ipcz_base.specs.declared.item.Item.TheVariants.{Parcel, Mark}
-use Rattle.ipcz_router.specs.Router.{is_sink}
 use Rattle.ipcz_router.specs.Calls.{take_item, item_refusal, router_get_refusal}
-use Rattle.ipcz_router.specs.ActEffects.{apply, discard_output}
 use Rattle.ipcz_router.specs.declared.act.RouterAct.TheVariants.{Discard}
-use Rattle.ipcz_node.specs.Node.{on_found, on_router, holds_end, with_ends}
-use Rattle.ipcz_node.specs.Calls.{ends_found, get_refusal, get_at_router, get_node}
-use Rattle.ipcz_node.specs.Acts.{commit_router, keep_or_drop}
-use Rattle.ipcz_node.specs.Sends.{send}
+use Rattle.ipcz_node.specs.Node.{with_ends}
+use Rattle.ipcz_node.specs.Calls.{ends_found}
 use Rattle.ipcz_node.specs.declared.act.Act.TheVariants.{Router as OfRouter}
-use Rattle.ipcz_world.specs.Turns.{after_router_act}
-use Rattle.ipcz_world.specs.WordAnswers.{touch}
 use Rattle.ipcz_world.specs.Books.{add_got, add_gone, after_discard}
 use Rattle.ipcz_world.proofs.frames.Weighing.{in_router-is, in_popped}
 use Rattle.ipcz_world.proofs.frames.Booking.{in_router-within, length-more, more_same, more_here}

@@ -3,19 +3,16 @@ use Rattle.std.specs.Prelude.{◌≡◌, ◌≢◌, ◌⊎◌, ◌≤◌, ◌+�
 use Rattle.std.specs.Prelude.{take, drop, map, slice_get, refl}
 use Rattle.std.proofs.Common.{arith, ap, subst, ◌∙◌, sym, inl, inr}
 use Rattle.std.proofs.lemmas.Option.{none-some}
-use Rattle.ipcz_base.specs.declared.item.Item.TheVariants.{Parcel, Mark, Gone}
+use Rattle.ipcz_world.proofs.Vocabulary.{Side, End, LinkId, LinkEnd, Descriptor, Item, Message, opposite_end, same_end, has_end, Router, is_terminal}
+use Rattle.ipcz_world.proofs.Vocabulary.{World, Key, same_key, router_at, flow, Books, read, is_closed, Records, inner_link, is_nowhere, IsUnderWay}
+use Rattle.ipcz_world.proofs.Vocabulary.{of_end, moves_of, Weight, at_end, names_end, total_list, Told, of_bypass, EndPlaces, BooksKept, Conserved}
+use Rattle.ipcz_world.proofs.Vocabulary.{HeldOnce, Items, FreshNumbers, Parcel, Mark, Gone, has_mark, is_retired, add_put, Moves, move_weight}
+use Rattle.ipcz_world.proofs.Vocabulary.{from_number, Retired}
 use Rattle.ipcz_base.specs.declared.message.Message.TheVariants as messages
 use Rattle.ipcz_base.specs.Limits.{last_number}
 use Rattle.ipcz_world.proofs.frames.OfRecords.{holds, in_places}
-use Rattle.ipcz_world.proofs.Vocabulary.{Side, End, LinkId, LinkEnd, Descriptor, Item, Message, opposite_end, same_end, has_end}
-use Rattle.ipcz_world.proofs.Vocabulary.{Router, is_terminal, World, Key, same_key, router_at, flow, Books, read, is_closed, Records}
-use Rattle.ipcz_world.proofs.Vocabulary.{inner_link, is_nowhere, IsUnderWay, of_end, moves_of}
-use Rattle.ipcz_world.proofs.Vocabulary.{Weight, at_end, names_end, total_list, Told, of_bypass, EndPlaces, BooksKept}
-use Rattle.ipcz_world.proofs.Vocabulary.{Conserved, HeldOnce, Items, FreshNumbers}
-use Rattle.ipcz_world.specs.Books.{has_mark, has_gone, is_retired, add_put}
-use Rattle.ipcz_world.specs.Bypasses.{Moves, move_weight}
-use Rattle.ipcz_world.specs.Places.{from_number, unread_weight}
-use Rattle.ipcz_world.specs.Records.{Retired}
+use Rattle.ipcz_world.specs.Books.{has_gone}
+use Rattle.ipcz_world.specs.Places.{unread_weight}
 use Rattle.ipcz_world.proofs.facts.Drained.{has_gone-more, gone_found}
 use Rattle.ipcz_world.proofs.facts.LinkTests.{same_end-itself}
 use Rattle.ipcz_world.proofs.facts.Tests.{not_both}

@@ -1,24 +1,20 @@
 -- A node that handles an item makes the terminals of its descriptors and gives the item to the router that it is for: all that holds is
 -- kept.
-use Rattle.ipcz_world.specs.WordAnswers.{source_for}
+use Rattle.ipcz_world.proofs.Vocabulary.{Side, End, LinkId, Central, Peripheral, Descriptor, Item, Message, same_end, has_end, is_central, put_place}
+use Rattle.ipcz_world.proofs.Vocabulary.{Router, from_descriptor, Hand, Node, bare_node, with_router, World, Key, node_at, mail_at, way, router_at}
+use Rattle.ipcz_world.proofs.Vocabulary.{set_node, set_mail, after_act, hand_message, Books, Records, inner_link, terminal_node, IsUnderWay}
+use Rattle.ipcz_world.proofs.Vocabulary.{is_outward, Inv, source_for, accept, on_found, add_router, make_terminals, handle, deliver, is_hand_of, Mail}
+use Rattle.ipcz_world.proofs.Vocabulary.{after_hand}
 use Rattle.std.specs.Prelude.{◌≡◌, ◌≢◌, ◌<◌, ◌+◌, ◌*◌, ℕ, suc, Bool, true, false, cond, ◌||◌, nat_eq, if◌then◌else◌, Some, None, refl, List}
 use Rattle.std.specs.Prelude.{[], ◌∷◌, map, slice_get}
 use Rattle.std.specs.FinMap.{get}
 use Rattle.std.proofs.Common.{arith, ap, subst, ◌∙◌, sym, inl, inr}
-use Rattle.ipcz_world.proofs.Vocabulary.{Side, End, LinkId, Central, Peripheral, Descriptor, Item, Message, same_end, has_end, is_central}
-use Rattle.ipcz_world.proofs.Vocabulary.{put_place, Router, from_descriptor, Hand, Node, bare_node, with_router, World, Key, node_at}
-use Rattle.ipcz_world.proofs.Vocabulary.{mail_at, way, router_at, set_node, set_mail, after_act, hand_message, Books, Records, inner_link}
-use Rattle.ipcz_world.proofs.Vocabulary.{terminal_node, IsUnderWay, is_outward, Inv}
 use Rattle.ipcz_base.specs.declared.message.Message.TheVariants as messages
-use Rattle.ipcz_router.specs.Calls.{accept}
-use Rattle.ipcz_node.specs.Node.{on_found, add_router}
-use Rattle.ipcz_node.specs.Hands.{make_terminals, handle, deliver, free_hand, is_hand_of}
-use Rattle.ipcz_world.specs.declared.mail.Mail.{Mail}
+use Rattle.ipcz_node.specs.Hands.{free_hand}
 use Rattle.ipcz_world.specs.declared.mail.Mail.TheVariants as mails
 use Rattle.ipcz_world.proofs.frames.Frames.{node-set_node, word-set_node, mail-set_node, claimed-set_node, size-set_node, count-set_node}
 use Rattle.ipcz_world.proofs.frames.Frames.{node-set_mail, word-set_mail, mail-set_mail, claimed-set_mail, size-set_mail, count-set_mail}
-use Rattle.ipcz_world.specs.Turns.{after_hand}
-use Rattle.ipcz_world.specs.Remembering.{made_at, made_records}
+use Rattle.ipcz_world.proofs.facts.RecordsAfter.{made_at, made_records}
 use Rattle.ipcz_world.proofs.frames.Changing.{IsNodeChanged, taken_by}
 use Rattle.ipcz_world.proofs.frames.Flowing.{IsTaken, way_tells}
 use Rattle.ipcz_world.proofs.frames.Opened.{OpenInv, HasEnds, opened, closed}

@@ -1,35 +1,30 @@
 -- A message in hand finds its router and fits there: what a node does with it is the update that the bypass's stage expects.
 use Rattle.std.specs.Prelude.{nat_lt}
 use Rattle.ipcz_world.proofs.frames.Sources.{accept_source}
-use Rattle.ipcz_world.specs.WordAnswers.{source_for}
+use Rattle.ipcz_world.proofs.Vocabulary.{Side, A, B, LinkId, Central, LinkEnd, Message, opposite, has_link, is_central, Router, router_has}
+use Rattle.ipcz_world.proofs.Vocabulary.{inward_edge, bypass_peer, Found, with_router, World, Key, node_at, mail_at, way, router_at, flow}
+use Rattle.ipcz_world.proofs.Vocabulary.{messages_in, Books, Records, Fresh, is_linked, is_begun, is_recorded, side_router, proxy_side, across_side}
+use Rattle.ipcz_world.proofs.Vocabulary.{bypass_of, known_from, IsUnderWay, is_made_before, has_primary, has_decaying, has_inward_decaying, inner_of}
+use Rattle.ipcz_world.proofs.Vocabulary.{Inv, source_for, edge_decays, accept_message, accept_bypass, stop_message, stop_proxying, will_stop_message}
+use Rattle.ipcz_world.proofs.Vocabulary.{proxy_will_stop, link_router, is_named, on_found, push_out, fits, handle, tell, after_hand, flushed}
 use Rattle.std.specs.Prelude.{◌≡◌, ◌<◌, ◌≤◌, ℕ, Bool, true, false, nat_lt, nat_le, Option, Some, None, is_some, is_none, refl}
 use Rattle.std.proofs.Common.{arith, ap, subst, ◌∙◌, sym, inl, inr}
 use Rattle.std.proofs.lemmas.Bool.Decides.{nat_tests}
 use Rattle.std.proofs.lemmas.Option.{none-some, same_Some}
-use Rattle.ipcz_world.proofs.Vocabulary.{Side, A, B, LinkId, Central, LinkEnd, Message, opposite, has_link, is_central, Router}
-use Rattle.ipcz_world.proofs.Vocabulary.{router_has, inward_edge, bypass_peer, Found, with_router, World, Key, node_at, mail_at, way}
-use Rattle.ipcz_world.proofs.Vocabulary.{router_at, flow, messages_in, Books, Records, Fresh, is_linked, is_begun, is_recorded}
-use Rattle.ipcz_world.proofs.Vocabulary.{side_router, proxy_side, across_side, bypass_of, known_from, IsUnderWay, is_made_before}
-use Rattle.ipcz_world.proofs.Vocabulary.{has_primary, has_decaying, has_inward_decaying, inner_of, Inv}
 use Rattle.ipcz_world.proofs.facts.Lengths.{HasEnd, has_link-tells}
 use Rattle.ipcz_base.specs.declared.message.Message.TheVariants as messages
-use Rattle.ipcz_edge.specs.Edge.{edge_decays}
-use Rattle.ipcz_router.specs.Bypass.{accept_message, accept_bypass, stop_message, stop_proxying, will_stop_message}
-use Rattle.ipcz_router.specs.Bypass.{proxy_will_stop, decays_unknown}
-use Rattle.ipcz_node.specs.Node.{link_router, is_named, on_found, push_out}
-use Rattle.ipcz_node.specs.Hands.{fits, passes_at, handle, tell, link_asked, side_asked}
+use Rattle.ipcz_router.specs.Bypass.{decays_unknown}
+use Rattle.ipcz_node.specs.Hands.{passes_at, link_asked, side_asked}
 use Rattle.ipcz_world.specs.declared.mail.Mail.TheVariants as mails
-use Rattle.ipcz_world.specs.Turns.{after_hand}
 use Rattle.ipcz_world.proofs.frames.RecordRules.{record_rules}
-use Rattle.ipcz_world.specs.Acts.{CanHand, free, peer_act, accept_act, stop_act, will_stop_act, flush_act}
+use Rattle.ipcz_world.proofs.facts.Updates.{CanHand, free, peer_act, accept_act, stop_act, will_stop_act, flush_act}
 use Rattle.ipcz_world.specs.Laws.{is_flush}
 use Rattle.ipcz_world.proofs.facts.Finding.{found_tells}
 use Rattle.ipcz_world.proofs.frames.Known.{fresh_central}
 use Rattle.ipcz_world.proofs.frames.Telling.{IsPeer, peer_told, IsAccept, accept_told, IsStop, stop_told, IsWillStop, will_stop_told}
 use Rattle.ipcz_world.proofs.frames.StrayLaws.{stray_law}
 use Rattle.ipcz_world.proofs.acts.Updating.{push-set_node, freed, handed-is}
-use Rattle.ipcz_node.specs.Hands.{flushed}
-use Rattle.ipcz_world.specs.Acts.{tells_stop}
+use Rattle.ipcz_world.proofs.facts.Updates.{tells_stop}
 use Rattle.ipcz_world.proofs.frames.Passing.{Passes, passes-at}
 use Rattle.ipcz_world.proofs.frames.Having.{HasAt, has_at}
 

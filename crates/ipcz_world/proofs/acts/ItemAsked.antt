@@ -1,28 +1,23 @@
 -- An item in the hand of a node finds the router that it is for, and fits there, so it is never kept as a stray.
-use Rattle.ipcz_world.specs.Books.{is_retired}
+use Rattle.ipcz_world.proofs.Vocabulary.{Side, A, B, End, LinkId, Central, Peripheral, LinkEnd, Descriptor, Item, same_end, has_end, opposite_end}
+use Rattle.ipcz_world.proofs.Vocabulary.{same_link, Router, router_has, Node, Found, outbox, ends_in, World, Key, node_at, mail_at, way, router_at}
+use Rattle.ipcz_world.proofs.Vocabulary.{messages_in, Books, read, is_closed, Records, side_router, side_end, at_end, names_end, moves_of, Links}
+use Rattle.ipcz_world.proofs.Vocabulary.{is_outward, Standing, view, taking_queue, fed_queue, is_attached, is_awaited, is_gone, Inv, is_retired}
+use Rattle.ipcz_world.proofs.Vocabulary.{source_for, no_number, outward_has, link_router, is_named, fits, Awaited, IsItemUnderWay}
 use Rattle.ipcz_world.proofs.frames.GonesKept.{open_unretired}
-use Rattle.ipcz_world.specs.WordAnswers.{source_for}
 use Rattle.std.specs.Prelude.{◌≡◌, ◌≢◌, ◌≤◌, ◌<◌, ◌+◌, ℕ, suc, Bool, true, false, cond, not, ◌&&◌, ◌||◌, nat_eq, nat_le, nat_lt, is_some}
 use Rattle.std.specs.Prelude.{if◌then◌else◌, Option, Some, None, refl, List, [], ◌∷◌, ◌++◌, map, length, drop, slice_get}
 use Rattle.std.proofs.Common.{arith, ap, subst, ◌∙◌, sym, inl, inr}
 use Rattle.std.proofs.lemmas.Bool.Decides.{nat_tests}
 use Rattle.std.specs.FinMap.{get}
-use Rattle.ipcz_world.proofs.Vocabulary.{Side, A, B, End, LinkId, Central, Peripheral, LinkEnd, Descriptor, Item, same_end, has_end}
-use Rattle.ipcz_world.proofs.Vocabulary.{opposite_end, same_link, Router, router_has, Node, Found, outbox, ends_in, World, Key, node_at}
-use Rattle.ipcz_world.proofs.Vocabulary.{mail_at, way, router_at, messages_in, Books, read, is_closed, Records, side_router, side_end}
-use Rattle.ipcz_world.proofs.Vocabulary.{at_end, names_end, moves_of, Links, is_outward, Standing, view, taking_queue, fed_queue}
-use Rattle.ipcz_world.proofs.Vocabulary.{is_attached, is_awaited, is_gone, Inv}
 use Rattle.ipcz_base.specs.declared.message.Message.TheVariants as messages
-use Rattle.ipcz_base.specs.Limits.{last_number, no_number}
+use Rattle.ipcz_base.specs.Limits.{last_number}
 use Rattle.ipcz_seq.specs.Queue.{has_place}
-use Rattle.ipcz_router.specs.Router.{outward_has}
 use Rattle.ipcz_router.specs.Calls.{has_place_for}
-use Rattle.ipcz_node.specs.Node.{link_router, is_named}
-use Rattle.ipcz_node.specs.Hands.{fits, fits_item, fits_from, fit_moves, is_new_move, has_moved}
+use Rattle.ipcz_node.specs.Hands.{fits_item, fits_from, fit_moves, is_new_move, has_moved}
 use Rattle.ipcz_world.specs.declared.mail.Mail.TheVariants as mails
 use Rattle.ipcz_world.proofs.frames.OfRecords.{source}
-use Rattle.ipcz_world.specs.Standing.{View, Awaited, Waiting, Gone}
-use Rattle.ipcz_world.specs.Numbers.{IsItemUnderWay}
+use Rattle.ipcz_world.specs.Standing.{View, Waiting, Gone}
 use Rattle.ipcz_world.proofs.frames.Changing.{flow_is, in_mail-hand}
 use Rattle.ipcz_world.proofs.frames.Opened.{opened}
 use Rattle.ipcz_world.proofs.frames.Weighing.{in_places-has, in_message-item, of_number}

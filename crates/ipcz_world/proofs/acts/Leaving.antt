@@ -3,33 +3,28 @@ use Rattle.ipcz_world.proofs.frames.NearInv.{inv-near, near-inv}
 use Rattle.std.specs.Prelude.{◌≢◌, ◌⊎◌, ◌<◌, ◌||◌, length}
 use Rattle.std.proofs.Common.{ap, sym, subst, ◌∙◌, inl, inr}
 use Rattle.std.proofs.lemmas.Bool.{and_parts}
-use Rattle.ipcz_base.specs.Ends.{end_at}
-use Rattle.ipcz_router.specs.Router.{has_no_link}
 use Rattle.ipcz_world.proofs.Vocabulary.{LinkEnd, opposite, is_terminal, is_linked, is_begun, is_recorded, side_end, read, IsRecorded, Terminals}
-use Rattle.ipcz_world.specs.Books.{is_retired}
-use Rattle.ipcz_world.specs.Records.{is_left}
-use Rattle.ipcz_world.specs.Structure.{is_begun_router}
-use Rattle.ipcz_world.specs.Remembering.{left_end, lost_word, leave_records}
+use Rattle.ipcz_world.proofs.Vocabulary.{Side, A, B, LinkId, Central, Peripheral, Item, opposite_end, has_link, item_at, Router, inward_edge}
+use Rattle.ipcz_world.proofs.Vocabulary.{is_possible, World, Key, router_at, Books, Records, proxy_side, across_side, Weight, in_router, is_attached}
+use Rattle.ipcz_world.proofs.Vocabulary.{inner_of, Inv, end_at, is_retired, is_left, is_begun_router, is_proxy}
+use Rattle.ipcz_router.specs.Router.{has_no_link}
+use Rattle.ipcz_world.proofs.facts.RecordsAfter.{left_end, lost_word, leave_records}
 use Rattle.ipcz_world.proofs.acts.Reading.{in_numbers, slice_get-below}
 use Rattle.ipcz_world.proofs.facts.LinkTests.{opposite_end-twice, central_some}
 use Rattle.ipcz_world.proofs.facts.Tests.{not_both}
 use Rattle.ipcz_world.proofs.frames.Departing.{IsLeaver, h, h_is, is_off_here, near-departed, retired-departed, gones-departed}
 use Rattle.ipcz_world.proofs.frames.GivingUp.{IsBare}
 use Rattle.ipcz_world.proofs.frames.GivenUp.{terminals-gives}
-use Rattle.ipcz_world.proofs.frames.LeftOff.{terminals-off}
+use Rattle.ipcz_world.proofs.frames.Aside.{terminals-aside}
 use Rattle.ipcz_world.proofs.frames.LeftRecords.{off_of}
 use Rattle.ipcz_world.proofs.frames.Touching.{either}
 use Rattle.ipcz_world.proofs.frames.Booking.{out_numbers}
 use Rattle.std.specs.Prelude.{◌≡◌, ◌≤◌, ℕ, Bool, true, false, nat_le, Option, Some, None, refl}
 use Rattle.std.proofs.Common.{arith}
 use Rattle.std.proofs.lemmas.Bool.Decides.{nat_tests}
-use Rattle.ipcz_world.proofs.Vocabulary.{Side, A, B, LinkId, Central, Peripheral, Item, opposite_end, has_link, item_at, Router}
-use Rattle.ipcz_world.proofs.Vocabulary.{inward_edge, is_possible, World, Key, router_at, Books, Records, proxy_side, across_side, Weight}
-use Rattle.ipcz_world.proofs.Vocabulary.{in_router, is_attached, inner_of, Inv}
-use Rattle.ipcz_router.specs.Router.{is_proxy}
 use Rattle.ipcz_router.specs.declared.act.RouterAct.TheVariants as acts
 use Rattle.ipcz_world.proofs.frames.StandingRules.{standing_rules}
-use Rattle.ipcz_world.specs.Acts.{CanAct, leave_act}
+use Rattle.ipcz_world.proofs.facts.Updates.{CanAct, leave_act}
 use Rattle.ipcz_world.proofs.facts.Queues.{total-none}
 use Rattle.ipcz_world.proofs.frames.OneRouter.{remove-router, words-remove_router}
 use Rattle.ipcz_world.proofs.frames.GivingUp.{Keeps, Gives}
@@ -258,7 +253,7 @@ module _ (w : World) (b : Books) (g : Records) (k : Key) (r : Router) (law : Inv
   terminals : Terminals (leave_act w k) (off_of g r)
   terminals = subst (Terminals (leave_act w k)) (sym (h_is (near-inv law) leaver gives keeps))
       (terminals-gives w (leave_act w k) (h (near-inv law) leaver gives keeps) k r None gives (λ e. grind (arith, proxy))
-      (terminals-off (is_off_here (near-inv law) leaver gives keeps) w law.terminals))
+      (terminals-aside (is_off_here (near-inv law) leaver gives keeps) w law.terminals))
 
   inv-leave_gone : Inv (leave_act w k) b (off_of g r)
   inv-leave_gone = let s = law.gones.sent k r here sent in

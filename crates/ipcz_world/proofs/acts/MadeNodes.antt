@@ -5,9 +5,7 @@ use Rattle.std.specs.Cmp.{nat_cmp_total}
 use Rattle.std.specs.FinMap.{FinMap, get, insert, same_map, nat_cmp-IsAntisymmetric}
 use Rattle.std.proofs.Common.{arith, ap, ◌∙◌, sym}
 use Rattle.std.proofs.lemmas.Bool.Decides.{nat_tests}
-use Rattle.ipcz_world.proofs.Vocabulary.{Descriptor, Router, from_descriptor, Node, with_router}
-use Rattle.ipcz_node.specs.Node.{add_router}
-use Rattle.ipcz_node.specs.Hands.{make_terminals}
+use Rattle.ipcz_world.proofs.Vocabulary.{Descriptor, Router, from_descriptor, Node, with_router, add_router, make_terminals}
 use Rattle.ipcz_world.proofs.facts.Finding.{get_inserted}
 
 -- two inserts under different keys commute

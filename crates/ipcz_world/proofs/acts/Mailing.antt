@@ -4,17 +4,13 @@ use Rattle.std.specs.Prelude.{length, refl}
 use Rattle.std.proofs.Common.{arith, sym, ◌∙◌, ap, subst, inl, inr}
 use Rattle.std.proofs.lemmas.Bool.Decides.{nat_tests}
 use Rattle.std.proofs.lemmas.Option.{same_Some, none-some}
-use Rattle.ipcz_world.proofs.Vocabulary.{Message, Node, outbox, commit, World, node_at, mail_at, way, flow, messages_in, set_node}
-use Rattle.ipcz_world.proofs.Vocabulary.{set_mail, after_act, hand_message, can_take, Books, Records, Inv}
+use Rattle.ipcz_world.proofs.Vocabulary.{Message, Node, outbox, commit, World, node_at, mail_at, way, flow, messages_in, set_node, set_mail}
+use Rattle.ipcz_world.proofs.Vocabulary.{after_act, hand_message, can_take, Books, Records, Inv, Look, Post, with_outbox, post_of, rest_of, first_of}
+use Rattle.ipcz_world.proofs.Vocabulary.{Mail, after_look, after_post, full_message, is_full, is_clear}
 use Rattle.ipcz_base.proofs.Indexed.{place_at-put_place}
-use Rattle.ipcz_node.specs.declared.act.Act.TheVariants.{Look, Post}
-use Rattle.ipcz_node.specs.Node.{with_outbox}
-use Rattle.ipcz_node.specs.Acts.{post_of, rest_of, first_of}
-use Rattle.ipcz_world.specs.declared.mail.Mail.{Mail}
 use Rattle.ipcz_world.specs.declared.mail.Mail.TheVariants as mails
 use Rattle.ipcz_world.proofs.frames.Frames.{frames, node-set_mail, mail-set_mail, node-set_node, mail-set_node, count-set_node}
 use Rattle.ipcz_world.proofs.frames.Frames.{count-set_mail}
-use Rattle.ipcz_world.specs.Turns.{after_look, after_post, full_message, is_full, is_clear}
 use Rattle.ipcz_world.proofs.frames.Flowing.{way_tells, same_way}
 use Rattle.ipcz_world.proofs.frames.Changing.{flow_is, way_apart}
 use Rattle.ipcz_world.proofs.frames.MessagesPassing.{SameButPost, Passes, HasHands, post_is, hands-same, passes-flows}

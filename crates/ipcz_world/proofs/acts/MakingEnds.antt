@@ -3,15 +3,13 @@
 use Rattle.std.specs.Prelude.{◌≡◌, ◌≢◌, ◌<◌, ◌+◌, ◌*◌, ℕ, false, cond, nat_eq, refl, List, [], ◌∷◌, ◌++◌, slice_get}
 use Rattle.std.proofs.Common.{arith, ap, subst, ◌∙◌, sym}
 use Rattle.std.proofs.lemmas.Bool.Decides.{nat_tests}
-use Rattle.ipcz_world.proofs.Vocabulary.{Side, End, LinkId, Central, Peripheral, Descriptor, Item, is_central, put_place, from_descriptor}
-use Rattle.ipcz_world.proofs.Vocabulary.{Node, bare_node, outbox, World, Key, node_at, mail_at, way, messages_in, set_node, set_mail}
-use Rattle.ipcz_world.proofs.Vocabulary.{Books, Records, inner_link, IsUnderWay}
+use Rattle.ipcz_world.proofs.Vocabulary.{Side, End, LinkId, Central, Peripheral, Descriptor, Item, is_central, put_place, from_descriptor, Node}
+use Rattle.ipcz_world.proofs.Vocabulary.{bare_node, outbox, World, Key, node_at, mail_at, way, messages_in, set_node, set_mail, Books, Records}
+use Rattle.ipcz_world.proofs.Vocabulary.{inner_link, IsUnderWay, add_router, make_terminals}
 use Rattle.ipcz_base.specs.declared.message.Message.TheVariants as messages
-use Rattle.ipcz_node.specs.Node.{add_router}
-use Rattle.ipcz_node.specs.Hands.{make_terminals}
 use Rattle.ipcz_world.specs.declared.mail.Mail.TheVariants as mails
 use Rattle.ipcz_world.proofs.frames.Frames.{node-set_node, node-set_mail, mail-set_mail, count-set_node, count-set_mail}
-use Rattle.ipcz_world.specs.Remembering.{made_at, made_records}
+use Rattle.ipcz_world.proofs.facts.RecordsAfter.{made_at, made_records}
 use Rattle.ipcz_world.proofs.frames.Changing.{flow_is, in_mail-hand}
 use Rattle.ipcz_world.proofs.frames.Opened.{OpenInv}
 use Rattle.ipcz_world.proofs.acts.Sending.{moves-item}

@@ -1,23 +1,21 @@
 -- A descriptor of a message in hand becomes a terminal: the invariant is kept, with one end less under way.
 use Rattle.std.specs.Prelude.{Bool, true, false, refl}
-use Rattle.ipcz_world.proofs.Vocabulary.{LinkEnd, opposite, opposite_end, same_end, A, End, Central}
+use Rattle.ipcz_world.proofs.Vocabulary.{LinkEnd, opposite, opposite_end, same_end, A, End, Central, Side, LinkId, Descriptor, Item, Message, has_end}
+use Rattle.ipcz_world.proofs.Vocabulary.{from_descriptor, ends_in, World, Key, node_at, Books, read, is_closed, Records, IsUnderWay, under_way}
+use Rattle.ipcz_world.proofs.Vocabulary.{Weight, at_end, names_end, total_below, Conserved, HeldOnce, is_left, Retired, is_retired, RetiredEnds}
+use Rattle.ipcz_world.proofs.Vocabulary.{Gones, reach}
 use Rattle.ipcz_world.proofs.facts.LinkTests.{same_end-itself, same_end-tells, opposite_end-twice}
 use Rattle.std.proofs.lemmas.Option.{same_Some}
 use Rattle.std.specs.Prelude.{◌||◌}
 use Rattle.std.proofs.Common.{true≢false}
 use Rattle.ipcz_world.proofs.frames.GonesKept.{IsGoneRight, right-of, right-left, gones-one, gones-all, open_unretired}
 use Rattle.ipcz_world.proofs.acts.ExtendingAround.{inner_end_is}
-use Rattle.ipcz_world.specs.Records.{is_left, At, Retired, side_end}
-use Rattle.ipcz_world.specs.Books.{is_retired, read}
-use Rattle.ipcz_world.specs.Whereabouts.{RetiredEnds, Gones}
+use Rattle.ipcz_world.specs.Records.{At, side_end}
+use Rattle.ipcz_world.specs.Books.{read}
 use Rattle.ipcz_world.proofs.acts.MaterializingAround.{left_same, end_same, side_same, end_is}
 use Rattle.std.specs.Prelude.{◌≡◌, ◌≢◌, ◌⊎◌, ℕ, suc, true, cond, Some, List, ◌∷◌, length, slice_get}
 use Rattle.std.proofs.Common.{arith, ap, subst, ◌∙◌, sym, inl, inr}
-use Rattle.ipcz_world.proofs.Vocabulary.{Side, LinkId, Descriptor, Item, Message, has_end, from_descriptor, ends_in, World, Key, node_at}
-use Rattle.ipcz_world.proofs.Vocabulary.{Books, read, is_closed, Records, IsUnderWay, under_way, Weight, at_end, names_end, total_below}
-use Rattle.ipcz_world.proofs.Vocabulary.{Conserved, HeldOnce}
 use Rattle.ipcz_base.specs.declared.message.Message.TheVariants as messages
-use Rattle.ipcz_seq.specs.Queue.{reach}
 use Rattle.ipcz_world.proofs.frames.OfRecords.{in_message, in_node, in_places}
 use Rattle.ipcz_world.proofs.frames.Touching.{HasSameEnds, Hands}
 use Rattle.ipcz_world.proofs.frames.Flowing.{IsRewritten, under_way-rewritten, under_way-congr}

@@ -1,24 +1,21 @@
 -- A descriptor becomes a terminal: what the records say of what was there, and of the terminal.
 use Rattle.ipcz_word.specs.SideSets.{has}
-use Rattle.ipcz_world.specs.Records.{is_left}
+use Rattle.ipcz_world.proofs.Vocabulary.{Side, A, B, End, LinkId, Central, Peripheral, Descriptor, Item, Message, same_side, same_link, opposite_end}
+use Rattle.ipcz_world.proofs.Vocabulary.{item_at, Router, from_descriptor, World, Key, same_key, node_at, word_at, router_at, Books, Records, At}
+use Rattle.ipcz_world.proofs.Vocabulary.{is_recorded, bypass_of, inner_link, side_node, side_router, side_end, proxy_side, terminal_descriptor}
+use Rattle.ipcz_world.proofs.Vocabulary.{key_passes, IsUnderWay, moves_of, is_outward, moving_link, is_left, key_at, spare_of}
 use Rattle.ipcz_world.specs.Routes.{source as source'}
 use Rattle.std.specs.Prelude.{◌≡◌, ◌⊎◌, ◌<◌, ◌+◌, ℕ, Bool, true, false, cond, ◌&&◌, nat_eq, Option, Some, None, refl, slice_get}
 use Rattle.std.specs.Ordering.{nat_cmp}
 use Rattle.std.specs.FinMap.{get-empty}
 use Rattle.std.proofs.Common.{arith, ap, subst, ◌∙◌, sym, inl, inr}
 use Rattle.std.proofs.lemmas.Bool.Decides.{nat_tests}
-use Rattle.ipcz_world.proofs.Vocabulary.{Side, A, B, End, LinkId, Central, Peripheral, Descriptor, Item, Message, same_side, same_link}
-use Rattle.ipcz_world.proofs.Vocabulary.{opposite_end, item_at, Router, from_descriptor, World, Key, same_key, node_at, word_at}
-use Rattle.ipcz_world.proofs.Vocabulary.{router_at, Books, Records, At, is_recorded, bypass_of, inner_link, side_node, side_router}
-use Rattle.ipcz_world.proofs.Vocabulary.{side_end, proxy_side, terminal_descriptor, key_passes, IsUnderWay, moves_of, is_outward}
-use Rattle.ipcz_world.proofs.Vocabulary.{moving_link}
 use Rattle.ipcz_seq.specs.Queue.{queue_from}
 use Rattle.ipcz_world.proofs.frames.Frames.{same_key_tells, same_key-itself}
-use Rattle.ipcz_world.specs.Records.{PeripheralRecord, set_terminal, set_peripheral}
-use Rattle.ipcz_world.specs.Records.{key_at}
+use Rattle.ipcz_world.specs.Records.{PeripheralRecord}
+use Rattle.ipcz_world.proofs.facts.RecordsAfter.{set_terminal, set_peripheral}
 use Rattle.ipcz_world.proofs.frames.RecordRules.{side_router-inner, side_node-inner}
 use Rattle.ipcz_world.proofs.frames.OfRecords.{source}
-use Rattle.ipcz_world.specs.Standing.{spare_of}
 use Rattle.ipcz_world.proofs.frames.StandingRules.{standing_rules}
 use Rattle.ipcz_world.proofs.frames.Opened.{OpenInv}
 use Rattle.ipcz_world.proofs.frames.Awaited.{no_router}

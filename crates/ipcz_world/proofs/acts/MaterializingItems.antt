@@ -4,21 +4,18 @@ use Rattle.std.specs.Prelude.{◌≡◌, ◌⊎◌, ◌≤◌, ℕ, suc, Bool, t
 use Rattle.std.specs.Prelude.{◌∷◌, slice_get}
 use Rattle.std.proofs.Common.{arith, ap, ◌∙◌, sym, inl, inr}
 use Rattle.std.proofs.lemmas.Bool.Decides.{nat_tests}
-use Rattle.ipcz_world.proofs.Vocabulary.{Side, A, B, End, LinkId, Central, Peripheral, Descriptor, Item, Message, opposite, same_side}
-use Rattle.ipcz_world.proofs.Vocabulary.{same_link, has_link, same_end, Router, from_descriptor, World, Key, flow, Books, Records}
-use Rattle.ipcz_world.proofs.Vocabulary.{is_recorded, is_begun, bypass_of, known_from, inner_link, side_router, side_end, side_length}
-use Rattle.ipcz_world.proofs.Vocabulary.{across_side, terminal_descriptor, Standing, view, view_by, router_view, next_sent, taking_queue}
-use Rattle.ipcz_world.proofs.Vocabulary.{is_gone, is_awaited, is_attached, sending_queue, fed_queue, makes, is_made_before, under_way}
-use Rattle.ipcz_world.proofs.Vocabulary.{of_end, moves_of, total_list, total_below, inner_of, moving_link, Order, ProxyNumbers}
-use Rattle.ipcz_world.proofs.Vocabulary.{has_passed}
+use Rattle.ipcz_world.proofs.Vocabulary.{Side, A, B, End, LinkId, Central, Peripheral, Descriptor, Item, Message, opposite, same_side, same_link}
+use Rattle.ipcz_world.proofs.Vocabulary.{has_link, same_end, Router, from_descriptor, World, Key, flow, Books, Records, is_recorded, is_begun}
+use Rattle.ipcz_world.proofs.Vocabulary.{bypass_of, known_from, inner_link, side_router, side_end, side_length, across_side, terminal_descriptor}
+use Rattle.ipcz_world.proofs.Vocabulary.{Standing, view, view_by, router_view, next_sent, taking_queue, is_gone, is_awaited, is_attached}
+use Rattle.ipcz_world.proofs.Vocabulary.{sending_queue, fed_queue, makes, is_made_before, under_way, of_end, moves_of, total_list, total_below}
+use Rattle.ipcz_world.proofs.Vocabulary.{inner_of, moving_link, Order, ProxyNumbers, has_passed, reach, Moving, length_by, bypass_length}
+use Rattle.ipcz_world.proofs.Vocabulary.{awaited_view, may_have_sent, move_weight}
 use Rattle.ipcz_base.specs.declared.message.Message.TheVariants as messages
-use Rattle.ipcz_seq.specs.Queue.{queue_from, reach}
+use Rattle.ipcz_seq.specs.Queue.{queue_from}
 use Rattle.ipcz_world.proofs.frames.Frames.{same_key-itself}
-use Rattle.ipcz_world.specs.Records.{Moving}
-use Rattle.ipcz_world.specs.Records.{length_by, bypass_length}
 use Rattle.ipcz_world.proofs.frames.RecordRules.{is_recorded-central, side_router-proxy, side_router-inner}
-use Rattle.ipcz_world.specs.Standing.{Waiting, awaited_view, may_have_sent}
-use Rattle.ipcz_world.specs.Bypasses.{move_weight}
+use Rattle.ipcz_world.specs.Standing.{Waiting}
 use Rattle.ipcz_world.proofs.frames.Seen.{view_by-known, view_by-unknown}
 use Rattle.ipcz_world.proofs.frames.Draining.{next_sent-standing, taking_queue-standing, view_rules}
 use Rattle.ipcz_world.proofs.frames.Fitting.{ItemFits}

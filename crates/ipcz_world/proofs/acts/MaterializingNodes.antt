@@ -1,7 +1,7 @@
 -- The making of one terminal as an update of its node and of the mailbox in whose message its descriptor came.
-use Rattle.ipcz_world.proofs.Vocabulary.{Weight, in_router, Side, LinkId, Descriptor, Item, Message, opposite_end, total, total_below}
-use Rattle.ipcz_world.proofs.Vocabulary.{total_list, Router, from_descriptor, Node, outbox, World, Key, node_at, mail_at, way, router_at}
-use Rattle.ipcz_world.proofs.Vocabulary.{messages_in, set_node, set_mail, set_router, hand_message, Books, Records}
+use Rattle.ipcz_world.proofs.Vocabulary.{Weight, in_router, Side, LinkId, Descriptor, Item, Message, opposite_end, total, total_below, total_list}
+use Rattle.ipcz_world.proofs.Vocabulary.{Router, from_descriptor, Node, outbox, World, Key, node_at, mail_at, way, router_at, messages_in, set_node}
+use Rattle.ipcz_world.proofs.Vocabulary.{set_mail, set_router, hand_message, Books, Records, add_router}
 use Rattle.ipcz_world.specs.Places.{in_node as in_node'}
 use Rattle.std.specs.Prelude.{◌≡◌, ◌≢◌, ◌<◌, ◌+◌, ◌*◌, ℕ, Bool, true, false, cond, nat_eq, Option, Some, None, is_some, refl, List, [], ◌∷◌}
 use Rattle.std.specs.Prelude.{◌++◌}
@@ -12,7 +12,6 @@ use Rattle.std.proofs.Common.{arith, ap, subst, ◌∙◌, sym}
 use Rattle.std.proofs.lemmas.Bool.Decides.{nat_tests}
 use Rattle.ipcz_base.specs.declared.message.Message.TheVariants as messages
 use Rattle.ipcz_base.proofs.Totals.{total-insert_new, total-empty}
-use Rattle.ipcz_node.specs.Node.{add_router}
 use Rattle.ipcz_world.specs.declared.mail.Mail.TheVariants as mails
 use Rattle.ipcz_world.proofs.frames.Frames.{frames, router-set_router, node-set_node, word-set_node, mail-set_node, claimed-set_node}
 use Rattle.ipcz_world.proofs.frames.Frames.{size-set_node, count-set_node, node-set_mail, word-set_mail, mail-set_mail, claimed-set_mail}

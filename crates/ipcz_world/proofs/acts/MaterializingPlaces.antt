@@ -2,15 +2,12 @@
 use Rattle.ipcz_world.proofs.frames.OfRecords.{holds}
 use Rattle.std.specs.Prelude.{◌≡◌, ◌≢◌, ◌⊎◌, ◌+◌, ℕ, suc, Bool, true, false, ◌&&◌, Some, None, is_some, refl, List, ◌∷◌, slice_get}
 use Rattle.std.proofs.Common.{arith, ap, subst, ◌∙◌, sym, inl, inr}
-use Rattle.ipcz_world.proofs.Vocabulary.{Side, A, B, End, LinkId, Central, LinkEnd, Descriptor, Item, Message, opposite, same_side}
-use Rattle.ipcz_world.proofs.Vocabulary.{same_link, same_end, has_end, item_at, Router, from_descriptor, World, Key, same_key, router_at}
-use Rattle.ipcz_world.proofs.Vocabulary.{Books, Records, At, is_recorded, inner_link, side_router, side_end, terminal_node, view}
-use Rattle.ipcz_world.proofs.Vocabulary.{IsUnderWay, is_made_before, under_way, of_end, moves_of, total_list, Told, of_bypass, inner_of}
-use Rattle.ipcz_world.proofs.Vocabulary.{moving_link, EndPlaces, BooksKept, Items, FreshNumbers, standing_router}
+use Rattle.ipcz_world.proofs.Vocabulary.{Side, A, B, End, LinkId, Central, LinkEnd, Descriptor, Item, Message, opposite, same_side, same_link}
+use Rattle.ipcz_world.proofs.Vocabulary.{same_end, has_end, item_at, Router, from_descriptor, World, Key, same_key, router_at, Books, Records, At}
+use Rattle.ipcz_world.proofs.Vocabulary.{is_recorded, inner_link, side_router, side_end, terminal_node, view, IsUnderWay, is_made_before, under_way}
+use Rattle.ipcz_world.proofs.Vocabulary.{of_end, moves_of, total_list, Told, of_bypass, inner_of, moving_link, EndPlaces, BooksKept, Items}
+use Rattle.ipcz_world.proofs.Vocabulary.{FreshNumbers, standing_router, Moving, move_weight, IsItemUnderWay}
 use Rattle.ipcz_base.specs.declared.message.Message.TheVariants as messages
-use Rattle.ipcz_world.specs.Records.{Moving}
-use Rattle.ipcz_world.specs.Bypasses.{move_weight}
-use Rattle.ipcz_world.specs.Numbers.{IsItemUnderWay}
 use Rattle.ipcz_world.proofs.frames.Touching.{HasSameEnds}
 use Rattle.ipcz_world.proofs.frames.Fitting.{fits_of, items_by}
 use Rattle.ipcz_world.proofs.frames.Flowing.{IsRewritten, came_rewritten, made_still, under_way-rewritten, under_way-congr, weighed}

@@ -1,21 +1,17 @@
 -- A descriptor becomes a terminal: who stands where, the words, the bypasses, and where the terminals are.
-use Rattle.ipcz_world.proofs.Vocabulary.{LinkId, A, B}
-use Rattle.ipcz_world.specs.Records.{is_left}
+use Rattle.ipcz_world.proofs.Vocabulary.{LinkId, A, B, Side, End, Central, Descriptor, opposite, same_link, same_end, opposite_end, Router}
+use Rattle.ipcz_world.proofs.Vocabulary.{is_terminal, from_descriptor, World, Key, router_at, Books, Records, At, is_begun, inner_link, side_router}
+use Rattle.ipcz_world.proofs.Vocabulary.{side_end, proxy_side, across_side, is_nowhere, is_recorded, key_passes, has_primary, has_decaying}
+use Rattle.ipcz_world.proofs.Vocabulary.{has_inward_decaying, Stands, Words, Spares, BypassRecords, Stages, inner_of, moving_link, Terminals, is_left}
+use Rattle.ipcz_world.proofs.Vocabulary.{spare_of, has_inward_primary, fresh_of}
 use Rattle.ipcz_world.proofs.acts.MaterializingAround.{left_same, bypass_same, router_kept, recorded_same}
 use Rattle.ipcz_world.proofs.frames.Sourcing.{sourced-by, had-itself}
 use Rattle.ipcz_word.specs.Word.{Word}
 use Rattle.std.specs.Prelude.{◌≡◌, ◌⊎◌, ◌≤◌, ℕ, Bool, true, false, not, ◌&&◌, Option, Some, None, is_some, refl}
 use Rattle.std.proofs.Common.{arith, ap, subst, ◌∙◌, sym, inl, inr}
-use Rattle.ipcz_world.proofs.Vocabulary.{Side, A, B, End, Central, Descriptor, opposite, same_link, same_end}
-use Rattle.ipcz_world.proofs.Vocabulary.{opposite_end, Router, is_terminal, from_descriptor, World, Key, router_at, Books, Records, At}
-use Rattle.ipcz_world.proofs.Vocabulary.{is_begun, inner_link, side_router, side_end, proxy_side, across_side, is_nowhere, is_recorded}
-use Rattle.ipcz_world.proofs.Vocabulary.{key_passes, has_primary, has_decaying, has_inward_decaying, Stands, Words, Spares, BypassRecords}
-use Rattle.ipcz_world.proofs.Vocabulary.{Stages, inner_of, moving_link, Terminals}
 use Rattle.ipcz_world.proofs.frames.Frames.{same_key-itself}
 use Rattle.ipcz_world.proofs.frames.RecordRules.{is_recorded-central}
-use Rattle.ipcz_world.specs.Standing.{spare_of, has_inward_primary}
 use Rattle.ipcz_world.proofs.frames.StandingRules.{standing_rules}
-use Rattle.ipcz_world.specs.Bypasses.{fresh_of}
 use Rattle.ipcz_world.proofs.frames.Opened.{OpenInv}
 use Rattle.ipcz_world.proofs.frames.Awaited.{moving_known}
 use Rattle.ipcz_world.proofs.acts.SendingOut.{has_link-end}

@@ -1,19 +1,18 @@
 -- Each end of an item that is sent to another node has its terminal there, so a send that moves terminals keeps all that holds.
-use Rattle.ipcz_world.specs.Records.{Retired}
+use Rattle.ipcz_world.proofs.Vocabulary.{Side, End, LinkId, Descriptor, Item, same_end, has_end, Router, is_terminal, Node, Found, with_router}
+use Rattle.ipcz_world.proofs.Vocabulary.{terminal_of, ends_in, World, Key, node_at, router_at, Books, is_closed, Records, Terminal, At, terminal_node}
+use Rattle.ipcz_world.proofs.Vocabulary.{is_nowhere, times, names_end, key_passes, passes, Inv, Retired, is_terminal_of, Transfer, move_ends}
+use Rattle.ipcz_world.proofs.Vocabulary.{move_found, Nowhere}
 use Rattle.std.specs.Prelude.{◌+◌, not, ◌≡◌, ◌≢◌, ◌≤◌, ℕ, Bool, true, false, cond, ◌&&◌, nat_eq, Option, Some, None, refl, List, [], ◌∷◌}
 use Rattle.std.specs.Prelude.{◌++◌, map}
 use Rattle.std.specs.Cmp.{nat_cmp_total}
 use Rattle.std.specs.FinMap.{get, insert, get-insert}
 use Rattle.std.proofs.Common.{arith, ap, subst, ◌∙◌, sym}
 use Rattle.std.proofs.lemmas.Bool.Decides.{nat_tests}
-use Rattle.ipcz_world.proofs.Vocabulary.{Side, End, LinkId, Descriptor, Item, same_end, has_end, Router, is_terminal, Node, Found}
-use Rattle.ipcz_world.proofs.Vocabulary.{with_router, terminal_of, ends_in, World, Key, node_at, router_at, Books, is_closed, Records}
-use Rattle.ipcz_world.proofs.Vocabulary.{Terminal, At, terminal_node, is_nowhere, times, names_end, key_passes, passes, Inv}
 use Rattle.ipcz_router.specs.Router.{is_open_terminal}
-use Rattle.ipcz_node.specs.Node.{is_terminal_of}
-use Rattle.ipcz_node.specs.Sends.{Transfer, move_ends, move_found, move_router}
-use Rattle.ipcz_world.specs.Records.{Nowhere, Moving as IsMoving}
-use Rattle.ipcz_world.specs.Remembering.{moves_records}
+use Rattle.ipcz_node.specs.Sends.{move_router}
+use Rattle.ipcz_world.specs.Records.{Moving as IsMoving}
+use Rattle.ipcz_world.proofs.facts.RecordsAfter.{moves_records}
 use Rattle.ipcz_world.proofs.frames.OfRecords.{in_places}
 use Rattle.ipcz_world.proofs.frames.Opened.{OpenInv, opened}
 use Rattle.ipcz_world.proofs.facts.Finding.{IsTerminalOf, found_there, terminal_tells}

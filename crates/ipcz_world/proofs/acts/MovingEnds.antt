@@ -1,19 +1,18 @@
 -- A send moves the terminals of its item's ends, one after the other: each step keeps all but that the item has a descriptor for each end.
-use Rattle.ipcz_word.specs.SideSets.{none}
+use Rattle.ipcz_world.proofs.Vocabulary.{Side, End, LinkId, Item, Message, has_end, same_end, Node, Found, outbox, terminal_of, ends_in, World, Key}
+use Rattle.ipcz_world.proofs.Vocabulary.{node_at, router_at, set_node, Books, Records, inner_link, none, descriptor_of, push_out, Transfer, move_ends}
+use Rattle.ipcz_world.proofs.Vocabulary.{move_found}
 use Rattle.std.specs.Prelude.{◌≡◌, ◌≢◌, ◌<◌, ℕ, Bool, true, false, cond, nat_eq, Option, Some, None, refl, List, [], ◌∷◌, ◌++◌}
 use Rattle.std.specs.FinMap.{get}
 use Rattle.std.proofs.Common.{arith, ap, subst, ◌∙◌, sym}
 use Rattle.std.proofs.lemmas.Bool.Decides.{nat_tests}
-use Rattle.ipcz_world.proofs.Vocabulary.{Side, End, LinkId, Item, Message, has_end, same_end, Node, Found, outbox, terminal_of, ends_in}
-use Rattle.ipcz_world.proofs.Vocabulary.{World, Key, node_at, router_at, set_node, Books, Records, inner_link}
 use Rattle.ipcz_base.specs.declared.message.Message.TheVariants as messages
 use Rattle.ipcz_base.proofs.Indexed.{place_at-put_place}
-use Rattle.ipcz_router.specs.Calls.{descriptor_of}
-use Rattle.ipcz_node.specs.Node.{push_out}
-use Rattle.ipcz_node.specs.Sends.{Transfer, move_end, move_ends, move_found, move_router}
+use Rattle.ipcz_node.specs.Sends.{move_end, move_router}
 use Rattle.ipcz_world.proofs.frames.Frames.{count-set_node}
-use Rattle.ipcz_world.specs.Records.{Moving as IsMoving, set_terminal, set_peripheral}
-use Rattle.ipcz_world.specs.Remembering.{found_records, moves_records, move_records}
+use Rattle.ipcz_world.specs.Records.{Moving as IsMoving}
+use Rattle.ipcz_world.proofs.facts.RecordsAfter.{set_terminal, set_peripheral}
+use Rattle.ipcz_world.proofs.facts.RecordsAfter.{found_records, moves_records, move_records}
 use Rattle.ipcz_world.proofs.frames.Opened.{OpenInv}
 use Rattle.ipcz_world.proofs.facts.Finding.{terminal_tells}
 use Rattle.ipcz_world.proofs.acts.ExtendingAround.{next_key, extended_records, IsExtend}

@@ -1,9 +1,9 @@
 -- A node after an open: two terminals more, held by its callers.
 use Rattle.ipcz_world.proofs.frames.OfRecords.{holds, held_times, source, in_message, in_node, in_places}
-use Rattle.ipcz_world.proofs.Vocabulary.{Weight, in_router, times, Side, A, B, End, LinkId, Central, Peripheral, opposite, opposite_end}
-use Rattle.ipcz_world.proofs.Vocabulary.{total, total_below, total_list, Node, World, Key, node_at, word_at, router_at, flow, Books}
-use Rattle.ipcz_world.proofs.Vocabulary.{Records, Owner, Opening, Terminal, is_linked, is_unclaimed, is_recorded, is_nowhere, IsUnderWay}
-use Rattle.ipcz_world.proofs.Vocabulary.{times_held, Inv}
+use Rattle.ipcz_world.proofs.Vocabulary.{Weight, in_router, times, Side, A, B, End, LinkId, Central, Peripheral, opposite, opposite_end, total}
+use Rattle.ipcz_world.proofs.Vocabulary.{total_below, total_list, Node, World, Key, node_at, word_at, router_at, flow, Books, Records, Owner, Opening}
+use Rattle.ipcz_world.proofs.Vocabulary.{Terminal, is_linked, is_unclaimed, is_recorded, is_nowhere, IsUnderWay, times_held, Inv, new_end}
+use Rattle.ipcz_world.proofs.Vocabulary.{claim_for_open, Unclaimed, CentralRecord}
 use Rattle.ipcz_world.specs.Places.{in_node as in_node'}
 use Rattle.ipcz_world.specs.Routes.{source as source'}
 use Rattle.std.specs.Prelude.{◌≡◌, ◌≢◌, ◌⊎◌, ◌<◌, ◌+◌, ℕ, Bool, true, false, cond, nat_eq, Some, None, refl, []}
@@ -11,11 +11,8 @@ use Rattle.std.specs.Ordering.{nat_cmp}
 use Rattle.std.proofs.Common.{arith, ap, subst, ◌∙◌, sym, inl, inr}
 use Rattle.std.proofs.lemmas.Bool.Decides.{nat_tests}
 use Rattle.ipcz_base.proofs.Totals.{total-empty}
-use Rattle.ipcz_node.specs.Node.{new_end}
 use Rattle.ipcz_world.proofs.frames.Frames.{frames}
-use Rattle.ipcz_world.specs.Steps.{claim_for_open}
-use Rattle.ipcz_world.specs.Records.{Unclaimed, CentralRecord}
-use Rattle.ipcz_world.specs.Remembering.{opening_records}
+use Rattle.ipcz_world.proofs.facts.RecordsAfter.{opening_records}
 use Rattle.ipcz_world.proofs.frames.Changing.{flow_is, same_routers}
 use Rattle.ipcz_world.proofs.frames.Flowing.{under_way-congr}
 use Rattle.ipcz_world.proofs.frames.Weighing.{in_places-is, in_router-is, under_way-same, in_message-same}

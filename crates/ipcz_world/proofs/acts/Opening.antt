@@ -2,17 +2,14 @@
 use Rattle.std.specs.Prelude.{◌≡◌, ◌<◌, ◌+◌, ℕ, Bool, true, false, cond, Option, Some, None, refl}
 use Rattle.std.proofs.Common.{arith, ap, subst, sym}
 use Rattle.std.proofs.lemmas.Bool.Decides.{nat_tests}
-use Rattle.ipcz_world.proofs.Vocabulary.{put_place, empty_word, open_word, Node, bare_node, Refusal, World, node_at, set_node}
-use Rattle.ipcz_world.proofs.Vocabulary.{set_word, set_claimed, unless, Books, Records, Inv}
-use Rattle.ipcz_node.specs.Calls.{open_node, serials_refusal}
+use Rattle.ipcz_world.proofs.Vocabulary.{put_place, empty_word, open_word, Node, bare_node, Refusal, World, node_at, set_node, set_word, set_claimed}
+use Rattle.ipcz_world.proofs.Vocabulary.{unless, Books, Records, Inv, open_node, serials_refusal, claim_for_open, open_on, refuse, has_unclaimed_word}
 use Rattle.ipcz_base.specs.declared.refusal.Refusal.TheVariants as refusals
 use Rattle.ipcz_world.proofs.frames.Frames.{frames}
-use Rattle.ipcz_world.specs.Steps.{claim_for_open, open_on, refuse}
-use Rattle.ipcz_world.specs.Remembering.{opening_records, open_records}
+use Rattle.ipcz_world.proofs.facts.RecordsAfter.{opening_records, open_records}
 use Rattle.ipcz_world.proofs.acts.OpenedNodes.{inv-claim_for_open}
 use Rattle.ipcz_world.proofs.acts.OpeningPair.{inv-opened}
 use Rattle.ipcz_world.proofs.acts.Updating.{put-twice}
-use Rattle.ipcz_world.specs.World.{has_unclaimed_word}
 use Rattle.ipcz_world.specs.Steps.{opened_reply}
 
 claimed_node : (w : World) (n : ℕ) → node_at (claim_for_open w n) n ≡ record (node_at w n) { opening = Some w.claimed }

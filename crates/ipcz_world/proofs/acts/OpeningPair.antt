@@ -1,5 +1,8 @@
 -- An open makes a pair on the word that was claimed for it: its two terminals join, and the invariant is kept.
-use Rattle.ipcz_word.specs.SideSets.{none}
+use Rattle.ipcz_world.proofs.Vocabulary.{Side, A, B, End, same_side, opposite_end, same_end, has_end, total, open_word, Router, Node, outbox, World}
+use Rattle.ipcz_world.proofs.Vocabulary.{Key, messages_in, node_at, word_at, mail_at, way, router_at, flow, set_node, set_word, Books, Records, Owner}
+use Rattle.ipcz_world.proofs.Vocabulary.{Spare, Opening, Fresh, Linked, Terminal, At, is_linked, is_unclaimed, terminal_node, is_nowhere, Weight}
+use Rattle.ipcz_world.proofs.Vocabulary.{in_router, times, times_held, Inv, none, new_end, open_node, CentralRecord}
 use Rattle.ipcz_world.proofs.frames.OfRecords.{holds, held_times}
 use Rattle.std.specs.Prelude.{◌≡◌, ◌≢◌, ◌⊎◌, ◌≤◌, ◌<◌, ◌+◌, ◌*◌, ℕ, Bool, true, false, cond, ◌||◌, nat_eq, nat_le, Option, Some, None, refl}
 use Rattle.std.specs.Prelude.{[], ◌∷◌, ◌++◌}
@@ -8,17 +11,11 @@ use Rattle.std.specs.Cmp.{nat_cmp_total}
 use Rattle.std.specs.FinMap.{get, insert, nat_cmp-IsAntisymmetric}
 use Rattle.std.proofs.Common.{arith, ap, subst, ◌∙◌, sym, inl, inr}
 use Rattle.std.proofs.lemmas.Bool.Decides.{nat_tests}
-use Rattle.ipcz_world.proofs.Vocabulary.{Side, A, B, End, same_side, opposite_end, same_end, has_end, total, open_word, Router, Node}
-use Rattle.ipcz_world.proofs.Vocabulary.{outbox, World, Key, messages_in, node_at, word_at, mail_at, way, router_at, flow, set_node}
-use Rattle.ipcz_world.proofs.Vocabulary.{set_word, Books, Records, Owner, Spare, Opening, Fresh, Linked, Terminal, At, is_linked}
-use Rattle.ipcz_world.proofs.Vocabulary.{is_unclaimed, terminal_node, is_nowhere, Weight, in_router, times, times_held, Inv}
 use Rattle.ipcz_base.proofs.Totals.{total-insert_new}
-use Rattle.ipcz_node.specs.Node.{new_end}
-use Rattle.ipcz_node.specs.Calls.{open_node}
 use Rattle.ipcz_world.proofs.frames.Frames.{frames, word-set_node, claimed-set_node, size-set_node, count-set_node, node-set_node}
 use Rattle.ipcz_world.proofs.frames.Frames.{node-set_word}
-use Rattle.ipcz_world.specs.Records.{at_side, CentralRecord}
-use Rattle.ipcz_world.specs.Remembering.{open_records}
+use Rattle.ipcz_world.proofs.facts.RecordsAfter.{at_side}
+use Rattle.ipcz_world.proofs.facts.RecordsAfter.{open_records}
 use Rattle.ipcz_world.proofs.frames.Changing.{IsNodeChanged, flow_is, same_routers}
 use Rattle.ipcz_world.proofs.frames.Holding.{pair_ends, times_held-at, times_held-changed, times-with_ends, holds-with_ends}
 use Rattle.ipcz_world.proofs.frames.Holding.{held_times-most, same_end-turned}

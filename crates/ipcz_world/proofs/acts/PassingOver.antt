@@ -1,10 +1,11 @@
 -- A claim may pass over the next number, which is nobody's then, and there may be more numbers: the invariant is kept.
 use Rattle.ipcz_world.proofs.frames.OfRecords.{holds, held_times, source}
-use Rattle.ipcz_world.proofs.Vocabulary.{in_router, times, Side, A, B, End, LinkId, Central, Peripheral, place_at, mail_at, way}
-use Rattle.ipcz_world.proofs.Vocabulary.{total, World, Key, node_at, word_at, router_at, flow, set_claimed, Books, empty_word}
-use Rattle.ipcz_world.proofs.Vocabulary.{Records, Owner, Spare, Opening, Fresh, is_linked, is_unclaimed, is_nowhere, times_held, Inv}
+use Rattle.ipcz_world.proofs.Vocabulary.{in_router, times, Side, A, B, End, LinkId, Central, Peripheral, place_at, mail_at, way, total, World, Key}
+use Rattle.ipcz_world.proofs.Vocabulary.{node_at, word_at, router_at, flow, set_claimed, Books, empty_word, Records, Owner, Spare, Opening, Fresh}
+use Rattle.ipcz_world.proofs.Vocabulary.{is_linked, is_unclaimed, is_nowhere, times_held, Inv, Unclaimed, Lost, is_lost_owner, routes_of}
 use Rattle.ipcz_world.specs.Routes.{source as source', lose_word}
-use Rattle.ipcz_world.specs.Records.{Unclaimed, Linked, Lost, is_lost_owner, routes_of, set_owner}
+use Rattle.ipcz_world.specs.Records.{Linked}
+use Rattle.ipcz_world.proofs.facts.RecordsAfter.{set_owner}
 use Rattle.ipcz_world.specs.HeldEnds.{grown}
 use Rattle.std.specs.Prelude.{◌≡◌, ◌≢◌, ◌⊎◌, ◌≤◌, ◌<◌, ℕ, zero, suc, ◌+◌, Bool, true, false, cond, nat_eq, nat_le, Some, List, [], ◌∷◌, ◌++◌, replicate, refl}
 use Rattle.std.proofs.Common.{arith, ap, ◌∙◌, sym, inl, inr}

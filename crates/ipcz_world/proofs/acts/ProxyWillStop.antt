@@ -1,23 +1,22 @@
 -- The router inward learns its length: the last message of a bypass.
 use Rattle.ipcz_world.proofs.frames.LiveLinks.{live-kept}
 use Rattle.ipcz_world.proofs.frames.Sealing.{live_of}
-use Rattle.ipcz_world.proofs.Vocabulary.{Weight, in_router, Side, B, End, LinkId, Central, LinkEnd, Descriptor, Message, opposite}
-use Rattle.ipcz_world.proofs.Vocabulary.{has_link, Router, router_has, inward_edge, World, Key, same_key, mail_at, way, router_at, Books}
-use Rattle.ipcz_world.proofs.Vocabulary.{Records, is_begun, inner_link, side_router, bypass_of, proxy_side, across_side, known_from}
-use Rattle.ipcz_world.proofs.Vocabulary.{Standing, is_gone, view, has_decaying, IsUnderWay, makes, is_made_before, under_way, moves_of}
-use Rattle.ipcz_world.proofs.Vocabulary.{of_end, total_list, is_outward, Told, of_bypass, control_weight, inner_of, Inv}
+use Rattle.ipcz_world.proofs.Vocabulary.{Weight, in_router, Side, B, End, LinkId, Central, LinkEnd, Descriptor, Message, opposite, has_link, Router}
+use Rattle.ipcz_world.proofs.Vocabulary.{router_has, inward_edge, World, Key, same_key, mail_at, way, router_at, Books, Records, is_begun, inner_link}
+use Rattle.ipcz_world.proofs.Vocabulary.{side_router, bypass_of, proxy_side, across_side, known_from, Standing, is_gone, view, has_decaying}
+use Rattle.ipcz_world.proofs.Vocabulary.{IsUnderWay, makes, is_made_before, under_way, moves_of, of_end, total_list, is_outward, Told, of_bypass}
+use Rattle.ipcz_world.proofs.Vocabulary.{control_weight, inner_of, Inv, proxy_will_stop}
 use Rattle.ipcz_world.specs.Places.{in_message as in_message'}
 use Rattle.std.specs.Prelude.{◌≡◌, ◌≢◌, ◌⊎◌, ◌<◌, ◌≤◌, ℕ, ◌+◌, true, false, nat_eq, is_some, Some, refl}
 use Rattle.std.proofs.Common.{arith, ap, ◌∙◌, sym, inl, inr}
 use Rattle.std.proofs.lemmas.Bool.Decides.{nat_tests}
 use Rattle.std.proofs.lemmas.Option.{same_Some}
 use Rattle.ipcz_base.specs.declared.message.Message.TheVariants as messages
-use Rattle.ipcz_router.specs.Bypass.{proxy_will_stop}
 use Rattle.ipcz_world.specs.declared.mail.Mail.TheVariants as mails
 use Rattle.ipcz_world.proofs.frames.Frames.{same_key-itself}
-use Rattle.ipcz_world.specs.Remembering.{ended_records}
+use Rattle.ipcz_world.proofs.facts.RecordsAfter.{ended_records}
 use Rattle.ipcz_world.proofs.frames.OfRecords.{in_places}
-use Rattle.ipcz_world.specs.Acts.{CanHand, will_stop_act}
+use Rattle.ipcz_world.proofs.facts.Updates.{CanHand, will_stop_act}
 use Rattle.ipcz_world.proofs.frames.Handing.{handed, place_before, was_under_way-handed, was_made_before-handed, under_way-handed}
 use Rattle.ipcz_world.proofs.frames.Handing.{word-handed, hand-handed, mail-handed, changed-handed}
 use Rattle.ipcz_world.proofs.frames.Placing.{places-handed}

@@ -1,7 +1,10 @@
 -- A caller's put and close, and a close that is pending, keep the invariant with the books after them.
 use Rattle.std.specs.Prelude.{is_some, unwrap_or}
-use Rattle.ipcz_edge.specs.Edge.{no_edge}
-use Rattle.ipcz_router.specs.ActTable.{is_done}
+use Rattle.ipcz_world.proofs.Vocabulary.{End, Item, Refusal, opposite_end, same_end, has_end, Router, is_terminal, Node, Found, terminal_of, commit}
+use Rattle.ipcz_world.proofs.Vocabulary.{Close, World, Key, node_at, router_at, set_node, after_act, can_take, Books, is_closed, Records, At}
+use Rattle.ipcz_world.proofs.Vocabulary.{terminal_node, Weight, in_router, times, Inv, no_edge, is_done, Parcel, Mark, Profile, next_number}
+use Rattle.ipcz_world.proofs.Vocabulary.{is_terminal_of, on_found, holds_end, rest_of, put_refusal, put_at_router, put_node, close_refusal}
+use Rattle.ipcz_world.proofs.Vocabulary.{close_at_router, close_end, close_node, add_put}
 use Rattle.ipcz_world.proofs.frames.Touching.{IsAlike}
 use Rattle.ipcz_world.proofs.frames.GonesKept.{open_unretired}
 use Rattle.ipcz_world.proofs.frames.OfRecords.{holds, held_times, holds_times}
@@ -10,21 +13,13 @@ use Rattle.std.specs.Prelude.{List, [], ◌∷◌, length, refl}
 use Rattle.std.specs.FinMap.{get}
 use Rattle.std.proofs.Common.{arith, ap, subst, ◌∙◌, sym, inl, inr}
 use Rattle.std.proofs.lemmas.Bool.Decides.{nat_tests}
-use Rattle.ipcz_world.proofs.Vocabulary.{End, Item, Refusal, opposite_end, same_end, has_end, Router, is_terminal, Node, Found}
-use Rattle.ipcz_world.proofs.Vocabulary.{terminal_of, commit, Close, World, Key, node_at, router_at, set_node, after_act, can_take, Books}
-use Rattle.ipcz_world.proofs.Vocabulary.{is_closed, Records, At, terminal_node, Weight, in_router, times, Inv}
 use Rattle.ipcz_base.specs.declared.parcel.Parcel as parcels
-use Rattle.ipcz_base.specs.declared.item.Item.TheVariants.{Parcel, Mark}
-use Rattle.ipcz_base.specs.declared.profile.Profile.{Profile}
 use Rattle.ipcz_base.specs.Limits.{last_number, most_bytes, most_ends, takes_bytes}
-use Rattle.ipcz_router.specs.Calls.{next_number, put_item, router_put_refusal}
+use Rattle.ipcz_router.specs.Calls.{put_item, router_put_refusal}
 use Rattle.ipcz_router.specs.Closing.{close_router}
-use Rattle.ipcz_node.specs.Node.{is_terminal_of, on_found, holds_end, without_ends}
-use Rattle.ipcz_node.specs.Acts.{rest_of}
-use Rattle.ipcz_node.specs.Calls.{are_held_once, refusal_at, put_refusal, put_at_router, put_node, close_refusal, close_at_router}
-use Rattle.ipcz_node.specs.Calls.{close_end, close_node}
+use Rattle.ipcz_node.specs.Node.{without_ends}
+use Rattle.ipcz_node.specs.Calls.{are_held_once, refusal_at}
 use Rattle.ipcz_world.specs.Turns.{is_first_pending}
-use Rattle.ipcz_world.specs.Books.{add_put}
 use Rattle.ipcz_world.proofs.frames.Weighing.{in_router-is, in_pushed}
 use Rattle.ipcz_world.proofs.facts.Reaching.{is_reach}
 use Rattle.ipcz_world.proofs.frames.Booking.{flag, end_tells}

@@ -1,14 +1,14 @@
 -- A terminal puts an item, a parcel or its mark: all that holds is kept, with the books after it.
 use Rattle.std.specs.Prelude.{is_none, is_some, unwrap_or}
-use Rattle.ipcz_base.specs.declared.item.Item.TheVariants.{Gone}
-use Rattle.ipcz_base.specs.Items.{is_gone_item}
-use Rattle.ipcz_base.specs.Ends.{end_at}
-use Rattle.ipcz_router.specs.Router.{decays}
-use Rattle.ipcz_world.proofs.Vocabulary.{LinkEnd, inward_edge, side_end, across_side}
-use Rattle.ipcz_world.specs.Books.{has_gone, is_retired}
-use Rattle.ipcz_world.specs.Records.{is_left}
+use Rattle.ipcz_world.proofs.Vocabulary.{LinkEnd, inward_edge, side_end, across_side, Side, A, B, End, LinkId, Central, Peripheral, Item, opposite}
+use Rattle.ipcz_world.proofs.Vocabulary.{opposite_end, same_end, has_end, has_link, Edge, Queue, item_at, Router, is_terminal, ends_in, World, Key}
+use Rattle.ipcz_world.proofs.Vocabulary.{same_key, node_at, router_at, flow, Books, read, is_closed, Records, At, terminal_node, is_nowhere, view}
+use Rattle.ipcz_world.proofs.Vocabulary.{taking_queue, is_attached, Weight, at_end, names_end, times, Ordered, is_outward, EndPlaces, BooksKept}
+use Rattle.ipcz_world.proofs.Vocabulary.{Conserved, HeldOnce, times_held, Items, Order, ProxyNumbers, FreshNumbers, Inv, Gone, is_gone_item, end_at}
+use Rattle.ipcz_world.proofs.Vocabulary.{decays, is_retired, is_left, RetiredEnds, Parcel, Mark, edge_has, no_edge, reach, is_mark, next_number}
+use Rattle.ipcz_world.proofs.Vocabulary.{has_mark, add_put, from_number, is_begun_router}
+use Rattle.ipcz_world.specs.Books.{has_gone}
 use Rattle.ipcz_world.specs.Structure.{IsRecorded}
-use Rattle.ipcz_world.specs.Whereabouts.{RetiredEnds}
 use Rattle.ipcz_world.proofs.facts.Drained.{has_gone-more, gone_found, no_mark}
 use Rattle.ipcz_world.proofs.facts.LinkTests.{opposite_end-twice}
 use Rattle.ipcz_world.proofs.facts.Tests.{not_both}
@@ -21,22 +21,11 @@ use Rattle.std.specs.Cmp.{nat_cmp_total}
 use Rattle.std.specs.FinMap.{get-insert}
 use Rattle.std.proofs.Common.{arith, ap, subst, ◌∙◌, sym, inl, inr}
 use Rattle.std.proofs.lemmas.Bool.Decides.{nat_tests}
-use Rattle.ipcz_world.proofs.Vocabulary.{Side, A, B, End, LinkId, Central, Peripheral, Item, opposite, opposite_end, same_end, has_end}
-use Rattle.ipcz_world.proofs.Vocabulary.{has_link, Edge, Queue, item_at, Router, is_terminal, ends_in, World, Key, same_key, node_at}
-use Rattle.ipcz_world.proofs.Vocabulary.{router_at, flow, Books, read, is_closed, Records, At, terminal_node, is_nowhere, view}
-use Rattle.ipcz_world.proofs.Vocabulary.{taking_queue, is_attached, Weight, at_end, names_end, times, Ordered, is_outward, EndPlaces}
-use Rattle.ipcz_world.proofs.Vocabulary.{BooksKept, Conserved, HeldOnce, times_held, Items, Order, ProxyNumbers, FreshNumbers, Inv}
-use Rattle.ipcz_base.specs.declared.item.Item.TheVariants.{Parcel, Mark}
 use Rattle.ipcz_base.specs.declared.message.Message.TheVariants as messages
 use Rattle.ipcz_base.specs.Limits.{last_number}
-use Rattle.ipcz_edge.specs.Edge.{edge_has, no_edge}
-use Rattle.ipcz_seq.specs.Queue.{push_at, reach}
-use Rattle.ipcz_base.specs.Items.{is_mark}
-use Rattle.ipcz_router.specs.Calls.{next_number}
+use Rattle.ipcz_seq.specs.Queue.{push_at}
 use Rattle.ipcz_world.proofs.frames.Frames.{same_key_tells, same_key-itself}
-use Rattle.ipcz_world.specs.Books.{has_mark, add_put}
-use Rattle.ipcz_world.specs.Places.{from_number, unread_weight}
-use Rattle.ipcz_world.specs.Structure.{is_begun_router}
+use Rattle.ipcz_world.specs.Places.{unread_weight}
 use Rattle.ipcz_world.specs.Whereabouts.{times_closed}
 use Rattle.ipcz_world.proofs.frames.Touching.{IsTouched, IsAlike, HasSameHands, hands-same, recorded_same, counts-touched, shape-touched}
 use Rattle.ipcz_world.proofs.frames.Touching.{links-touched, positions-touched, stands-touched, words-touched, spares-touched}

@@ -1,10 +1,10 @@
 -- A terminal's in queue loses its current item, got by a caller or discarded by a sink: all that holds is kept, with the books after it.
 use Rattle.std.specs.Prelude.{Option, None, is_some, nat_lt}
 use Rattle.std.proofs.lemmas.Bool.Decides.{nat_tests}
-use Rattle.ipcz_base.specs.declared.item.Item.TheVariants.{Mark}
-use Rattle.ipcz_world.proofs.Vocabulary.{Edge, inward_edge}
-use Rattle.ipcz_world.specs.Records.{Retired}
-use Rattle.ipcz_world.specs.Whereabouts.{RetiredEnds, Gones}
+use Rattle.ipcz_world.proofs.Vocabulary.{Edge, inward_edge, End, Item, opposite_end, has_end, total, item_at, current_item, Router, is_terminal}
+use Rattle.ipcz_world.proofs.Vocabulary.{ends_in, World, Key, same_key, node_at, router_at, flow, Books, read, is_closed, Records, At, terminal_node}
+use Rattle.ipcz_world.proofs.Vocabulary.{Weight, in_router, at_end, names_end, times, EndPlaces, BooksKept, Conserved, HeldOnce, times_held, Items}
+use Rattle.ipcz_world.proofs.Vocabulary.{FreshNumbers, Inv, Mark, Retired, RetiredEnds, Gones, Parcel, next_number, from_number}
 use Rattle.ipcz_world.proofs.frames.Booking.{mark_found}
 use Rattle.ipcz_world.proofs.facts.Tests.{not_both}
 use Rattle.ipcz_world.proofs.frames.GonesKept.{IsGoneRight, right-of, right-books, gones-one, gones-all}
@@ -12,17 +12,12 @@ use Rattle.ipcz_world.proofs.frames.OfRecords.{holds, in_places}
 use Rattle.std.specs.Prelude.{◌≡◌, ◌≢◌, ◌⊎◌, ◌≤◌, ◌<◌, ◌+◌, ℕ, zero, suc, Bool, true, false, cond, ◌&&◌, nat_eq, Some, refl, List, [], ◌∷◌}
 use Rattle.std.specs.Prelude.{length, take, drop, map, slice_get}
 use Rattle.std.proofs.Common.{arith, ap, subst, ◌∙◌, sym, inl, inr}
-use Rattle.ipcz_world.proofs.Vocabulary.{End, Item, opposite_end, has_end, total, item_at, current_item, Router, is_terminal, ends_in}
-use Rattle.ipcz_world.proofs.Vocabulary.{World, Key, same_key, node_at, router_at, flow, Books, read, is_closed, Records, At}
-use Rattle.ipcz_world.proofs.Vocabulary.{terminal_node, Weight, in_router, at_end, names_end, times, EndPlaces, BooksKept, Conserved}
-use Rattle.ipcz_world.proofs.Vocabulary.{HeldOnce, times_held, Items, FreshNumbers, Inv}
 use Rattle.ipcz_base.specs.declared.parcel.Parcel as parcels
-use Rattle.ipcz_base.specs.declared.item.Item.TheVariants.{Parcel}
 use Rattle.ipcz_base.specs.declared.message.Message.TheVariants as messages
-use Rattle.ipcz_router.specs.Calls.{take_item, next_number}
+use Rattle.ipcz_router.specs.Calls.{take_item}
 use Rattle.ipcz_base.specs.Items.{same_item}
 use Rattle.ipcz_world.proofs.frames.Frames.{same_key-itself}
-use Rattle.ipcz_world.specs.Places.{from_number, unread_weight}
+use Rattle.ipcz_world.specs.Places.{unread_weight}
 use Rattle.ipcz_world.proofs.frames.Touching.{IsTouched, IsAlike, HasSameHands, hands-same, counts-touched, shape-touched, links-touched}
 use Rattle.ipcz_world.proofs.frames.Touching.{positions-touched, stands-touched, words-touched, spares-touched, bypasses-touched}
 use Rattle.ipcz_world.proofs.frames.Touching.{stages-touched, terminals-touched}

@@ -1,33 +1,28 @@
 -- A sink retires under its lock and sends Gone: the invariant is kept, with the books and the records after it.
 use Rattle.std.specs.Prelude.{◌≡◌, ◌≢◌, ◌⊎◌, ◌≤◌, ◌<◌, ◌+◌, ◌&&◌, ◌||◌, ◌++◌, ℕ, Bool, true, false, cond, Option, Some, None, [], ◌∷◌, length}
 use Rattle.std.specs.Prelude.{is_some, slice_get, refl}
-use Rattle.ipcz_world.proofs.Vocabulary.{Queue}
+use Rattle.ipcz_world.proofs.Vocabulary.{Queue, Side, A, B, End, LinkId, Central, Peripheral, LinkEnd, Item, Message, opposite, opposite_end}
+use Rattle.ipcz_world.proofs.Vocabulary.{same_end, Router, is_terminal, inward_edge, Edge, Node, World, Key, same_key, node_at, router_at, flow}
+use Rattle.ipcz_world.proofs.Vocabulary.{Books, read, is_closed, Records, At, is_recorded, side_router, side_node, side_end, side_length, bypass_of}
+use Rattle.ipcz_world.proofs.Vocabulary.{key_passes, has_primary, is_attached, is_outward, view, view_by, router_view, Standing, IsRecorded}
+use Rattle.ipcz_world.proofs.Vocabulary.{Terminals, Weight, Inv, across_side, taking_queue, Mark, Gone, end_at, push_out, is_retired, add_put}
+use Rattle.ipcz_world.proofs.Vocabulary.{next_number, Retired, is_left, length_by, key_at, RetiredEnds, Gones}
 use Rattle.ipcz_world.proofs.frames.RecordRules.{is_recorded-central}
 use Rattle.ipcz_world.proofs.frames.StandingRules.{standing_rules}
 use Rattle.std.proofs.Common.{arith, ap, subst, ◌∙◌, sym, inl, inr}
 use Rattle.std.proofs.lemmas.Bool.Decides.{nat_tests}
 use Rattle.std.proofs.lemmas.Bool.{and_parts, or_left}
 use Rattle.std.proofs.lemmas.Option.{none-some, same_Some}
-use Rattle.ipcz_base.specs.declared.item.Item.TheVariants.{Mark, Gone}
 use Rattle.ipcz_base.specs.declared.message.Message.TheVariants as messages
-use Rattle.ipcz_base.specs.Ends.{end_at}
-use Rattle.ipcz_node.specs.Node.{push_out}
 use Rattle.ipcz_router.specs.ActTable.{can_retire}
 use Rattle.ipcz_world.proofs.frames.OfRecords.{source, in_message, in_node, in_places}
-use Rattle.ipcz_world.proofs.Vocabulary.{Side, A, B, End, LinkId, Central, Peripheral, LinkEnd, Item, Message, opposite, opposite_end, same_end, Router}
-use Rattle.ipcz_world.proofs.Vocabulary.{is_terminal, inward_edge, Edge, Node, World, Key, same_key, node_at, router_at, flow, Books}
-use Rattle.ipcz_world.proofs.Vocabulary.{read, is_closed, Records, At, is_recorded, side_router, side_node, side_end, side_length}
-use Rattle.ipcz_world.proofs.Vocabulary.{bypass_of, key_passes, has_primary, is_attached, is_outward, view, view_by, router_view, Standing, IsRecorded}
-use Rattle.ipcz_world.proofs.Vocabulary.{Terminals, Weight, Inv, across_side, taking_queue}
-use Rattle.ipcz_world.specs.Acts.{retire_act}
-use Rattle.ipcz_world.specs.World.{remove_router, push_message}
-use Rattle.ipcz_world.specs.Books.{is_retired, add_put, after_retire}
-use Rattle.ipcz_router.specs.Calls.{next_number}
-use Rattle.ipcz_world.specs.Records.{Retired, is_left, set_terminal, length_by, key_at}
-use Rattle.ipcz_world.specs.Remembering.{leave_records}
+use Rattle.ipcz_world.proofs.facts.Updates.{retire_act}
+use Rattle.ipcz_world.proofs.facts.Updates.{remove_router, push_message}
+use Rattle.ipcz_world.specs.Books.{after_retire}
+use Rattle.ipcz_world.proofs.facts.RecordsAfter.{set_terminal}
+use Rattle.ipcz_world.proofs.facts.RecordsAfter.{leave_records}
 use Rattle.ipcz_world.specs.Standing.{fed_queue}
 use Rattle.ipcz_world.specs.Standing as views
-use Rattle.ipcz_world.specs.Whereabouts.{RetiredEnds, Gones}
 use Rattle.ipcz_world.specs.Places.{in_node as in_node'}
 use Rattle.ipcz_world.specs.Routes.{source as source'}
 use Rattle.ipcz_world.proofs.acts.Flags.{OnWord}
@@ -47,7 +42,7 @@ use Rattle.ipcz_world.proofs.frames.Frames.{same_key-itself, same_key_tells, nod
 use Rattle.ipcz_world.proofs.frames.Frames.{size-set_node, count-set_node}
 use Rattle.ipcz_world.proofs.frames.GivingUp.{Gives, Keeps, passes-still, same-messages}
 use Rattle.ipcz_world.proofs.frames.GonesKept.{IsGoneRight, right-of, gones-all}
-use Rattle.ipcz_world.proofs.frames.LeftOff.{terminals-off}
+use Rattle.ipcz_world.proofs.frames.Aside.{recorded-aside, terminals-aside}
 use Rattle.ipcz_world.proofs.frames.LeftRecords.{off_of}
 use Rattle.ipcz_world.proofs.frames.NearInv.{NearInv, inv-near, near-inv}
 use Rattle.ipcz_world.proofs.frames.OneRouter.{SameButRouter, remove-router, words-remove_router}
@@ -388,22 +383,22 @@ module _ (w : World) (b : Books) (g : Records) (k : Key) (r : Router) (i : ℕ) 
   other_peer d h f = other_pair d h (ap (λ x. x.pair) f)
 
   off_terminals : Terminals w h'
-  off_terminals = terminals-off (is_off_here (near-inv law) leaver gives keeps) w law.terminals
+  off_terminals = terminals-aside (is_off_here (near-inv law) leaver gives keeps) w law.terminals
 
   terminals : Terminals v t
   unfolding side_end
   terminals = record {
     each = λ q y a. let o = off_terminals.each q y (stood q y (sym (router_v q) ∙ a)).0 in record {
       terminal = λ l. ends.other-ended u b h' e k at y.end (lone q y (sym (router_v q) ∙ a) l) ∙ o.terminal l;
-      opened = ends.nowhere-ended u b h' e k at y.end ∙ o.opened;
+      opened = (ends.is_ended u b h' e k at).nowhere y.end ∙ o.opened;
     };
     stands = λ d q a. seen d q a (end_tells d e);
-    link_opened = λ l p a. ends.nowhere-ended u b h' e k at (side_end h' l p) ∙ off_terminals.link_opened l p
-        (sym (recorded-same w u h' l (same-messages one)) ∙ sym (ends.recorded-ended u b h' e k at l) ∙
+    link_opened = λ l p a. (ends.is_ended u b h' e k at).nowhere (side_end h' l p) ∙ off_terminals.link_opened l p
+        (sym (recorded-same w u h' l (same-messages one)) ∙ sym (recorded-aside (ends.is_ended u b h' e k at) u l) ∙
         sym (recorded_same u v z.key z.router z.router t touched l) ∙ a);
-    both = λ d. ends.nowhere-ended u b h' e k at (opposite_end d) ∙ off_terminals.both d ∙ sym (ends.nowhere-ended u b h' e k at d);
-    unopened = λ d a. ends.nowhere-ended u b h' e k at d ∙ off_terminals.unopened d a;
-    other_pair = λ d a f. ends.nowhere-ended u b h' e k at d ∙ off_terminals.other_pair d a f;
+    both = λ d. (ends.is_ended u b h' e k at).nowhere (opposite_end d) ∙ off_terminals.both d ∙ sym ((ends.is_ended u b h' e k at).nowhere d);
+    unopened = λ d a. (ends.is_ended u b h' e k at).nowhere d ∙ off_terminals.unopened d a;
+    other_pair = λ d a f. (ends.is_ended u b h' e k at).nowhere d ∙ off_terminals.other_pair d a f;
   }
     where
       not_at : (q : Key) → Retired ≡ At q → ⊥

@@ -5,18 +5,13 @@ use Rattle.std.proofs.Common.{arith, ap, ◌∙◌, sym, inl, inr}
 use Rattle.std.proofs.lemmas.Bool.Decides.{nat_tests}
 use Rattle.std.proofs.lemmas.Option.{none-some, same_Some}
 use Rattle.ipcz_base.specs.declared.item.Item.{Item}
-use Rattle.ipcz_base.specs.declared.item.Item.TheVariants.{Parcel, Mark, Gone}
-use Rattle.ipcz_base.specs.Ends.{end_at}
-use Rattle.ipcz_seq.specs.Queue.{is_drained}
-use Rattle.ipcz_router.specs.Router.{decays}
-use Rattle.ipcz_router.specs.ActTable.{can_retire}
-use Rattle.ipcz_world.proofs.Vocabulary.{Side, A, B, LinkId, Central, LinkEnd, opposite, opposite_end, has, Router, is_terminal, inward_edge, World, Key}
+use Rattle.ipcz_world.proofs.Vocabulary.{Side, B, LinkId, Central, LinkEnd, opposite, opposite_end, has, Router, is_terminal, inward_edge, World, Key}
 use Rattle.ipcz_world.proofs.Vocabulary.{router_at, word_at, item_at, Books, Records, is_linked, is_begun, side_router, side_end, proxy_side}
 use Rattle.ipcz_world.proofs.Vocabulary.{across_side, key_passes, has_decaying, has_primary, inner_of, IsRecorded, Inv, Edge, Peripheral, bypass_of}
-use Rattle.ipcz_world.specs.Books.{has_mark, is_retired}
-use Rattle.ipcz_world.specs.Bypasses.{fresh_of}
-use Rattle.ipcz_world.specs.Records.{is_left}
-use Rattle.ipcz_world.specs.Structure.{is_begun_router, link_in}
+use Rattle.ipcz_world.proofs.Vocabulary.{Parcel, Mark, Gone, end_at, decays, has_mark, is_retired, fresh_of, is_left, is_begun_router, link_in}
+use Rattle.ipcz_seq.specs.Queue.{is_drained}
+use Rattle.ipcz_router.specs.ActTable.{can_retire}
+use Rattle.ipcz_world.proofs.facts.LinkTests.{side_is}
 use Rattle.ipcz_world.proofs.acts.Flags.{OnWord}
 use Rattle.ipcz_world.proofs.acts.Leaving.{leaver-weighs, no_item}
 use Rattle.ipcz_world.proofs.acts.Reading.{in_numbers, slice_get-below}
@@ -33,12 +28,6 @@ mark_stands [] h = cc
 mark_stands (Parcel p ∷ xs) h = let t = mark_stands xs h in (suc t.0, t.1)
 mark_stands (Mark ∷ xs) h = (0, refl)
 mark_stands (Gone ∷ xs) h = let t = mark_stands xs h in (suc t.0, t.1)
-
-either_side : (t s : Side) → (t ≡ s) ⊎ (t ≡ opposite s)
-either_side A A = inl refl
-either_side A B = inr refl
-either_side B A = inr refl
-either_side B B = inl refl
 
 -- a router that is known and passes a test
 pub record Known (w : World) (o : Option Key) (test : Router → Bool) : Type 0 where
@@ -151,7 +140,7 @@ module _ (w : World) (b : Books) (g : Records) (k : Key) (r : Router) (i : ℕ) 
           later a true fl true e =
               let two : (g.bypass o).stage ≡ 2 = grind (arith, e, nat_tests) in
               let none = (law.bypasses o).fresh_awaited two in
-              elim (either_side (across_side g o) (proxy_side g f)) [
+              elim (side_is (across_side g o) (proxy_side g f)) [
                 | inl s ↦ none-some (g.bypass f).proxy (sym none ∙ ap (side_router g (Central f)) s ∙ (law.bypasses f).proxy_old fl)
                 | inr s ↦ let t = some_is (side_router g (Central f) (across_side g f)) ((law.bypasses f).across fl) in
                     none-some t.0 (sym none ∙ ap (side_router g (Central f)) s ∙ t.1)
@@ -280,7 +269,7 @@ module _ (w : World) (b : Books) (g : Records) (k : Key) (r : Router) (i : ℕ) 
           on_link : (l : LinkId) → e.link ≡ l → (b : Option ℕ) → bypass_of g e.link ≡ b → decays y ≡ false
           on_link l m None b = absurd (grind (arith, (law.positions.each q y at).decaying e off, b))
           on_link (Central o) m (Some j) b = by_stage o (begun_of o (sym (ap (bypass_of g) m) ∙ b)) pair_o (λ three. sides three
-              (either_side e.side (proxy_side g o)))
+              (side_is e.side (proxy_side g o)))
             where
               begun_of : (o : ℕ) → bypass_of g (Central o) ≡ Some j → is_begun (g.bypass o) ≡ true
               begun_of o h = go (is_begun (g.bypass o)) refl

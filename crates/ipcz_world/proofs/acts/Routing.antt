@@ -1,23 +1,23 @@
 -- What the records tell of the routes after each act: as the run writes them.
 use Rattle.ipcz_world.specs.Routes.{lose_spare}
-use Rattle.ipcz_world.specs.Remembering.{leave_records}
+use Rattle.ipcz_world.proofs.facts.RecordsAfter.{leave_records}
 use Rattle.ipcz_world.proofs.frames.LeftRecords.{off_of, off-same, is_off, owner_by}
 use Rattle.ipcz_world.proofs.facts.Tests.{nat_eq-itself}
 use Rattle.std.specs.Prelude.{◌≡◌, ℕ, ◌+◌, Bool, true, false, cond, not, nat_eq, if◌then◌else◌, Option, Some, None, List, [], ◌∷◌, refl}
 use Rattle.std.proofs.Common.{arith, ap, subst, ◌∙◌, sym}
 use Rattle.std.proofs.lemmas.Bool.Decides.{nat_tests}
-use Rattle.ipcz_world.proofs.Vocabulary.{Side, End, LinkId, Central, Peripheral, LinkEnd, Descriptor, Item, same_end, has_end, ends_in}
-use Rattle.ipcz_world.proofs.Vocabulary.{current_item, Router, is_terminal, Node, Found, terminal_of, World, Key, same_key, node_at}
-use Rattle.ipcz_world.proofs.Vocabulary.{router_at, Books, Records, Owner, Spare, Fresh, Linked, is_linked, Inv}
+use Rattle.ipcz_world.proofs.Vocabulary.{Side, End, LinkId, Central, Peripheral, LinkEnd, Descriptor, Item, same_end, has_end, ends_in, current_item}
+use Rattle.ipcz_world.proofs.Vocabulary.{Router, is_terminal, Node, Found, terminal_of, World, Key, same_key, node_at, router_at, Books, Records}
+use Rattle.ipcz_world.proofs.Vocabulary.{Owner, Spare, Fresh, Linked, is_linked, Inv, way_out, way_in, pop_out, send_on, is_terminal_of, Transfer}
+use Rattle.ipcz_world.proofs.Vocabulary.{move_found, moved_ends, Routes, CentralRecord, routes_of, is_lost_owner}
 use Rattle.ipcz_router.specs.Router.{is_open_terminal}
-use Rattle.ipcz_router.specs.Acts.{way_out, way_in, pop_out, send_on}
-use Rattle.ipcz_node.specs.Node.{is_terminal_of}
-use Rattle.ipcz_node.specs.Sends.{Transfer, move_found, move_router, moved_ends}
-use Rattle.ipcz_world.specs.Routes.{Routes, add_link, add_peripheral, add_peripherals}
-use Rattle.ipcz_world.specs.Records.{CentralRecord, PeripheralRecord, set_owner}
-use Rattle.ipcz_world.specs.Records.{set_central, set_peripheral, set_bypass, routes_of}
-use Rattle.ipcz_world.specs.Remembering.{open_records, claim_records, begin_records, taken_records, accepted_records, told_records}
-use Rattle.ipcz_world.specs.Remembering.{ended_records, move_records, found_records, moves_records, made_at, made_records}
+use Rattle.ipcz_node.specs.Sends.{move_router}
+use Rattle.ipcz_world.specs.Routes.{add_link, add_peripheral, add_peripherals}
+use Rattle.ipcz_world.specs.Records.{PeripheralRecord}
+use Rattle.ipcz_world.proofs.facts.RecordsAfter.{set_owner}
+use Rattle.ipcz_world.proofs.facts.RecordsAfter.{set_central, set_peripheral, set_bypass}
+use Rattle.ipcz_world.proofs.facts.RecordsAfter.{open_records, claim_records, begin_records, taken_records, accepted_records, told_records}
+use Rattle.ipcz_world.proofs.facts.RecordsAfter.{ended_records, move_records, found_records, moves_records, made_at, made_records}
 use Rattle.ipcz_world.proofs.frames.Frames.{same_key-apart}
 use Rattle.ipcz_world.proofs.facts.Finding.{found_there, terminal_tells}
 use Rattle.ipcz_world.proofs.frames.Opened.{opened}
@@ -28,7 +28,6 @@ use Rattle.ipcz_world.proofs.acts.MovingEnds.{later_end, first_end}
 use Rattle.ipcz_world.proofs.acts.SendingActs.{sent_records, by_way}
 use Rattle.ipcz_world.proofs.acts.CallTurns.{not_linked}
 use Rattle.ipcz_world.proofs.facts.Lost.{not_lost}
-use Rattle.ipcz_world.specs.Records.{is_lost_owner}
 use Rattle.std.proofs.lemmas.Bool.{and_from}
 use Rattle.ipcz_world.proofs.facts.LinkTests.{same_end-itself}
 

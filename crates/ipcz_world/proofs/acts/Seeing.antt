@@ -1,32 +1,23 @@
 -- What acts are seen to do, and what the run then writes of the routes.
 use Rattle.ipcz_world.specs.Routes.{lose_spare, spare_in}
-use Rattle.ipcz_router.specs.Calls.{next_number}
-use Rattle.ipcz_router.specs.Acts.{has_gone_next}
-use Rattle.ipcz_world.specs.WordAnswers.{source_for}
+use Rattle.ipcz_world.proofs.Vocabulary.{Side, End, LinkId, LinkEnd, Item, Message, current_item, Router, is_possible, output_of, RouterAct, Hand}
+use Rattle.ipcz_world.proofs.Vocabulary.{Node, router_in, World, way, mail_at, node_at, router_at, hand_message, answer_of, next_number}
+use Rattle.ipcz_world.proofs.Vocabulary.{has_gone_next, source_for, way_out, way_in, may_take, is_rest, item_output, Answer, Applied, Happened}
+use Rattle.ipcz_world.proofs.Vocabulary.{moved_ends, event_of, turn_event, router_seen, Routes, routes_after_turn}
 use Rattle.std.specs.Prelude.{◌≡◌, ◌⊎◌, ℕ, ◌+◌, Bool, true, false, cond, nat_eq, Option, Some, None, List, [], ◌∷◌, refl}
 use Rattle.std.proofs.Common.{arith, ap, ◌∙◌, inl, inr}
 use Rattle.std.proofs.lemmas.Bool.Decides.{nat_tests}
-use Rattle.ipcz_world.proofs.Vocabulary.{Side, End, LinkId, LinkEnd, Item, Message, current_item, Router, is_possible, output_of}
-use Rattle.ipcz_world.proofs.Vocabulary.{RouterAct, Hand, Node, router_in, World, way, mail_at, node_at, router_at, hand_message}
-use Rattle.ipcz_world.proofs.Vocabulary.{answer_of}
 use Rattle.ipcz_base.specs.declared.message.Message.TheVariants as messages
-use Rattle.ipcz_router.specs.Acts.{way_out, way_in}
-use Rattle.ipcz_router.specs.ActTable.{may_take, is_rest}
-use Rattle.ipcz_router.specs.ActEffects.{item_output}
 use Rattle.ipcz_router.specs.declared.act.RouterAct.TheVariants as acts
-use Rattle.ipcz_router.specs.declared.act.Answer.{Answer}
 use Rattle.ipcz_router.specs.declared.act.Answer.TheVariants as answers
-use Rattle.ipcz_router.specs.declared.act.Applied.{Applied}
 use Rattle.ipcz_router.specs.declared.act.Applied.TheVariants as sends
 use Rattle.ipcz_node.specs.declared.act.Act.TheVariants.{Router as OfRouter}
-use Rattle.ipcz_node.specs.declared.happened.Happened.{Happened}
 use Rattle.ipcz_node.specs.declared.happened.Happened.TheVariants as events
-use Rattle.ipcz_node.specs.Sends.{moved_ends}
 use Rattle.ipcz_node.specs.Hands.{is_unfit}
-use Rattle.ipcz_node.specs.Events.{kind_of, hand_event, link_of, send_event, word_event, unlock_event, router_event, event_at, event_of}
+use Rattle.ipcz_node.specs.Events.{kind_of, hand_event, link_of, send_event, word_event, unlock_event, router_event, event_at}
 use Rattle.ipcz_world.specs.declared.mail.Mail.TheVariants as mails
-use Rattle.ipcz_world.specs.Turns.{turn_event, router_seen, hand_seen}
-use Rattle.ipcz_world.specs.Routes.{Routes, add_link, add_fresh, add_peripheral, add_peripherals, hand_of, routes_after_turn}
+use Rattle.ipcz_world.specs.Turns.{hand_seen}
+use Rattle.ipcz_world.specs.Routes.{add_link, add_fresh, add_peripheral, add_peripherals, hand_of}
 use Rattle.ipcz_world.specs.Laws.{KeepsLinks}
 
 -- of what kind an event is: a close, a discard, a begin, a discard of Gone, a retire, or another

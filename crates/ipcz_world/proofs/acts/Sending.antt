@@ -4,19 +4,16 @@ use Rattle.ipcz_world.proofs.frames.OfRecords.{holds, held_times, source, in_mes
 use Rattle.std.specs.Prelude.{◌≡◌, ◌⊎◌, ◌≤◌, ◌<◌, ◌+◌, ℕ, true, false, Option, Some, None, refl, List, [], length, slice_get}
 use Rattle.std.proofs.Common.{arith, ap, subst, ◌∙◌, sym, inl, inr}
 use Rattle.std.proofs.lemmas.Bool.Decides.{nat_tests}
-use Rattle.ipcz_world.proofs.Vocabulary.{Side, End, LinkId, Central, LinkEnd, Descriptor, Item, Message, opposite, has_end, Router}
-use Rattle.ipcz_world.proofs.Vocabulary.{is_terminal, Node, with_router, ends_in, World, Key, node_at, router_at, flow, set_node, Books}
-use Rattle.ipcz_world.proofs.Vocabulary.{Records, is_recorded, side_node, side_length, side_router, inner_link, terminal_node, Standing}
-use Rattle.ipcz_world.proofs.Vocabulary.{is_attached, view, next_sent, is_gone, is_awaited, sending_queue, IsUnderWay, of_end, moves_of}
-use Rattle.ipcz_world.proofs.Vocabulary.{Weight, in_router, at_end, names_end, times, total_list, total_below, Counts, Links, Positions}
-use Rattle.ipcz_world.proofs.Vocabulary.{Told, of_bypass, EndPlaces, BooksKept, Conserved, HeldOnce, times_held, Items, Order}
-use Rattle.ipcz_world.proofs.Vocabulary.{FreshNumbers, has_passed, standing_router, Inv}
+use Rattle.ipcz_world.proofs.Vocabulary.{Side, End, LinkId, Central, LinkEnd, Descriptor, Item, Message, opposite, has_end, Router, is_terminal, Node}
+use Rattle.ipcz_world.proofs.Vocabulary.{with_router, ends_in, World, Key, node_at, router_at, flow, set_node, Books, Records, is_recorded, side_node}
+use Rattle.ipcz_world.proofs.Vocabulary.{side_length, side_router, inner_link, terminal_node, Standing, is_attached, view, next_sent, is_gone}
+use Rattle.ipcz_world.proofs.Vocabulary.{is_awaited, sending_queue, IsUnderWay, of_end, moves_of, Weight, in_router, at_end, names_end, times}
+use Rattle.ipcz_world.proofs.Vocabulary.{total_list, total_below, Counts, Links, Positions, Told, of_bypass, EndPlaces, BooksKept, Conserved}
+use Rattle.ipcz_world.proofs.Vocabulary.{HeldOnce, times_held, Items, Order, FreshNumbers, has_passed, standing_router, Inv, reach, push_out}
+use Rattle.ipcz_world.proofs.Vocabulary.{is_made_by}
 use Rattle.ipcz_base.specs.declared.message.Message.TheVariants as messages
-use Rattle.ipcz_seq.specs.Queue.{reach}
-use Rattle.ipcz_node.specs.Node.{push_out}
 use Rattle.ipcz_world.proofs.frames.Frames.{node-set_node, word-set_node, mail-set_node, claimed-set_node, size-set_node, count-set_node}
 use Rattle.ipcz_world.proofs.frames.Frames.{same_key_tells, same_key-itself}
-use Rattle.ipcz_world.specs.Flows.{is_made_by}
 use Rattle.ipcz_world.proofs.frames.Opened.{OpenInv, OpenMoves, HasEnds, opened, closed}
 use Rattle.ipcz_world.proofs.frames.Touching.{IsTouched, IsAlike, HasSameHands, HasSameEnds, hands-same, recorded_same, counts-touched}
 use Rattle.ipcz_world.proofs.frames.Touching.{shape-touched, links-touched, positions-touched, stands-touched, words-touched}

@@ -1,21 +1,14 @@
 -- What a node's send of an item does to the world keeps all that holds, whether or not terminals move along.
-use Rattle.ipcz_router.specs.ActEffects.{leaves_by}
+use Rattle.ipcz_world.proofs.Vocabulary.{LinkEnd, Item, opposite, current_item, Router, output_of, is_possible, router_in, ends_in, commit, World}
+use Rattle.ipcz_world.proofs.Vocabulary.{Key, node_at, router_at, after_act, can_take, Books, Records, Inv, leaves_by, way_out, way_in, pop_out}
+use Rattle.ipcz_world.proofs.Vocabulary.{send_on, apply, item_output, is_rest, on_router, move_ends, moved_ends, send, send_item, commit_router}
+use Rattle.ipcz_world.proofs.Vocabulary.{keep_or_drop, after_router_act, may_act, touch}
 use Rattle.std.specs.Prelude.{◌≡◌, ◌≢◌, ℕ, Bool, true, false, ◌&&◌, nat_eq, if◌then◌else◌, Option, Some, None, is_some, refl, []}
 use Rattle.std.proofs.Common.{arith, subst, ◌∙◌, sym, inl}
 use Rattle.std.proofs.lemmas.Bool.Decides.{nat_tests}
-use Rattle.ipcz_world.proofs.Vocabulary.{LinkEnd, Item, opposite, current_item, Router, output_of, is_possible, router_in, ends_in}
-use Rattle.ipcz_world.proofs.Vocabulary.{commit, World, Key, node_at, router_at, after_act, can_take, Books, Records, Inv}
-use Rattle.ipcz_router.specs.Acts.{way_out, way_in, pop_out, send_on}
-use Rattle.ipcz_router.specs.ActEffects.{apply, item_output}
-use Rattle.ipcz_router.specs.ActTable.{is_rest}
 use Rattle.ipcz_router.specs.declared.act.RouterAct.TheVariants as acts
 use Rattle.ipcz_node.specs.declared.act.Act.TheVariants.{Router as OfRouter}
-use Rattle.ipcz_node.specs.Node.{on_router}
-use Rattle.ipcz_node.specs.Sends.{move_ends, moved_ends, send, send_item}
-use Rattle.ipcz_node.specs.Acts.{commit_router, keep_or_drop}
-use Rattle.ipcz_world.specs.Turns.{after_router_act, may_act}
-use Rattle.ipcz_world.specs.WordAnswers.{touch}
-use Rattle.ipcz_world.specs.Remembering.{moves_records}
+use Rattle.ipcz_world.proofs.facts.RecordsAfter.{moves_records}
 use Rattle.ipcz_world.proofs.frames.Opened.{opened}
 use Rattle.ipcz_world.proofs.acts.SendingItems.{is_send_in, inv-send_in, is_send_out, inv-send_out}
 use Rattle.ipcz_world.proofs.acts.MovingEnds.{posted_world}

@@ -1,15 +1,17 @@
 -- The sends of a router, out and in, keep all that holds.
 use Rattle.ipcz_world.proofs.frames.Booking.{flag}
-use Rattle.ipcz_world.specs.Structure.{is_begun_router}
+use Rattle.ipcz_world.proofs.Vocabulary.{Side, A, B, LinkId, Central, Peripheral, LinkEnd, Item, Descriptor, Edge, opposite, opposite_end, has_link}
+use Rattle.ipcz_world.proofs.Vocabulary.{item_at, current_item, Router, is_terminal, inward_edge, ends_in, World, Key, router_at, flow, Books}
+use Rattle.ipcz_world.proofs.Vocabulary.{Records, is_begun, is_recorded, inner_link, side_node, side_router, side_end, side_length, bypass_of}
+use Rattle.ipcz_world.proofs.Vocabulary.{terminal_descriptor, view, view_by, is_attached, is_gone, sending_queue, key_passes, has_primary}
+use Rattle.ipcz_world.proofs.Vocabulary.{has_decaying, IsRecorded, is_outward, Inv, is_begun_router, is_done, Parcel, Mark, Gone, end_at, is_left}
+use Rattle.ipcz_world.proofs.Vocabulary.{is_retired, way_out, way_in, pop_out, send_on, has_gone_next, item_passes, awaited_view, is_made_by}
 use Rattle.std.proofs.lemmas.Option.{none-some}
 use Rattle.std.proofs.Common.{true≢false}
 use Rattle.std.specs.Prelude.{cond, suc, ◌+◌, length, slice_get, is_some}
 use Rattle.ipcz_seq.specs.Queue.{is_drained}
-use Rattle.ipcz_router.specs.ActTable.{is_done}
-use Rattle.ipcz_base.specs.declared.item.Item.TheVariants.{Parcel, Mark, Gone}
-use Rattle.ipcz_base.specs.Ends.{end_at}
-use Rattle.ipcz_world.specs.Records.{is_left, across_side}
-use Rattle.ipcz_world.specs.Books.{is_retired, read}
+use Rattle.ipcz_world.specs.Records.{across_side}
+use Rattle.ipcz_world.specs.Books.{read}
 use Rattle.ipcz_world.proofs.frames.Touching.{either}
 use Rattle.ipcz_world.proofs.frames.GonesKept.{IsGoneRight, right-of}
 use Rattle.ipcz_world.proofs.facts.LinkTests.{opposite_end-twice}
@@ -20,16 +22,8 @@ use Rattle.ipcz_world.specs.Routes.{source as source'}
 use Rattle.std.specs.Prelude.{◌≡◌, ◌⊎◌, ◌≤◌, ◌<◌, ℕ, Bool, true, false, ◌||◌, nat_le, Option, Some, None, refl, []}
 use Rattle.std.proofs.Common.{arith, ap, subst, ◌∙◌, sym, inl, inr}
 use Rattle.std.proofs.lemmas.Bool.Decides.{nat_tests}
-use Rattle.ipcz_world.proofs.Vocabulary.{Side, A, B, LinkId, Central, Peripheral, LinkEnd, Item, Descriptor, Edge, opposite, opposite_end}
-use Rattle.ipcz_world.proofs.Vocabulary.{has_link, item_at, current_item, Router, is_terminal, inward_edge, ends_in, World, Key}
-use Rattle.ipcz_world.proofs.Vocabulary.{router_at, flow, Books, Records, is_begun, is_recorded, inner_link, side_node, side_router}
-use Rattle.ipcz_world.proofs.Vocabulary.{side_end, side_length, bypass_of, terminal_descriptor, view, view_by, is_attached, is_gone}
-use Rattle.ipcz_world.proofs.Vocabulary.{sending_queue, key_passes, has_primary, has_decaying, IsRecorded, is_outward, Inv}
-use Rattle.ipcz_router.specs.Acts.{way_out, way_in, pop_out, send_on, has_gone_next, item_passes}
 use Rattle.ipcz_world.proofs.frames.RecordRules.{record_rules, bypass_of-inner}
 use Rattle.ipcz_world.proofs.frames.OfRecords.{source}
-use Rattle.ipcz_world.specs.Standing.{awaited_view}
-use Rattle.ipcz_world.specs.Flows.{is_made_by}
 use Rattle.ipcz_world.proofs.frames.Draining.{drained_same, drained_pop}
 use Rattle.ipcz_world.proofs.frames.Weighing.{in_router-is, in_popped}
 use Rattle.ipcz_world.proofs.frames.Known.{node_of_router}

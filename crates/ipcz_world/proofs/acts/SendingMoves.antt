@@ -1,12 +1,12 @@
 -- A send to another node, with the terminals of its item's ends: all that holds is kept.
 use Rattle.std.specs.Prelude.{◌≡◌, ◌≢◌, ◌<◌, ℕ, Option, Some, None, refl, List, [], ◌∷◌, ◌++◌, map}
 use Rattle.std.proofs.Common.{arith, ap, subst, ◌∙◌, sym, inl, inr}
-use Rattle.ipcz_world.proofs.Vocabulary.{Side, End, LinkId, Item, Message, place_at, put_place, Router, Node, Found, outbox, with_router}
-use Rattle.ipcz_world.proofs.Vocabulary.{terminal_of, ends_in, World, Key, node_at, Books, Records, Inv}
+use Rattle.ipcz_world.proofs.Vocabulary.{Side, End, LinkId, Item, Message, place_at, put_place, Router, Node, Found, outbox, with_router, terminal_of}
+use Rattle.ipcz_world.proofs.Vocabulary.{ends_in, World, Key, node_at, Books, Records, Inv, Transfer, move_ends, move_found}
 use Rattle.ipcz_base.specs.declared.message.Message.TheVariants as messages
-use Rattle.ipcz_node.specs.Sends.{Transfer, move_end, move_ends, move_found}
+use Rattle.ipcz_node.specs.Sends.{move_end}
 use Rattle.ipcz_world.proofs.frames.Frames.{node-set_node, word-set_node, mail-set_node, claimed-set_node, size-set_node, count-set_node}
-use Rattle.ipcz_world.specs.Remembering.{moves_records}
+use Rattle.ipcz_world.proofs.facts.RecordsAfter.{moves_records}
 use Rattle.ipcz_world.proofs.frames.Changing.{IsNodeChanged, pushed_by}
 use Rattle.ipcz_world.proofs.frames.Flowing.{IsPushed, came_pushed}
 use Rattle.ipcz_world.proofs.frames.Opened.{opened, closed}

@@ -1,22 +1,16 @@
 -- A router sends the current item of its out queue over the link that it chooses.
-use Rattle.ipcz_world.specs.Records.{is_left}
+use Rattle.ipcz_world.proofs.Vocabulary.{Side, A, B, LinkId, Central, Peripheral, LinkEnd, Item, opposite, has_link, Edge, item_at, Router, World}
+use Rattle.ipcz_world.proofs.Vocabulary.{Key, router_at, Records, is_recorded, is_begun, is_linked, inner_link, side_router, side_length, bypass_of}
+use Rattle.ipcz_world.proofs.Vocabulary.{known_from, proxy_side, across_side, view, view_by, is_attached, is_gone, key_passes, has_primary}
+use Rattle.ipcz_world.proofs.Vocabulary.{has_decaying, has_inward_decaying, Positions, Stands, is_outward, BypassRecords, Stages, inner_of}
+use Rattle.ipcz_world.proofs.Vocabulary.{ProxyNumbers, FreshNumbers, is_left, edge_decays, way_out, length_by, bypass_length, awaited_view}
+use Rattle.ipcz_world.proofs.Vocabulary.{has_inward_primary, link_in}
 use Rattle.std.specs.Prelude.{◌≡◌, ◌⊎◌, ◌≤◌, ◌<◌, ℕ, Bool, true, false, nat_le, if◌then◌else◌, Option, Some, None, is_some, refl}
 use Rattle.std.proofs.Common.{arith, ap, subst, ◌∙◌, sym, inl, inr}
 use Rattle.std.proofs.lemmas.Bool.Decides.{nat_tests}
-use Rattle.ipcz_world.proofs.Vocabulary.{Side, A, B, LinkId, Central, Peripheral, LinkEnd, Item, opposite, has_link, Edge, item_at}
-use Rattle.ipcz_world.proofs.Vocabulary.{Router, World, Key, router_at, Records, is_recorded, is_begun, is_linked, inner_link}
-use Rattle.ipcz_world.proofs.Vocabulary.{side_router, side_length, bypass_of, known_from, proxy_side, across_side, view, view_by}
-use Rattle.ipcz_world.proofs.Vocabulary.{is_attached, is_gone, key_passes, has_primary, has_decaying, has_inward_decaying, Positions}
-use Rattle.ipcz_world.proofs.Vocabulary.{Stands, is_outward, BypassRecords, Stages, inner_of, ProxyNumbers, FreshNumbers}
-use Rattle.ipcz_edge.specs.Edge.{choose, is_short_of, edge_decays}
-use Rattle.ipcz_router.specs.Acts.{way_out}
-use Rattle.ipcz_world.specs.Records.{length_by}
-use Rattle.ipcz_world.specs.Records.{bypass_length}
+use Rattle.ipcz_edge.specs.Edge.{choose, is_short_of}
 use Rattle.ipcz_world.proofs.frames.RecordRules.{is_recorded-central, side_router-proxy, bypass_of-inner}
-use Rattle.ipcz_world.specs.Standing.{awaited_view}
-use Rattle.ipcz_world.specs.Standing.{has_inward_primary}
 use Rattle.ipcz_world.proofs.frames.StandingRules.{standing_rules}
-use Rattle.ipcz_world.specs.Structure.{link_in}
 use Rattle.ipcz_world.proofs.frames.Known.{has_link-tells}
 use Rattle.ipcz_world.proofs.facts.LinkTests.{side_is, same_side-opposite}
 use Rattle.ipcz_world.proofs.frames.Draining.{is_gone-standing}

@@ -1,11 +1,11 @@
 -- The proxy learns its lengths, and tells the router inward.
 use Rattle.ipcz_world.proofs.frames.LiveLinks.{live-kept}
 use Rattle.ipcz_world.proofs.frames.Sealing.{live_of}
-use Rattle.ipcz_world.proofs.Vocabulary.{Weight, in_router, Side, A, B, End, LinkId, Central, LinkEnd, Descriptor, Item, Message}
-use Rattle.ipcz_world.proofs.Vocabulary.{opposite, has_link, Router, router_has, inward_edge, Edge, World, Key, same_key, mail_at, way}
-use Rattle.ipcz_world.proofs.Vocabulary.{router_at, Books, Records, is_begun, inner_link, side_node, side_router, bypass_of, proxy_side}
-use Rattle.ipcz_world.proofs.Vocabulary.{across_side, known_from, has_decaying, has_inward_decaying, IsUnderWay, makes, is_made_before}
-use Rattle.ipcz_world.proofs.Vocabulary.{under_way, moves_of, of_end, total_list, Told, of_bypass, control_weight, inner_of, Inv}
+use Rattle.ipcz_world.proofs.Vocabulary.{Weight, in_router, Side, A, B, End, LinkId, Central, LinkEnd, Descriptor, Item, Message, opposite, has_link}
+use Rattle.ipcz_world.proofs.Vocabulary.{Router, router_has, inward_edge, Edge, World, Key, same_key, mail_at, way, router_at, Books, Records}
+use Rattle.ipcz_world.proofs.Vocabulary.{is_begun, inner_link, side_node, side_router, bypass_of, proxy_side, across_side, known_from, has_decaying}
+use Rattle.ipcz_world.proofs.Vocabulary.{has_inward_decaying, IsUnderWay, makes, is_made_before, under_way, moves_of, of_end, total_list, Told}
+use Rattle.ipcz_world.proofs.Vocabulary.{of_bypass, control_weight, inner_of, Inv, no_edge, stop_proxying}
 use Rattle.ipcz_world.specs.Places.{in_message as in_message'}
 use Rattle.std.specs.Prelude.{◌≡◌, ◌≢◌, ◌⊎◌, ◌<◌, ◌≤◌, ℕ, ◌+◌, true, false, nat_eq, is_some, is_none, option_map, unwrap_or, Option, Some}
 use Rattle.std.specs.Prelude.{None, List, refl}
@@ -13,14 +13,13 @@ use Rattle.std.proofs.Common.{arith, ap, ◌∙◌, sym, inl, inr}
 use Rattle.std.proofs.lemmas.Bool.Decides.{nat_tests}
 use Rattle.std.proofs.lemmas.Option.{none-some, same_Some}
 use Rattle.ipcz_base.specs.declared.message.Message.TheVariants as messages
-use Rattle.ipcz_edge.specs.Edge.{no_edge, set_length_to, set_length_from}
-use Rattle.ipcz_router.specs.Bypass.{stop_proxying}
+use Rattle.ipcz_edge.specs.Edge.{set_length_to, set_length_from}
 use Rattle.ipcz_world.specs.declared.mail.Mail.TheVariants as mails
 use Rattle.ipcz_world.proofs.frames.Frames.{same_key-itself}
 use Rattle.ipcz_world.proofs.frames.RecordRules.{bypass_of-inner}
-use Rattle.ipcz_world.specs.Remembering.{told_records}
+use Rattle.ipcz_world.proofs.facts.RecordsAfter.{told_records}
 use Rattle.ipcz_world.proofs.frames.OfRecords.{in_places}
-use Rattle.ipcz_world.specs.Acts.{CanHand, stop_act}
+use Rattle.ipcz_world.proofs.facts.Updates.{CanHand, stop_act}
 use Rattle.ipcz_world.proofs.frames.Handing.{handed_on, place_before, was_under_way, was_made_before, under_way-handed_on, word-handed_on}
 use Rattle.ipcz_world.proofs.frames.Handing.{hand-handed_on, mail-handed_on, changed-handed_on}
 use Rattle.ipcz_world.proofs.frames.Placing.{places-handed_on}

@@ -10,25 +10,19 @@ use Rattle.std.specs.Cmp.{nat_cmp_total}
 use Rattle.std.specs.FinMap.{get-insert}
 use Rattle.std.proofs.Common.{arith, ap, subst, ◌∙◌, sym, inl, inr}
 use Rattle.std.proofs.lemmas.Bool.Decides.{nat_tests}
-use Rattle.ipcz_world.proofs.Vocabulary.{Side, A, B, End, LinkId, Central, Peripheral, Item, Message, opposite, has_end, opposite_end}
-use Rattle.ipcz_world.proofs.Vocabulary.{Edge, Queue, item_at, Router, is_terminal, inward_edge, ends_in, Node, with_router, World, Key}
-use Rattle.ipcz_world.proofs.Vocabulary.{same_key, node_at, mail_at, way, router_at, set_node, set_mail, hand_message, Books, read}
-use Rattle.ipcz_world.proofs.Vocabulary.{is_closed, Records, side_router, side_end, inner_link, terminal_node, taking_queue, is_attached}
-use Rattle.ipcz_world.proofs.Vocabulary.{fed_queue, IsUnderWay, makes, of_end, moves_of, Weight, in_router, at_end, names_end, total_list}
-use Rattle.ipcz_world.proofs.Vocabulary.{Counts, is_outward, Told, of_bypass, EndPlaces, BooksKept, Conserved, HeldOnce, Items}
-use Rattle.ipcz_world.proofs.Vocabulary.{FreshNumbers, Inv}
+use Rattle.ipcz_world.proofs.Vocabulary.{Side, A, B, End, LinkId, Central, Peripheral, Item, Message, opposite, has_end, opposite_end, Edge, Queue}
+use Rattle.ipcz_world.proofs.Vocabulary.{item_at, Router, is_terminal, inward_edge, ends_in, Node, with_router, World, Key, same_key, node_at}
+use Rattle.ipcz_world.proofs.Vocabulary.{mail_at, way, router_at, set_node, set_mail, hand_message, Books, read, is_closed, Records, side_router}
+use Rattle.ipcz_world.proofs.Vocabulary.{side_end, inner_link, terminal_node, taking_queue, is_attached, fed_queue, IsUnderWay, makes, of_end}
+use Rattle.ipcz_world.proofs.Vocabulary.{moves_of, Weight, in_router, at_end, names_end, total_list, Counts, is_outward, Told, of_bypass, EndPlaces}
+use Rattle.ipcz_world.proofs.Vocabulary.{BooksKept, Conserved, HeldOnce, Items, FreshNumbers, Inv, edge_has, accept, is_mark, has_mark, from_number}
+use Rattle.ipcz_world.proofs.Vocabulary.{IsItemUnderWay}
 use Rattle.ipcz_base.specs.declared.message.Message.TheVariants as messages
-use Rattle.ipcz_edge.specs.Edge.{edge_has}
 use Rattle.ipcz_seq.specs.Queue.{push_at}
-use Rattle.ipcz_router.specs.Calls.{accept}
-use Rattle.ipcz_base.specs.Items.{is_mark}
 use Rattle.ipcz_world.specs.declared.mail.Mail.TheVariants as mails
 use Rattle.ipcz_world.proofs.frames.Frames.{same_key_tells, node-set_node, word-set_node, mail-set_node, claimed-set_node, size-set_node}
 use Rattle.ipcz_world.proofs.frames.Frames.{count-set_node, node-set_mail, word-set_mail, mail-set_mail, claimed-set_mail, size-set_mail}
 use Rattle.ipcz_world.proofs.frames.Frames.{count-set_mail}
-use Rattle.ipcz_world.specs.Books.{has_mark}
-use Rattle.ipcz_world.specs.Places.{from_number}
-use Rattle.ipcz_world.specs.Numbers.{IsItemUnderWay}
 use Rattle.ipcz_world.proofs.frames.Opened.{OpenInv, OpenMoves, opened, closed}
 use Rattle.ipcz_world.proofs.frames.Touching.{IsTouched, IsAlike, HasSameEnds, Hands, recorded_same, counts-touched, shape-touched}
 use Rattle.ipcz_world.proofs.frames.Touching.{links-touched, positions-touched, stands-touched, words-touched, spares-touched}

@@ -1,42 +1,31 @@
 -- What a node computes, as updates of the world: the acts of routers, and the hands.
 use Rattle.std.specs.Prelude.{Bool, false, if◌then◌else◌}
 use Rattle.ipcz_base.specs.declared.message.Message.TheVariants as messages
-use Rattle.ipcz_router.specs.Calls.{next_number}
+use Rattle.ipcz_world.proofs.Vocabulary.{opposite, End, current_item, LinkEnd, Message, put_place, Word, Router, primary_word, output_of, Node}
+use Rattle.ipcz_world.proofs.Vocabulary.{bare_node, with_router, router_in, commit, World, node_at, word_at, router_at, way, set_node, set_word}
+use Rattle.ipcz_world.proofs.Vocabulary.{set_mail, after_act, next_number, send_item, move_ends, Gone, has_gone_next, item_passes, discard_output}
+use Rattle.ipcz_world.proofs.Vocabulary.{without_router, leaves_by, source_for, apply, message_output, push_out, on_router, send, fits, handle}
+use Rattle.ipcz_world.proofs.Vocabulary.{deliver, is_hand_of, commit_router, keep_or_drop, after_router_act, after_hand, touch, touch_word}
 use Rattle.ipcz_router.specs.ActEffects.{retire_output}
-use Rattle.ipcz_node.specs.Sends.{send_item, post_item, move_ends}
-use Rattle.ipcz_world.proofs.Vocabulary.{opposite}
-use Rattle.ipcz_world.specs.Acts.{retire_act}
+use Rattle.ipcz_node.specs.Sends.{post_item}
+use Rattle.ipcz_world.proofs.facts.Updates.{retire_act}
 use Rattle.std.specs.Prelude.{◌++◌}
-use Rattle.ipcz_base.specs.declared.item.Item.TheVariants.{Gone}
-use Rattle.ipcz_router.specs.Acts.{has_gone_next, item_passes}
-use Rattle.ipcz_router.specs.ActEffects.{discard_output}
-use Rattle.ipcz_node.specs.Node.{without_router}
-use Rattle.ipcz_world.proofs.Vocabulary.{End, current_item}
-use Rattle.ipcz_world.specs.Acts.{discard_leave_act}
+use Rattle.ipcz_world.proofs.facts.Updates.{discard_leave_act}
 use Rattle.ipcz_world.proofs.facts.Drained.{gone_next-tells}
-use Rattle.ipcz_router.specs.ActEffects.{leaves_by}
-use Rattle.ipcz_world.specs.WordAnswers.{source_for}
 use Rattle.std.specs.Prelude.{◌≡◌, ℕ, zero, suc, true, nat_eq, Some, None, List, [], ◌∷◌, refl}
 use Rattle.std.proofs.Common.{arith, ap, ◌∙◌, sym}
 use Rattle.std.proofs.lemmas.Bool.Decides.{nat_tests}
-use Rattle.ipcz_world.proofs.Vocabulary.{LinkEnd, Message, put_place, Word, Router, primary_word, output_of, Node, bare_node}
-use Rattle.ipcz_world.proofs.Vocabulary.{with_router, router_in, commit, World, node_at, word_at, router_at, way, set_node, set_word}
-use Rattle.ipcz_world.proofs.Vocabulary.{set_mail, after_act}
-use Rattle.ipcz_router.specs.ActEffects.{apply, message_output, flush_message, wake_other}
+use Rattle.ipcz_router.specs.ActEffects.{flush_message, wake_other}
 use Rattle.ipcz_router.specs.declared.act.RouterAct.TheVariants as acts
 use Rattle.ipcz_node.specs.declared.act.Act.TheVariants.{Router as OfRouter}
-use Rattle.ipcz_node.specs.Node.{push_out, on_router}
-use Rattle.ipcz_node.specs.Sends.{send}
-use Rattle.ipcz_node.specs.Hands.{fits, handle, deliver, free_hand, is_hand_of}
-use Rattle.ipcz_node.specs.Acts.{commit_router, keep_or_drop}
+use Rattle.ipcz_node.specs.Hands.{free_hand}
 use Rattle.ipcz_world.specs.declared.mail.Mail.TheVariants as mails
-use Rattle.ipcz_world.specs.World.{push_message}
+use Rattle.ipcz_world.proofs.facts.Updates.{push_message}
 use Rattle.ipcz_world.proofs.frames.Frames.{node-set_node}
-use Rattle.ipcz_world.specs.Turns.{after_router_act, after_hand}
-use Rattle.ipcz_world.specs.WordAnswers.{touch, touch_word, word_after}
-use Rattle.ipcz_world.specs.Acts.{leave_act, finish_out_act, finish_in_act, wake_act, free}
+use Rattle.ipcz_world.specs.WordAnswers.{word_after}
+use Rattle.ipcz_world.proofs.facts.Updates.{leave_act, finish_out_act, finish_in_act, wake_act, free}
 use Rattle.ipcz_world.specs.WordAnswers.{woken}
-use Rattle.ipcz_world.specs.Acts.{tells_wake}
+use Rattle.ipcz_world.proofs.facts.Updates.{tells_wake}
 
 pub put-twice : {X : Type 0} (d : X) (xs : List X) (i : ℕ) (y z : X) → put_place d (put_place d xs i y) i z ≡ put_place d xs i z
 unfolding put_place

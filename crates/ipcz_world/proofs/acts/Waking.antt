@@ -1,32 +1,27 @@
 -- A wake keeps the invariant, and so does the hand of the Flush that it sends, whether a router has the link or not.
 use Rattle.ipcz_world.proofs.frames.GivingUp.{stays_bare}
-use Rattle.ipcz_world.proofs.Vocabulary.{A, B}
+use Rattle.ipcz_world.proofs.Vocabulary.{A, B, Side, LinkId, Central, LinkEnd, Message, opposite, has, is_central, word_of, Word, Router}
+use Rattle.ipcz_world.proofs.Vocabulary.{primary_word, is_possible, output_of, Hand, Node, Found, with_router, World, Key, node_at, word_at, mail_at}
+use Rattle.ipcz_world.proofs.Vocabulary.{way, router_at, set_node, set_word, set_mail, set_router, after_act, hand_message, Books, Records, is_linked}
+use Rattle.ipcz_world.proofs.Vocabulary.{side_node, side_router, key_passes, Counts, Words, IsRecorded, Inv, source_for, message_output, push_out}
+use Rattle.ipcz_world.proofs.Vocabulary.{on_found, link_router, deliver, handle, fits, is_hand_of, after_hand, flushed}
 use Rattle.ipcz_world.proofs.frames.Frames.{router-set_word}
-use Rattle.ipcz_world.specs.WordAnswers.{source_for}
 use Rattle.ipcz_world.proofs.frames.Sourcing.{sourced-by, had-itself}
 use Rattle.std.specs.Prelude.{◌≡◌, ◌⊎◌, ◌<◌, ℕ, ◌+◌, ◌*◌, Bool, true, false, cond, nat_eq, Option, Some, None, is_some, refl}
 use Rattle.std.proofs.Common.{arith, sym, ◌∙◌, ap, subst, inl, inr}
 use Rattle.std.proofs.lemmas.Bool.Decides.{nat_tests}
 use Rattle.std.proofs.lemmas.Option.{same_Some, none-some}
-use Rattle.ipcz_world.proofs.Vocabulary.{Side, LinkId, Central, LinkEnd, Message, opposite, has, is_central, word_of, Word, Router}
-use Rattle.ipcz_world.proofs.Vocabulary.{primary_word, is_possible, output_of, Hand, Node, Found, with_router, World, Key, node_at}
-use Rattle.ipcz_world.proofs.Vocabulary.{word_at, mail_at, way, router_at, set_node, set_word, set_mail, set_router, after_act}
-use Rattle.ipcz_world.proofs.Vocabulary.{hand_message, Books, Records, is_linked, side_node, side_router, key_passes, Counts, Words}
-use Rattle.ipcz_world.proofs.Vocabulary.{IsRecorded, Inv}
 use Rattle.ipcz_base.specs.declared.message.Message.TheVariants as messages
-use Rattle.ipcz_router.specs.ActEffects.{wake_other, message_output, flush_message}
+use Rattle.ipcz_router.specs.ActEffects.{wake_other, flush_message}
 use Rattle.ipcz_router.specs.declared.act.Applied.TheVariants as sends
 use Rattle.ipcz_router.specs.declared.act.RouterAct.TheVariants as acts
 use Rattle.ipcz_node.specs.declared.act.Act.TheVariants.{Router as OfRouter}
-use Rattle.ipcz_node.specs.Node.{push_out, on_found, link_router}
-use Rattle.ipcz_node.specs.Hands.{deliver, handle, fits, is_hand_of}
 use Rattle.ipcz_world.specs.declared.mail.Mail.TheVariants as mails
-use Rattle.ipcz_world.specs.World.{push_message}
+use Rattle.ipcz_world.proofs.facts.Updates.{push_message}
 use Rattle.ipcz_world.proofs.frames.Frames.{frames, same_key-itself, word-set_word, word-set_node, claimed-set_word, claimed-set_node}
 use Rattle.ipcz_world.proofs.frames.Frames.{node-set_node, mail-set_node, count-set_node}
-use Rattle.ipcz_world.specs.Turns.{after_hand}
 use Rattle.ipcz_world.proofs.frames.StandingRules.{standing_rules}
-use Rattle.ipcz_world.specs.Acts.{CanTouch, CanHand, wake_act, flush_act, free}
+use Rattle.ipcz_world.proofs.facts.Updates.{CanTouch, CanHand, wake_act, flush_act, free}
 use Rattle.ipcz_world.proofs.frames.Flowing.{IsPushed, IsTaken, way_tells, same_way}
 use Rattle.ipcz_world.proofs.frames.Changing.{IsNodeChanged, pushed_by, taken_by, way_apart}
 use Rattle.ipcz_world.proofs.frames.OneRouter.{SameButRouter, set-router, set-word, words-set_router}
@@ -39,9 +34,8 @@ use Rattle.ipcz_world.proofs.frames.MessagesPassing.{SameButPost, IsFlush, HasHa
 use Rattle.ipcz_world.proofs.frames.MessagesAlone.{inv-passes}
 use Rattle.ipcz_world.proofs.frames.Known.{node_of_router}
 use Rattle.ipcz_world.proofs.facts.Lengths.{opposite-twice}
-use Rattle.ipcz_node.specs.Hands.{flushed}
 use Rattle.ipcz_world.specs.WordAnswers.{woken}
-use Rattle.ipcz_world.specs.Acts.{tells_wake}
+use Rattle.ipcz_world.proofs.facts.Updates.{tells_wake}
 
 -- a word of a link changes in what its sides wait for alone
 word-waits : (w : World) (g : Records) (i : ℕ) (x : Word) → is_linked (g.owner i) ≡ true → x.stable ≡ (word_at w i).stable →

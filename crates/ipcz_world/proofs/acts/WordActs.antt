@@ -1,19 +1,18 @@
 -- The acts on words: a mark, a try for the lock, and its return keep the invariant.
 use Rattle.ipcz_world.proofs.frames.LeftSides.{not_left}
-use Rattle.ipcz_world.specs.Records.{is_left}
-use Rattle.ipcz_router.specs.Router.{source_of}
+use Rattle.ipcz_world.proofs.Vocabulary.{Side, A, B, Central, opposite, has, Word, Router, is_possible, World, Key, word_at, router_at, set_word}
+use Rattle.ipcz_world.proofs.Vocabulary.{set_router, Books, Records, is_begun, side_router, proxy_side, across_side, Inv, is_left, source_of, Plan}
+use Rattle.ipcz_world.proofs.Vocabulary.{Locks, Waits, Refuses, plan_of}
 use Rattle.std.specs.Prelude.{◌≡◌, ◌⊎◌, ◌≤◌, ℕ, Bool, true, false, cond, nat_eq, Some, refl}
 use Rattle.std.proofs.Common.{arith, sym, ◌∙◌, ap, inl, inr}
 use Rattle.std.proofs.lemmas.Bool.Decides.{nat_tests}
-use Rattle.ipcz_world.proofs.Vocabulary.{Side, A, B, Central, opposite, has, Word, Router, is_possible, World, Key, word_at, router_at}
-use Rattle.ipcz_world.proofs.Vocabulary.{set_word, set_router, Books, Records, is_begun, side_router, proxy_side, across_side, Inv}
 use Rattle.ipcz_word.specs.SideSets.{with, without, sides}
-use Rattle.ipcz_word.specs.Word.{Plan, Locks, Waits, Refuses, plan_of, is_held, mark, lock, wait, unlock}
+use Rattle.ipcz_word.specs.Word.{is_held, mark, lock, wait, unlock}
 use Rattle.ipcz_router.specs.ActEffects.{mark_side, take_lock, fail_lock, drop_lock}
 use Rattle.ipcz_router.specs.declared.act.RouterAct.TheVariants as acts
 use Rattle.ipcz_world.proofs.frames.Frames.{word-set_word, word-set_node, claimed-set_word, claimed-set_node}
 use Rattle.ipcz_world.proofs.frames.StandingRules.{standing_rules}
-use Rattle.ipcz_world.specs.Acts.{CanTouch, mark_act, lock_act, unlock_act}
+use Rattle.ipcz_world.proofs.facts.Updates.{CanTouch, mark_act, lock_act, unlock_act}
 use Rattle.ipcz_world.proofs.facts.LinkTests.{side_is}
 use Rattle.ipcz_world.proofs.facts.Lengths.{same_side-itself}
 use Rattle.ipcz_world.proofs.frames.OneRouter.{SameButRouter, SameWords, set-router, set-word}

@@ -3,20 +3,12 @@ use Rattle.std.specs.Prelude.{◌≡◌, ◌<◌, ℕ, true, false, nat_lt, Some
 use Rattle.std.proofs.Common.{arith, ap, sym, subst, refl, inl, ◌∙◌}
 use Rattle.std.proofs.lemmas.Bool.Decides.{nat_tests}
 use Rattle.ipcz_node.specs.declared.act.Act.{Act}
-use Rattle.ipcz_node.specs.declared.happened.Happened.{Happened}
+use Rattle.ipcz_world.proofs.Vocabulary.{World, Books, after_act, node_at, unless, Happened, Turn, advance, Lawful, IsLawful, Routes, routes_after}
+use Rattle.ipcz_world.proofs.Vocabulary.{Effect, StepAny, turn_step, IsRegular, turn_event, turn_lacks_serials}
 use Rattle.ipcz_world.specs.declared.step.NotTaken.{NotTaken}
-use Rattle.ipcz_world.specs.declared.step.Step.TheVariants.{Turn}
 use Rattle.ipcz_world.specs.declared.step.Reply.TheVariants.{Turned}
-use Rattle.ipcz_world.proofs.Vocabulary.{World, Books, after_act, node_at, unless}
 use Rattle.ipcz_world.specs.Asking.{IsActed}
-use Rattle.ipcz_world.specs.Books.{advance}
-use Rattle.ipcz_world.specs.Lawful.{Lawful}
-use Rattle.ipcz_world.specs.Lawfulness.{IsLawful}
 use Rattle.ipcz_world.specs.Plain.{Plain}
-use Rattle.ipcz_world.specs.Routes.{Routes, routes_after}
-use Rattle.ipcz_world.specs.Steps.{Effect, StepAny, turn_step}
-use Rattle.ipcz_world.specs.Taking.{IsRegular}
-use Rattle.ipcz_world.specs.Turns.{turn_event, turn_lacks_serials}
 use Rattle.ipcz_world.proofs.Whole.{each_step_keeps_lawful, replies_plainly}
 
 -- the sender of the message in a node's hand is a node

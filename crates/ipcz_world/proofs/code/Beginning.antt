@@ -2,12 +2,12 @@
 use Rattle.std.specs.Prelude.{◌≡◌, ◌<◌, ◌≤◌, ◌-◌, ◌+◌, ℕ, zero, suc, List, [], ◌∷◌, ◌++◌, map, replicate, refl}
 use Rattle.std.proofs.Common.{arith, ap, sym, ◌∙◌, append_assoc, append-nil}
 use Rattle.std.proofs.lemmas.List.{map-append, length-replicate}
-use Rattle.ipcz_world.proofs.Vocabulary.{Node, empty_word, open_word}
+use Rattle.ipcz_world.proofs.Vocabulary.{Node, empty_word, open_word, numbers_from}
 use Rattle.ipcz_node.specs.FirstPairs.{new_node}
 use Rattle.ipcz_node.specs.RoomyNodes.{RoomyNode}
 use Rattle.ipcz_word.specs.Layout.{word_of_bits}
 use Rattle.ipcz_world.specs.Coding.{laid_table}
-use Rattle.ipcz_world.specs.World.{new_nodes, numbers_from}
+use Rattle.ipcz_world.specs.World.{new_nodes}
 use Rattle.ipcz_world.proofs.code.StatesOfNodes.{nodes_of}
 use Rattle.ipcz_world.proofs.code.Tables.{open_number}
 

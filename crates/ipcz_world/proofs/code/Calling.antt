@@ -2,24 +2,22 @@
 use Rattle.std.specs.Prelude.{◌≡◌, ◌<◌, ◌+◌, ℕ, true, false, nat_lt, Option, Some, None, Result, Ok, Err, OnOk, IfOk, IfErr, unwrap_or, length}
 use Rattle.std.proofs.Common.{arith, ap, sym, subst, refl, inl, inr, ◌∙◌}
 use Rattle.std.proofs.lemmas.Bool.Decides.{nat_tests}
-use Rattle.ipcz_world.proofs.Vocabulary.{Refusal, Reply, End, Item, put_place, current_item, empty_word, open_word, Node, Found}
-use Rattle.ipcz_world.proofs.Vocabulary.{bare_node, terminal_of, World, node_at, set_node, set_word, set_claimed, unless}
+use Rattle.ipcz_world.proofs.Vocabulary.{Refusal, Reply, End, Item, put_place, current_item, empty_word, open_word, Node, Found, bare_node}
+use Rattle.ipcz_world.proofs.Vocabulary.{terminal_of, World, node_at, set_node, set_word, set_claimed, unless, Mark, Gone, Profile, put_refusal}
+use Rattle.ipcz_world.proofs.Vocabulary.{put_node, get_refusal, get_node, close_refusal, close_node, serials_refusal, open_node, HasLengths}
+use Rattle.ipcz_world.proofs.Vocabulary.{WordTable, Effect, at_node, GivesOrNoMemory, open_with, open_on, close_step, has_unclaimed_word}
 use Rattle.ipcz_base.specs.declared.refusal.Refusal.TheVariants.{OutOfMemory, NoWord}
 use Rattle.ipcz_world.specs.declared.step.Reply.TheVariants.{Put, Got, Closed, Refused}
-use Rattle.ipcz_base.specs.declared.item.Item.TheVariants.{Parcel as OfParcel, Mark, Gone}
+use Rattle.ipcz_base.specs.declared.item.Item.TheVariants.{Parcel as OfParcel}
 use Rattle.ipcz_base.specs.declared.parcel.Parcel as parcels
-use Rattle.ipcz_base.specs.declared.profile.Profile.{Profile}
-use Rattle.ipcz_node.specs.Calls.{put_refusal, put_node, put_number, get_refusal, get_node, got_at, got_at_found, item_got, close_refusal}
-use Rattle.ipcz_node.specs.Calls.{close_node, serials_refusal, open_node}
+use Rattle.ipcz_node.specs.Calls.{put_number, got_at, got_at_found, item_got}
 use Rattle.ipcz_node.specs.declared.state.calls.PutRefused.{PutRefused}
-use Rattle.ipcz_world.specs.Soundness.{HasLengths}
-use Rattle.ipcz_world.specs.Coding.{WordTable, put_word}
+use Rattle.ipcz_world.specs.Coding.{put_word}
 use Rattle.ipcz_world.proofs.code.RouterActs.{retabled}
 use Rattle.ipcz_world.proofs.code.Slots.{length-put}
 use Rattle.ipcz_world.proofs.code.Taken.{with_node, unchanged}
-use Rattle.ipcz_world.specs.Steps.{Effect, at_node, is_refused, Gives, GivesOrNoMemory, PutGives, got_reply, get_reply, open_with}
-use Rattle.ipcz_world.specs.Steps.{open_on, put_reply, put_step, get_step, close_step}
-use Rattle.ipcz_world.specs.World.{has_unclaimed_word}
+use Rattle.ipcz_world.specs.Steps.{is_refused, Gives, PutGives, got_reply, get_reply}
+use Rattle.ipcz_world.specs.Steps.{put_reply, put_step, get_step}
 use Rattle.ipcz_world.specs.Steps.{opened_reply}
 
 -- what is done at a node of the world

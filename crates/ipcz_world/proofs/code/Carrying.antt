@@ -5,37 +5,26 @@ use Rattle.std.specs.Prelude.{refl}
 use Rattle.std.proofs.Common.{arith, ap, sym, subst, ◌∙◌}
 use Rattle.std.proofs.lemmas.Bool.Decides.{nat_tests}
 use Rattle.std.specs.FinMap.{get}
-use Rattle.ipcz_base.specs.Limits.{no_number}
+use Rattle.ipcz_world.proofs.Vocabulary.{Node, Router, World, Message, Empty, commit, opposite, with_router, node_at, router_in, set_mail, set_node}
+use Rattle.ipcz_world.proofs.Vocabulary.{way, LinkEnd, no_number, Plain, pop_out, rest, flagged_router, act_lacks_serials, are_empty, close_turn}
+use Rattle.ipcz_world.proofs.Vocabulary.{router_turn, node_limit, Mail, IsLone, with_hand, next_node, IsRegular, is_full, is_idle, next_at}
+use Rattle.ipcz_world.proofs.Vocabulary.{turn_lacks_serials, SendsNext, IsPassing}
 use Rattle.ipcz_router.specs.declared.act.RouterAct.TheVariants as router_acts
-use Rattle.ipcz_router.specs.declared.act.Answer.TheVariants.{Plain}
-use Rattle.ipcz_router.specs.Acts.{pop_out, rest}
 use Rattle.ipcz_router.specs.Calls.{accept_from_outward}
 use Rattle.ipcz_router.proofs.LoneRouters.{still_rests}
 use Rattle.ipcz_node.specs.declared.act.Act.TheVariants as acts
-use Rattle.ipcz_node.specs.Node.{found, flagged_router}
-use Rattle.ipcz_node.specs.Acts.{act_lacks_serials, are_empty, close_turn, router_turn}
+use Rattle.ipcz_node.specs.Node.{found}
 use Rattle.ipcz_node.specs.Lone.{TakesItem}
 use Rattle.ipcz_node.proofs.Carrying.{rests_without}
 use Rattle.ipcz_node.proofs.LoneNodes.{OnlyFlagged, none_flagged, rested, stands, still_flagged, takes_freely, takes_it}
-use Rattle.ipcz_world.proofs.Vocabulary.{Node, Router, World, Message, Empty, commit, opposite, with_router}
-use Rattle.ipcz_world.proofs.Vocabulary.{node_at, router_in, set_mail, set_node, way}
-use Rattle.ipcz_world.proofs.Vocabulary.{LinkEnd}
-use Rattle.ipcz_world.specs.World.{node_limit}
-use Rattle.ipcz_world.specs.declared.mail.Mail.{Mail}
 use Rattle.ipcz_world.specs.declared.mail.Mail.TheVariants.{Hand}
-use Rattle.ipcz_world.specs.Carrying.{HasCome, IsLone, with_hand}
-use Rattle.ipcz_world.specs.Settling.{next_node}
-use Rattle.ipcz_world.specs.Taking.{IsRegular}
-use Rattle.ipcz_world.specs.Turns.{is_full, is_idle}
-use Rattle.ipcz_world.specs.Turns.{next_at, turn_lacks_serials}
+use Rattle.ipcz_world.specs.Carrying.{HasCome}
 use Rattle.ipcz_world.proofs.code.LoneWorlds.{sends-last, Quiet, quiet_is, own_act, pair, pair-box}
 use Rattle.ipcz_world.proofs.code.LoneWorlds.{node-sender, node-taker, none-elsewhere, none-to}
 use Rattle.ipcz_world.proofs.code.LoneWorlds.{write-sender, write-taker}
 use Rattle.ipcz_world.proofs.acts.Updating.{node-here, set-twice}
 use Rattle.ipcz_world.proofs.code.Visiting.{OnWay}
 use Rattle.ipcz_world.proofs.facts.Finding.{found_there}
-use Rattle.ipcz_node.specs.Lone.{SendsNext}
-use Rattle.ipcz_world.specs.Carrying.{IsPassing}
 use Rattle.ipcz_world.proofs.code.GoingOn.{go-on, next-busy, router-acts}
 use Rattle.ipcz_world.proofs.code.LoneWorlds.{as_sender}
 use Rattle.ipcz_world.proofs.code.Passing.{hand-on, idle-others, passed-first, passing-alone, sent_message}

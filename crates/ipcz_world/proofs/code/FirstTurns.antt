@@ -2,16 +2,15 @@
 use Rattle.std.specs.Prelude.{◌≡◌, ◌⊎◌, ◌<◌, ℕ, Bool, true, false, nat_lt, if◌then◌else◌, Ok, Err}
 use Rattle.std.proofs.Common.{arith, ap, sym, refl, inl, inr, ◌∙◌}
 use Rattle.std.proofs.lemmas.Bool.Decides.{nat_tests}
-use Rattle.ipcz_world.proofs.Vocabulary.{Refusal, Act, World, after_act, unless}
+use Rattle.ipcz_world.proofs.Vocabulary.{Refusal, Act, World, after_act, unless, Happened, Turn, turn_event, turn_lacks_serials, Effect, refuse}
+use Rattle.ipcz_world.proofs.Vocabulary.{turn_step}
 use Rattle.ipcz_base.specs.declared.refusal.Refusal.TheVariants.{NumbersEnd, OutOfMemory}
 use Rattle.ipcz_router.specs.declared.act.RouterAct.TheVariants as acts
 use Rattle.ipcz_node.specs.declared.act.Act.TheVariants.{Router as OfRouter}
-use Rattle.ipcz_node.specs.declared.happened.Happened.{Happened}
 use Rattle.ipcz_node.specs.Acts.{stand_in}
-use Rattle.ipcz_world.specs.declared.step.Step.TheVariants.{Turn}
 use Rattle.ipcz_world.specs.declared.step.Reply.TheVariants.{Turned, Refused}
-use Rattle.ipcz_world.specs.Turns.{turn_event, turn_lacks_serials, turn_grows}
-use Rattle.ipcz_world.specs.Steps.{Effect, refuse, turn_step, is_refused, FirstAct, StepFirst}
+use Rattle.ipcz_world.specs.Turns.{turn_grows}
+use Rattle.ipcz_world.specs.Steps.{is_refused, FirstAct, StepFirst}
 use Rattle.ipcz_world.specs.Taking.{IsTaken, ToldTurn}
 
 module _ {X : Type 0} (tells : Happened → X → Type 0) (w : World) (n : ℕ) (act : Act) (here : n < w.count) where

@@ -3,14 +3,10 @@ use Rattle.std.specs.Prelude.{◌≡◌, ◌<◌, ℕ, ◌+◌, Bool, true, fals
 use Rattle.std.proofs.Common.{arith, ap, sym, ◌∙◌, inl, inr}
 use Rattle.std.proofs.lemmas.Bool.Decides.{nat_tests}
 use Rattle.std.specs.FinMap.{get}
-use Rattle.ipcz_router.specs.declared.act.Answer.TheVariants.{Plain}
+use Rattle.ipcz_world.proofs.Vocabulary.{Router, World, Act, RouterAct, after_act, commit, node_at, router_at, set_node, Plain, Happened, next_node}
+use Rattle.ipcz_world.proofs.Vocabulary.{after_router_act, is_idle, next_at, turn_event, turn_lacks_serials, touch}
 use Rattle.ipcz_node.specs.declared.act.Act.TheVariants as acts
-use Rattle.ipcz_node.specs.declared.happened.Happened.{Happened}
-use Rattle.ipcz_world.proofs.Vocabulary.{Router, World, Act, RouterAct, after_act, commit, node_at, router_at, set_node}
-use Rattle.ipcz_world.specs.Settling.{next_node}
-use Rattle.ipcz_world.specs.Turns.{after_router_act, is_idle, next_at, turn_event, turn_lacks_serials}
 use Rattle.ipcz_world.specs.Visiting.{IsNextBusy}
-use Rattle.ipcz_world.specs.WordAnswers.{touch}
 use Rattle.ipcz_world.specs.Wordless.{is_wordless}
 use Rattle.ipcz_world.proofs.code.FirstTurns.{step-taken}
 use Rattle.ipcz_world.proofs.code.Visiting.{OnWay, on_way-turn}

@@ -1,10 +1,7 @@
 -- A world to which words were added, or which is as it was since there was no room for them, is lawful still.
 use Rattle.std.specs.Prelude.{◌≡◌, ℕ, Result, Ok, Err, OnOk, OnErr}
 use Rattle.std.proofs.Common.{subst, sym}
-use Rattle.ipcz_world.proofs.Vocabulary.{World, Books}
-use Rattle.ipcz_world.specs.Routes.{Routes}
-use Rattle.ipcz_world.specs.Lawful.{Lawful}
-use Rattle.ipcz_world.specs.Lawfulness.{IsLawful}
+use Rattle.ipcz_world.proofs.Vocabulary.{World, Books, Routes, Lawful, IsLawful}
 use Rattle.ipcz_world.specs.HeldEnds.{grown}
 use Rattle.ipcz_world.proofs.runs.PassingOver.{growing_keeps_lawful}
 

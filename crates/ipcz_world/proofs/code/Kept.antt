@@ -1,17 +1,10 @@
 -- A step of a lawful world: what it leads to is lawful, and its reply is one that the books allow.
 use Rattle.std.specs.Prelude.{ℕ, Bool, true, false, List, [], ◌∷◌}
 use Rattle.std.proofs.Common.{subst, sym}
-use Rattle.ipcz_world.specs.declared.step.Step.{Step}
-use Rattle.ipcz_world.specs.declared.step.Step.TheVariants.{Turn}
+use Rattle.ipcz_world.proofs.Vocabulary.{Reply, World, Books, Step, Turn, next_node, Walk, advance, Routes, routes_after, Lawful, IsLawful}
 use Rattle.ipcz_world.specs.declared.step.Reply.TheVariants.{Turned}
-use Rattle.ipcz_world.specs.Settling.{AreVisits, next_node}
-use Rattle.ipcz_world.specs.Visiting.{Walk}
-use Rattle.ipcz_world.proofs.Vocabulary.{Reply, World, Books}
+use Rattle.ipcz_world.specs.Settling.{AreVisits}
 use Rattle.ipcz_world.specs.Steps.{StepFirst}
-use Rattle.ipcz_world.specs.Books.{advance}
-use Rattle.ipcz_world.specs.Routes.{Routes, routes_after}
-use Rattle.ipcz_world.specs.Lawful.{Lawful}
-use Rattle.ipcz_world.specs.Lawfulness.{IsLawful}
 use Rattle.ipcz_world.specs.Plain.{Plain}
 use Rattle.ipcz_world.proofs.Whole.{each_step_keeps_lawful, first_acts_are_possible, replies_plainly}
 

@@ -11,13 +11,12 @@ use Rattle.ipcz_router.specs.Router.{Router}
 use Rattle.ipcz_router.specs.declared.act.RouterAct.{RouterAct}
 use Rattle.ipcz_router.specs.declared.act.RouterAct.TheVariants.{SendOut, SendIn, Discard, FinishOut, FinishIn, Leave, Mark, Wake, Claim}
 use Rattle.ipcz_router.specs.declared.act.RouterAct.TheVariants.{Lock, Begin, Retire, Unlock, Rest}
-use Rattle.ipcz_node.specs.Hands.{is_hand_of}
+use Rattle.ipcz_world.proofs.Vocabulary.{is_hand_of, Look, Post, Idle, can_act, may_act, router_of, numbers_from}
 use Rattle.ipcz_node.specs.declared.act.Act.{Act}
-use Rattle.ipcz_node.specs.declared.act.Act.TheVariants.{Hand, Look, Post, Close, Router as OfRouter, Idle}
-use Rattle.ipcz_world.specs.Asking.{can_act}
+use Rattle.ipcz_node.specs.declared.act.Act.TheVariants.{Hand, Close, Router as OfRouter}
 use Rattle.ipcz_world.specs.Listing.{acts_in_order, acts_of_hand, acts_of_pending, acts_of_routers, AreAllPossible, AreDistinct, ArePossible, IsAmong, possible_acts, router_acts}
-use Rattle.ipcz_world.specs.Turns.{can_take, is_first_pending, may_act, router_of}
-use Rattle.ipcz_world.specs.World.{World, node_at, numbers_from, router_at}
+use Rattle.ipcz_world.specs.Turns.{can_take, is_first_pending}
+use Rattle.ipcz_world.specs.World.{World, node_at, router_at}
 use Rattle.ipcz_world.proofs.facts.LinkTests.{same_end-tells}
 use Rattle.ipcz_world.proofs.facts.Reaching.{left, less, right}
 use Rattle.ipcz_world.proofs.facts.Tests.{and_first, and_second}

@@ -9,9 +9,9 @@ use Rattle.ipcz_router.specs.declared.act.RouterAct.{RouterAct}
 use Rattle.ipcz_node.specs.declared.act.Act.{Act}
 use Rattle.ipcz_node.specs.declared.act.Act.TheVariants.{Router as OfRouter}
 use Rattle.ipcz_node.specs.Serials.{entries_by}
-use Rattle.ipcz_world.specs.Asking.{can_act}
+use Rattle.ipcz_world.proofs.Vocabulary.{can_act, numbers_from}
 use Rattle.ipcz_world.specs.Listing.{acts_in_order, acts_of_routers, possible_acts, router_acts}
-use Rattle.ipcz_world.specs.World.{World, numbers_from}
+use Rattle.ipcz_world.specs.World.{World}
 
 -- the acts about the numbers from one on
 abbrev pub numbers_left : (ℕ → Act) → ℕ → ℕ → List Act

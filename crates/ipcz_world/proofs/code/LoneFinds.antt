@@ -4,10 +4,10 @@ use Rattle.std.proofs.Common.{arith, ap, sym, subst, ◌∙◌, true≢false}
 use Rattle.std.proofs.lemmas.Bool.Decides.{nat_tests}
 use Rattle.std.specs.FinMap.{get}
 use Rattle.ipcz_router.specs.Lone.{last_link, next_link}
-use Rattle.ipcz_node.specs.Acts.{is_quiet}
-use Rattle.ipcz_node.specs.Lone.{SendsNext, SendsOnly}
-use Rattle.ipcz_world.proofs.Vocabulary.{LinkEnd, Message, Node, Router, World, node_at, router_in, set_mail, set_node}
-use Rattle.ipcz_world.specs.Carrying.{IsLone, IsLoneNode, IsLoneSender, with_hand}
+use Rattle.ipcz_world.proofs.Vocabulary.{LinkEnd, Message, Node, Router, World, node_at, router_in, set_mail, set_node, is_quiet, SendsNext, IsLone}
+use Rattle.ipcz_world.proofs.Vocabulary.{with_hand}
+use Rattle.ipcz_node.specs.Lone.{SendsOnly}
+use Rattle.ipcz_world.specs.Carrying.{IsLoneNode, IsLoneSender}
 use Rattle.ipcz_world.proofs.acts.Updating.{node-here}
 use Rattle.ipcz_world.proofs.code.LoneWorlds.{quiet_is}
 use Rattle.ipcz_world.proofs.facts.Finding.{found_there}

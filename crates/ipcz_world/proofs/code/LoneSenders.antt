@@ -4,9 +4,7 @@ use Rattle.std.proofs.Common.{arith, ap, subst, sym, ◌∙◌}
 use Rattle.std.specs.Ordering.{nat_cmp}
 use Rattle.std.specs.FinMap.{FinMap, get, insert}
 use Rattle.ipcz_world.proofs.Vocabulary.{Item, LinkEnd, Node, Router, World, bare_node, current_item, node_at, put_place, router_in, set_node}
-use Rattle.ipcz_world.proofs.Vocabulary.{with_router}
-use Rattle.ipcz_world.specs.Carrying.{IsLone}
-use Rattle.ipcz_world.specs.Soundness.{HasLengths}
+use Rattle.ipcz_world.proofs.Vocabulary.{with_router, IsLone, HasLengths}
 use Rattle.ipcz_world.proofs.facts.Finding.{get_inserted}
 use Rattle.ipcz_world.proofs.code.LoneWorlds.{sends-last}
 use Rattle.ipcz_world.proofs.code.Slots.{length-put}

@@ -4,25 +4,18 @@ use Rattle.std.specs.Prelude.{Option, Some, None, if◌then◌else◌, is_none, 
 use Rattle.std.proofs.Common.{arith, ap, sym, ◌∙◌}
 use Rattle.std.proofs.lemmas.Bool.{and_parts}
 use Rattle.std.proofs.lemmas.Bool.Decides.{nat_tests}
-use Rattle.ipcz_world.proofs.Vocabulary.{Node, World, bare_node, Empty, mail_at, node_at, set_mail, set_node, way}
-use Rattle.ipcz_world.proofs.Vocabulary.{place_at, put_place}
+use Rattle.ipcz_world.proofs.Vocabulary.{Node, World, bare_node, Empty, mail_at, node_at, set_mail, set_node, way, place_at, put_place, LinkEnd}
+use Rattle.ipcz_world.proofs.Vocabulary.{Router, item_passes, SendsNext, node_limit, IsLone, flagged_router, are_empty, close_turn, first_number}
+use Rattle.ipcz_world.proofs.Vocabulary.{has_mail_for, is_quiet, router_turn, Mail, HasLengths, is_clear, is_full, is_idle, next_at, seen_at}
 use Rattle.std.specs.FinMap.{len}
 use Rattle.ipcz_base.specs.Items.{ends_in}
 use Rattle.ipcz_seq.specs.Queue.{current_item}
-use Rattle.ipcz_router.specs.Acts.{item_passes}
 use Rattle.ipcz_router.specs.Lone.{is_settled, last_link, next_link}
 use Rattle.ipcz_router.proofs.LoneRouters.{last_told, next_told, SendsFirst, SendsLast}
-use Rattle.ipcz_node.specs.Lone.{SendsNext, SendsOnly}
-use Rattle.ipcz_world.specs.World.{node_limit}
-use Rattle.ipcz_world.specs.Carrying.{IsLone, IsLoneSender}
-use Rattle.ipcz_world.proofs.Vocabulary.{LinkEnd, Router}
-use Rattle.ipcz_node.specs.Node.{flagged_router}
-use Rattle.ipcz_node.specs.Acts.{are_empty, close_turn, first_destination, first_number, first_sender, has_mail_for, is_quiet, next, node_turn}
-use Rattle.ipcz_node.specs.Acts.{router_turn}
+use Rattle.ipcz_node.specs.Lone.{SendsOnly}
+use Rattle.ipcz_world.specs.Carrying.{IsLoneSender}
+use Rattle.ipcz_node.specs.Acts.{first_destination, first_sender, next, node_turn}
 use Rattle.ipcz_node.specs.declared.act.Act.TheVariants as acts
-use Rattle.ipcz_world.specs.declared.mail.Mail.{Mail}
-use Rattle.ipcz_world.specs.Soundness.{HasLengths}
-use Rattle.ipcz_world.specs.Turns.{is_clear, is_full, is_idle, next_at, seen_at}
 use Rattle.ipcz_world.proofs.OwnTurns.{idle_own}
 use Rattle.ipcz_world.proofs.acts.Updating.{put-twice}
 use Rattle.ipcz_world.proofs.code.SeenMail.{no_destination, no_sender_to, only_found, sees_empty, sees_full}

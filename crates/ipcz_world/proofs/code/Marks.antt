@@ -2,12 +2,11 @@
 use Rattle.std.specs.Prelude.{◌≡◌, ◌<◌, ◌≤◌, ℕ, zero, suc, ◌+◌, Bool, true, false, cond, not, ◌&&◌, ◌-◌, Some, List, [], ◌∷◌, length, replicate}
 use Rattle.std.proofs.Common.{arith, ap, sym, refl, get_or, set, ◌∙◌}
 use Rattle.ipcz_base.specs.declared.message.Message.{Message}
-use Rattle.ipcz_world.specs.declared.mail.Mail.{Mail}
+use Rattle.ipcz_world.proofs.Vocabulary.{place_at, put_place, total_list, Mail, is_full, is_clear, higher, highest}
 use Rattle.ipcz_world.specs.declared.mail.Mail.TheVariants.{Empty, Full, Hand}
 use Rattle.ipcz_world.specs.Mailing.{taken_up, put_down, as_marked, as_they_stand, count_full, AreKept}
-use Rattle.ipcz_world.specs.Turns.{is_full, is_clear, hand_message}
-use Rattle.ipcz_world.specs.SettleLimit.{higher, highest, gone_mailed}
-use Rattle.ipcz_world.proofs.Vocabulary.{place_at, put_place, total_list}
+use Rattle.ipcz_world.specs.Turns.{hand_message}
+use Rattle.ipcz_world.specs.SettleLimit.{gone_mailed}
 use Rattle.ipcz_world.proofs.code.Slots.{get-place, length-put, place_read, put-same, set-place}
 use Rattle.ipcz_world.proofs.frames.Totalling.{total_list-put_place}
 use Rattle.ipcz_world.proofs.frames.Sums.{total_list-place}

@@ -5,39 +5,29 @@ use Rattle.std.specs.Prelude.{[], ◌∷◌, ◌++◌, length, refl}
 use Rattle.std.proofs.Common.{arith, ap, sym, subst, ◌∙◌}
 use Rattle.std.proofs.lemmas.Bool.Decides.{nat_tests}
 use Rattle.std.specs.FinMap.{get}
-use Rattle.ipcz_base.specs.Limits.{no_number}
+use Rattle.ipcz_world.proofs.Vocabulary.{Item, Node, Router, World, Message, Empty, bare_node, commit, current_item, outbox, opposite, router_in}
+use Rattle.ipcz_world.proofs.Vocabulary.{with_router, after_act, hand_message, mail_at, node_at, put_place, set_mail, set_node, way, LinkEnd}
+use Rattle.ipcz_world.proofs.Vocabulary.{no_number, Plain, pop_out, flagged_router, push_out, act_lacks_serials, are_empty, close_turn, first_of}
+use Rattle.ipcz_world.proofs.Vocabulary.{has_mail_for, post_of, rest_of, router_turn, deliver, fits, SendsNext, node_limit, Mail, IsPassing}
+use Rattle.ipcz_world.proofs.Vocabulary.{with_hand, next_node, IsRegular, HasLengths, after_hand, after_look, after_post, full_message, is_clear}
+use Rattle.ipcz_world.proofs.Vocabulary.{is_full, is_idle, next_at, turn_lacks_serials, Walk, source_for, is_quiet}
 use Rattle.ipcz_base.proofs.Indexed.{place_at-put_place}
 use Rattle.ipcz_router.specs.declared.act.RouterAct.TheVariants as router_acts
-use Rattle.ipcz_router.specs.declared.act.Answer.TheVariants.{Plain}
-use Rattle.ipcz_router.specs.Acts.{pop_out}
 use Rattle.ipcz_router.proofs.LoneRouters.{SendsFirst, next_told, sends_next}
 use Rattle.ipcz_node.specs.declared.act.Act.TheVariants as acts
-use Rattle.ipcz_node.specs.Node.{flagged_router, push_out}
-use Rattle.ipcz_node.specs.Acts.{act_lacks_serials, are_empty, close_turn, first_of, has_mail_for, post_of, rest_of, router_turn}
-use Rattle.ipcz_node.specs.Hands.{deliver, fits, fits_item, message_lacks_serials}
-use Rattle.ipcz_node.specs.Lone.{SendsNext}
+use Rattle.ipcz_node.specs.Hands.{fits_item, message_lacks_serials}
 use Rattle.ipcz_node.proofs.LoneNodes.{first_freely, first_message, first_sent, item_unheld, lowest_flagged}
 use Rattle.ipcz_node.proofs.Mailing.{empty_box}
-use Rattle.ipcz_world.proofs.Vocabulary.{Item, Node, Router, World, Message, Empty, bare_node, commit, current_item, outbox, opposite, router_in, with_router}
-use Rattle.ipcz_world.proofs.Vocabulary.{after_act, hand_message, mail_at, node_at, put_place, set_mail, set_node, way, LinkEnd}
-use Rattle.ipcz_world.specs.World.{node_limit}
-use Rattle.ipcz_world.specs.declared.mail.Mail.{Mail}
 use Rattle.ipcz_world.specs.declared.mail.Mail.TheVariants.{Full, Hand}
-use Rattle.ipcz_world.specs.Carrying.{IsLoneSender, IsPassing, lone_message, with_hand}
-use Rattle.ipcz_world.specs.Settling.{next_node}
-use Rattle.ipcz_world.specs.Taking.{IsRegular}
-use Rattle.ipcz_world.specs.Soundness.{HasLengths}
-use Rattle.ipcz_world.specs.Turns.{after_hand, after_look, after_post, full_message, hand_lacks_serials, is_clear, is_full, is_idle, next_at}
-use Rattle.ipcz_world.specs.Turns.{turn_lacks_serials}
-use Rattle.ipcz_world.specs.Visiting.{IsNextBusy, Walk}
-use Rattle.ipcz_world.specs.WordAnswers.{source_for}
+use Rattle.ipcz_world.specs.Carrying.{IsLoneSender, lone_message}
+use Rattle.ipcz_world.specs.Turns.{hand_lacks_serials}
+use Rattle.ipcz_world.specs.Visiting.{IsNextBusy}
 use Rattle.ipcz_world.proofs.code.GoingOn.{first-busy, go-on, next-busy, router-acts}
 use Rattle.ipcz_world.proofs.code.LoneWorlds.{Quiet, hand_act, look_act, own_act, post_act, put-apart, quiet_idle, quiet_is, pair, pair-start}
 use Rattle.ipcz_world.proofs.code.LoneWorlds.{box-here, node-other, node-sender, node-taker, none-elsewhere, none-from, none-to}
 use Rattle.ipcz_world.proofs.code.LoneWorlds.{write-box, write-sender, write-taker}
 use Rattle.ipcz_world.proofs.code.LoneSenders.{lengths-kept}
 use Rattle.ipcz_world.proofs.frames.Frames.{node-set_node}
-use Rattle.ipcz_node.specs.Acts.{is_quiet}
 use Rattle.ipcz_world.proofs.acts.Updating.{node-here, put-twice}
 use Rattle.ipcz_world.proofs.code.Slots.{put-same}
 use Rattle.ipcz_world.proofs.code.Visiting.{OnWay, next-place, on_way-start, on_way-walked, walked}

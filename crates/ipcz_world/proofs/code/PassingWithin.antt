@@ -3,31 +3,24 @@ use Rattle.std.specs.Prelude.{◌≡◌, ◌≤◌, ◌<◌, ℕ, ◌+◌, Bool,
 use Rattle.std.proofs.Common.{arith, ap, sym, subst, ◌∙◌, inl, inr}
 use Rattle.std.proofs.lemmas.Bool.Decides.{nat_tests}
 use Rattle.std.specs.FinMap.{get}
-use Rattle.ipcz_base.specs.Limits.{no_number}
+use Rattle.ipcz_world.proofs.Vocabulary.{Node, World, Message, Empty, bare_node, commit, opposite, outbox, after_act, hand_message, mail_at, node_at}
+use Rattle.ipcz_world.proofs.Vocabulary.{put_place, set_mail, set_node, way, LinkEnd, no_number, Plain, flagged_router, on_router, send, rest, apply}
+use Rattle.ipcz_world.proofs.Vocabulary.{leaves_by, act_lacks_serials, are_empty, close_turn, commit_router, first_of, has_mail_for, keep_or_drop}
+use Rattle.ipcz_world.proofs.Vocabulary.{post_of, router_turn, deliver, fits, SendsNext, node_limit, Mail, IsPassing, with_hand, next_node}
+use Rattle.ipcz_world.proofs.Vocabulary.{after_hand, after_look, after_post, full_message, is_clear, is_full, is_idle, next_at, turn_lacks_serials}
+use Rattle.ipcz_world.proofs.Vocabulary.{Walk, source_for}
 use Rattle.ipcz_router.specs.declared.act.RouterAct.TheVariants as router_acts
-use Rattle.ipcz_router.specs.declared.act.Answer.TheVariants.{Plain}
 use Rattle.ipcz_node.specs.declared.act.Act.TheVariants as acts
-use Rattle.ipcz_node.specs.Node.{Found, flagged_router, on_router, router_in, with_router}
-use Rattle.ipcz_node.specs.Sends.{send}
+use Rattle.ipcz_node.specs.Node.{Found, router_in, with_router}
 use Rattle.ipcz_base.specs.declared.end.End.{End}
 use Rattle.ipcz_router.specs.Router.{Router}
-use Rattle.ipcz_router.specs.Acts.{rest}
-use Rattle.ipcz_router.specs.ActEffects.{apply, leaves_by, output_of}
-use Rattle.ipcz_node.specs.Acts.{act_lacks_serials, are_empty, close_turn, commit_router, first_of, has_mail_for, keep_or_drop, post_of, router_turn}
-use Rattle.ipcz_node.specs.Hands.{deliver, fits, fits_item, message_lacks_serials}
-use Rattle.ipcz_node.specs.Lone.{RestsNext, SendsNext}
+use Rattle.ipcz_router.specs.ActEffects.{output_of}
+use Rattle.ipcz_node.specs.Hands.{fits_item, message_lacks_serials}
+use Rattle.ipcz_node.specs.Lone.{RestsNext}
 use Rattle.ipcz_node.proofs.LoneNodes.{first_freely, first_sent, item_unheld}
-use Rattle.ipcz_world.proofs.Vocabulary.{Node, World, Message, Empty, bare_node, commit, opposite, outbox}
-use Rattle.ipcz_world.proofs.Vocabulary.{after_act, hand_message, mail_at, node_at, put_place, set_mail, set_node, way, LinkEnd}
-use Rattle.ipcz_world.specs.World.{node_limit}
-use Rattle.ipcz_world.specs.declared.mail.Mail.{Mail}
 use Rattle.ipcz_world.specs.declared.mail.Mail.TheVariants.{Full, Hand}
-use Rattle.ipcz_world.specs.Carrying.{IsPassing, with_hand}
-use Rattle.ipcz_world.specs.Settling.{next_node}
-use Rattle.ipcz_world.specs.Turns.{after_hand, after_look, after_post, full_message, hand_lacks_serials, is_clear, is_full, is_idle, next_at}
-use Rattle.ipcz_world.specs.Turns.{turn_lacks_serials}
-use Rattle.ipcz_world.specs.Visiting.{IsNextBusy, IsPlace, Walk}
-use Rattle.ipcz_world.specs.WordAnswers.{source_for}
+use Rattle.ipcz_world.specs.Turns.{hand_lacks_serials}
+use Rattle.ipcz_world.specs.Visiting.{IsNextBusy, IsPlace}
 use Rattle.ipcz_world.proofs.acts.Updating.{node-here, put-twice, set-twice}
 use Rattle.ipcz_world.proofs.code.GoingOn.{go-on, router-acts}
 use Rattle.ipcz_world.proofs.code.LoneWorlds.{Quiet, hand_act, look_act, own_act, post_act, quiet_idle, quiet_is, way-apart, way-from, way-within}

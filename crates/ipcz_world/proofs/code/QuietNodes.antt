@@ -4,14 +4,12 @@ use Rattle.std.proofs.Common.{arith, ap, ◌∙◌, inl, inr}
 use Rattle.ipcz_base.specs.Indexed.{place_at}
 use Rattle.ipcz_node.specs.declared.act.Act.TheVariants as acts
 use Rattle.ipcz_node.specs.Node.{Node}
-use Rattle.ipcz_node.specs.Acts.{first_number, has_mail_for, are_empty, is_quiet, next, node_turn}
-use Rattle.ipcz_world.specs.declared.mail.Mail.{Mail}
+use Rattle.ipcz_world.proofs.Vocabulary.{first_number, has_mail_for, are_empty, is_quiet, Mail, is_clear, is_full, is_idle, next_at, seen_at, IsQuiet}
+use Rattle.ipcz_world.proofs.Vocabulary.{IsRegular}
+use Rattle.ipcz_node.specs.Acts.{next, node_turn}
 use Rattle.ipcz_world.specs.declared.mail.Mail.TheVariants as mails
 use Rattle.ipcz_world.specs.World.{World, mail_at, node_at}
-use Rattle.ipcz_world.specs.Turns.{is_clear, is_full, is_idle, next_at, seen_at}
-use Rattle.ipcz_world.specs.Settling.{IsQuiet}
 use Rattle.ipcz_world.specs.Visiting.{IsNextBusy}
-use Rattle.ipcz_world.specs.Taking.{IsRegular}
 use Rattle.ipcz_world.proofs.OwnTurns.{idle_own}
 use Rattle.ipcz_world.proofs.code.SeenMail.{no_destination, no_sender}
 use Rattle.ipcz_world.proofs.facts.Tests.{none_is}

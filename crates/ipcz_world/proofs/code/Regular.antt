@@ -2,22 +2,18 @@
 use Rattle.std.specs.Prelude.{◌≡◌, ◌≤◌, ℕ, false, nat_lt, Option, Some, None, option_map, List}
 use Rattle.std.proofs.Common.{arith, ap, refl, inl}
 use Rattle.std.proofs.lemmas.Bool.Decides.{nat_tests}
-use Rattle.ipcz_base.specs.declared.profile.Profile.{Profile}
+use Rattle.ipcz_world.proofs.Vocabulary.{End, Reply, World, Router, LinkEnd, inward_edge, opposite, node_at, router_at, router_in, Profile, Step}
+use Rattle.ipcz_world.proofs.Vocabulary.{Turn, source_of, next_at, Effect, refuse, at_node, IsLawful, IsRegular}
 use Rattle.ipcz_base.specs.declared.profile.Profile.TheVariants as profiles
 use Rattle.ipcz_base.specs.declared.refusal.Refusal.TheVariants.{Stranger}
-use Rattle.ipcz_world.specs.declared.step.Step.{Step}
-use Rattle.ipcz_world.specs.declared.step.Step.TheVariants.{Open, Put, PutWide, Get, Close, Turn}
+use Rattle.ipcz_world.specs.declared.step.Step.TheVariants.{Open, Put, PutWide, Get, Close}
 use Rattle.ipcz_world.specs.declared.step.Reply.TheVariants.{Refused}
 use Rattle.ipcz_word.specs.Laws.{HasNode}
-use Rattle.ipcz_router.specs.Router.{source_of}
-use Rattle.ipcz_world.proofs.Vocabulary.{End, Reply, World, Router, LinkEnd, inward_edge, opposite, node_at, router_at, router_in}
-use Rattle.ipcz_world.specs.Turns.{next_at}
-use Rattle.ipcz_world.specs.Steps.{Effect, refuse, at_node, PutGives, put_of, put_step, StepFirst}
+use Rattle.ipcz_world.specs.Steps.{PutGives, put_of, put_step, StepFirst}
 use Rattle.ipcz_world.specs.World.{word_at}
 use Rattle.ipcz_world.specs.Records.{is_linked}
 use Rattle.ipcz_world.specs.Coding.{AreUnclaimedEmpty}
-use Rattle.ipcz_world.specs.Lawfulness.{IsLawful}
-use Rattle.ipcz_world.specs.Taking.{IsRegular, node_of}
+use Rattle.ipcz_world.specs.Taking.{node_of}
 use Rattle.ipcz_world.proofs.Whole.{lists_have_lengths}
 use Rattle.ipcz_world.proofs.lawful.Soundness.{node_names_claimed}
 use Rattle.ipcz_world.proofs.runs.Choosing.{first_taken}

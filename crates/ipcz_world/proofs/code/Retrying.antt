@@ -7,13 +7,11 @@ use Rattle.std.proofs.lemmas.Option.{same_Some}
 use Rattle.std.proofs.lemmas.Bool.{cases_lt}
 use Rattle.std.proofs.lemmas.Bool.Decides.{nat_tests}
 use Rattle.ipcz_router.specs.ActEffects.{rewet}
-use Rattle.ipcz_node.specs.Node.{router_in, with_router, on_router}
+use Rattle.ipcz_world.proofs.Vocabulary.{Router, Node, World, Key, same_key, Books, bare_node, place_at, node_at, router_at, set_node, on_router}
+use Rattle.ipcz_world.proofs.Vocabulary.{Routes, Lawful, IsLawful}
+use Rattle.ipcz_node.specs.Node.{router_in, with_router}
 use Rattle.ipcz_node.specs.Finding.{rewet_node}
 use Rattle.ipcz_node.specs.Finding as nodes
-use Rattle.ipcz_world.proofs.Vocabulary.{Router, Node, World, Key, same_key, Books, bare_node, place_at, node_at, router_at, set_node}
-use Rattle.ipcz_world.specs.Routes.{Routes}
-use Rattle.ipcz_world.specs.Lawful.{Lawful}
-use Rattle.ipcz_world.specs.Lawfulness.{IsLawful}
 use Rattle.ipcz_world.specs.HeldEnds.{wet_act}
 use Rattle.ipcz_world.specs.Owed.{IsWet}
 use Rattle.ipcz_world.specs.Retries.{LetAsk, LetAskAt, LetAskTold, LetsOneAsk, AllMayAsk, asking}

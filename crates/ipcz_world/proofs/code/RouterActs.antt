@@ -2,19 +2,16 @@
 use Rattle.std.specs.Prelude.{◌≡◌, ◌<◌, ◌+◌, ℕ, Bool, true, false, not, ◌&&◌, ◌||◌, nat_lt, if◌then◌else◌, Option, Some, None, is_some, option_map}
 use Rattle.std.specs.Prelude.{IfSome, length}
 use Rattle.std.proofs.Common.{arith, ap, sym, subst, refl, ◌∙◌}
-use Rattle.ipcz_world.proofs.Vocabulary.{Side, place_at, put_place, has, Word, empty_word, Router, primary_word, is_possible, RouterAct}
-use Rattle.ipcz_world.proofs.Vocabulary.{World, word_at, set_word, set_claimed, answer_of}
-use Rattle.ipcz_word.specs.Word.{plan_of, Plan, Locks, Waits, Refuses}
-use Rattle.ipcz_router.specs.Router.{source_of}
-use Rattle.ipcz_router.specs.ActTable.{may_take, is_rest, is_ready, is_leaving, can_begin, can_retire}
+use Rattle.ipcz_world.proofs.Vocabulary.{Side, place_at, put_place, has, Word, empty_word, Router, primary_word, is_possible, RouterAct, World}
+use Rattle.ipcz_world.proofs.Vocabulary.{word_at, set_word, set_claimed, answer_of, plan_of, Plan, Locks, Waits, Refuses, source_of, may_take}
+use Rattle.ipcz_world.proofs.Vocabulary.{is_rest, word_answer, link_answer, touch_word, touch, WordTable, HasLengths}
+use Rattle.ipcz_router.specs.ActTable.{is_ready, is_leaving, can_begin, can_retire}
 use Rattle.ipcz_router.specs.ActEffects.{IsAnswerOf}
 use Rattle.ipcz_router.specs.declared.act.RouterAct.TheVariants as acts
 use Rattle.ipcz_router.specs.declared.act.Answer.TheVariants as answers
-use Rattle.ipcz_world.specs.WordAnswers.{try_answer, word_answer, word_after, claim_answer, link_answer, touch_word, claim_next}
-use Rattle.ipcz_world.specs.WordAnswers.{touch}
-use Rattle.ipcz_world.specs.Coding.{WordTable, has_unclaimed, claim_one, is_claim, side_answer, side_after, table_answer, table_after}
+use Rattle.ipcz_world.specs.WordAnswers.{try_answer, word_after, claim_answer, claim_next}
+use Rattle.ipcz_world.specs.Coding.{has_unclaimed, claim_one, is_claim, side_answer, side_after, table_answer, table_after}
 use Rattle.ipcz_world.specs.Coding.{table_of}
-use Rattle.ipcz_world.specs.Soundness.{HasLengths}
 use Rattle.ipcz_world.proofs.code.Slots.{put-same, length-put}
 use Rattle.ipcz_world.proofs.facts.Tests.{and_first, and_second}
 

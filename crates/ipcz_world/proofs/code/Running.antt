@@ -2,14 +2,10 @@
 use Rattle.std.specs.Prelude.{◌≡◌, ◌<◌, ℕ, ◌+◌, Bool, true, false, List, [], ◌∷◌, ◌++◌, length, take}
 use Rattle.std.proofs.Common.{refl, sym, ap, subst, ◌∙◌, get_or}
 use Rattle.std.proofs.lemmas.List.{take_more}
-use Rattle.ipcz_world.specs.declared.step.Step.{Step}
-use Rattle.ipcz_world.specs.declared.step.Step.TheVariants.{Turn}
-use Rattle.ipcz_world.proofs.Vocabulary.{Reply, World, Books}
+use Rattle.ipcz_world.proofs.Vocabulary.{Reply, World, Books, Step, Turn, advance, Routes, routes_after, next_node}
 use Rattle.ipcz_world.specs.declared.step.Reply.TheVariants as replies
 use Rattle.ipcz_world.specs.Steps.{StepFirst}
-use Rattle.ipcz_world.specs.Books.{advance}
-use Rattle.ipcz_world.specs.Routes.{Routes, routes_after}
-use Rattle.ipcz_world.specs.Settling.{AreVisits, next_node}
+use Rattle.ipcz_world.specs.Settling.{AreVisits}
 use Rattle.ipcz_world.specs.FirstRuns.{AreSteps, KeepsLaw, Leads, turns_of, replies_of}
 use Rattle.ipcz_world.proofs.code.Kept.{keeps, plainly}
 

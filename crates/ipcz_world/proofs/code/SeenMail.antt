@@ -4,11 +4,10 @@ use Rattle.std.specs.Prelude.{None}
 use Rattle.std.proofs.Common.{arith, ap, refl, sym, ◌∙◌}
 use Rattle.std.proofs.lemmas.Bool.Decides.{nat_tests}
 use Rattle.ipcz_base.specs.Indexed.{place_at}
-use Rattle.ipcz_node.specs.Acts.{first_number, has_mail_for, are_empty}
+use Rattle.ipcz_world.proofs.Vocabulary.{first_number, has_mail_for, are_empty, node_limit, numbers_from, is_full, is_clear, seen_at}
 use Rattle.ipcz_node.proofs.Turns.{first_step}
 use Rattle.ipcz_node.proofs.Mailing.{no_mail_for}
-use Rattle.ipcz_world.specs.World.{node_limit, World, mail_at, node_at, way, numbers_from}
-use Rattle.ipcz_world.specs.Turns.{is_full, is_clear, seen_at}
+use Rattle.ipcz_world.specs.World.{World, mail_at, node_at, way}
 
 -- what is said of a number in a list over so many numbers
 told : (f : ℕ → Bool) (a n k : ℕ) → k < n → place_at false (map f (numbers_from a n)) k ≡ f (a + k)

@@ -2,13 +2,12 @@
 use Rattle.std.specs.Prelude.{◌≡◌, ◌<◌, ◌≤◌, ℕ, Bool, true, false, not, nat_lt, if◌then◌else◌, Option, Some, None, option_map}
 use Rattle.std.proofs.Common.{arith, ap, refl, ◌∙◌}
 use Rattle.std.proofs.lemmas.Bool.Decides.{nat_tests}
-use Rattle.ipcz_world.proofs.Vocabulary.{End, Item, Found, current_item, terminal_of, World, node_at, unless}
-use Rattle.ipcz_base.specs.declared.item.Item.TheVariants.{Parcel as OfParcel, Mark, Gone}
+use Rattle.ipcz_world.proofs.Vocabulary.{End, Item, Found, current_item, terminal_of, World, node_at, unless, Mark, Gone, get_refusal, holds_end}
+use Rattle.ipcz_base.specs.declared.item.Item.TheVariants.{Parcel as OfParcel}
 use Rattle.ipcz_base.specs.declared.refusal.Refusal.TheVariants.{Stranger}
 use Rattle.ipcz_base.specs.Items.{sizes_of}
 use Rattle.ipcz_router.specs.Calls.{item_refusal, router_get_refusal}
-use Rattle.ipcz_node.specs.Calls.{get_refusal, got_at_found, item_got, refusal_at, next_sizes as node_sizes}
-use Rattle.ipcz_node.specs.Node.{holds_end}
+use Rattle.ipcz_node.specs.Calls.{got_at_found, item_got, refusal_at, next_sizes as node_sizes}
 use Rattle.ipcz_world.specs.Steps.{got_reply, get_reply, sizes_given, next_sizes}
 use Rattle.ipcz_world.proofs.code.Calling.{here-node}
 

@@ -5,11 +5,11 @@ use Rattle.std.proofs.Common.{arith, ap, sym, subst, refl, get_or, set, append_a
 use Rattle.std.proofs.lemmas.Bool.Decides.{nat_tests}
 use Rattle.std.proofs.lemmas.List.{get_or-map, map-set, map-append, take-map, length-map, length-append, length-set, length-take, length-replicate}
 use Rattle.std.proofs.lemmas.List.Elements.{All-get_or}
-use Rattle.ipcz_world.proofs.Vocabulary.{place_at, put_place, Word, empty_word, open_word}
+use Rattle.ipcz_world.proofs.Vocabulary.{place_at, put_place, Word, empty_word, open_word, WordTable}
 use Rattle.ipcz_word.specs.Layout.{word_of_bits, source_of_bits, bits_of}
 use Rattle.ipcz_word.specs.SideSets.{both}
 use Rattle.ipcz_word.specs.SideSets as sides
-use Rattle.ipcz_world.specs.Coding.{WordTable, IsLinkNumber, AreUnclaimedEmpty, laid_table, claimed_word, source_at, put_word, with_more, claim_one}
+use Rattle.ipcz_world.specs.Coding.{IsLinkNumber, AreUnclaimedEmpty, laid_table, claimed_word, source_at, put_word, with_more, claim_one}
 use Rattle.ipcz_world.proofs.code.Slots.{get-place, set-place, place-front, put-front}
 use Rattle.ipcz_world.proofs.code.WordNumbers.{spelled}
 

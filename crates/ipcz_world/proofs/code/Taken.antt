@@ -3,35 +3,29 @@ use Rattle.std.specs.Prelude.{◌≡◌, ◌<◌, ℕ, true, false, ◌&&◌, na
 use Rattle.std.specs.Prelude.{IfSome, Ok, Err, List, [], ◌∷◌}
 use Rattle.std.proofs.Common.{arith, ap, sym, subst, refl, ◌∙◌}
 use Rattle.std.proofs.lemmas.Bool.Decides.{nat_tests}
-use Rattle.ipcz_world.proofs.Vocabulary.{End, Message, Refusal, place_at, put_place, Side, Router, primary_word, RouterAct, Act, Close}
-use Rattle.ipcz_world.proofs.Vocabulary.{Node, bare_node, router_in, commit, Empty, World, node_at, mail_at, way, router_at}
-use Rattle.ipcz_world.proofs.Vocabulary.{set_node, set_mail, hand_message, after_act, can_take, answer_of}
+use Rattle.ipcz_world.proofs.Vocabulary.{End, Message, Refusal, place_at, put_place, Side, Router, primary_word, RouterAct, Act, Close, Node}
+use Rattle.ipcz_world.proofs.Vocabulary.{bare_node, router_in, commit, Empty, World, node_at, mail_at, way, router_at, set_node, set_mail}
+use Rattle.ipcz_world.proofs.Vocabulary.{hand_message, after_act, can_take, answer_of, may_take, Answer, Plain, Look, Post, Idle, Happened}
+use Rattle.ipcz_world.proofs.Vocabulary.{is_hand_of, deliver, source_of, has_mail_for, first_of, post_of, act_lacks_serials, event_of, Mail}
+use Rattle.ipcz_world.proofs.Vocabulary.{after_hand, router_seen, after_router_act, may_act, is_full, is_clear, full_message, after_look, after_post}
+use Rattle.ipcz_world.proofs.Vocabulary.{turn_event, turn_lacks_serials, HasLengths, WordTable, source_for, touch, IsRegular}
 use Rattle.ipcz_base.specs.declared.refusal.Refusal.TheVariants.{NumbersEnd, OutOfMemory}
-use Rattle.ipcz_router.specs.ActTable.{may_take}
 use Rattle.ipcz_router.specs.ActEffects.{IsAnswerOf}
-use Rattle.ipcz_router.specs.declared.act.Answer.{Answer}
-use Rattle.ipcz_router.specs.declared.act.Answer.TheVariants.{Plain}
-use Rattle.ipcz_node.specs.declared.act.Act.TheVariants.{Hand as OfHand, Look, Post, Router as OfRouter, Idle}
-use Rattle.ipcz_node.specs.declared.happened.Happened.{Happened}
+use Rattle.ipcz_node.specs.declared.act.Act.TheVariants.{Hand as OfHand, Router as OfRouter}
 use Rattle.ipcz_node.specs.declared.happened.Happened.TheVariants as events
-use Rattle.ipcz_node.specs.Hands.{is_hand_of, deliver, message_lacks_serials, message_grows}
+use Rattle.ipcz_node.specs.Hands.{message_lacks_serials, message_grows}
 use Rattle.ipcz_node.specs.Node.{source_in, word_side}
-use Rattle.ipcz_router.specs.Router.{source_of}
 use Rattle.ipcz_word.specs.Laws.{HasNode}
-use Rattle.ipcz_node.specs.Acts.{has_mail_for, first_of, post_of, act_lacks_serials, Answers}
+use Rattle.ipcz_node.specs.Acts.{Answers}
 use Rattle.ipcz_node.specs.Preparing.{act_grows}
 use Rattle.ipcz_node.specs.RoomyNodes.{IsPossibleAct}
-use Rattle.ipcz_node.specs.Events.{event_of}
-use Rattle.ipcz_world.specs.declared.mail.Mail.{Mail}
 use Rattle.ipcz_world.specs.declared.mail.Mail.TheVariants.{Full, Hand as InHand}
-use Rattle.ipcz_world.specs.Turns.{hand_lacks_serials, hand_grows, after_hand, router_seen, after_router_act}
-use Rattle.ipcz_world.specs.Turns.{may_act, is_full, is_clear, full_message, commit_at, after_look, after_post, turn_event}
-use Rattle.ipcz_world.specs.Turns.{turn_lacks_serials, turn_grows, is_first_pending}
+use Rattle.ipcz_world.specs.Turns.{hand_lacks_serials, hand_grows}
+use Rattle.ipcz_world.specs.Turns.{commit_at}
+use Rattle.ipcz_world.specs.Turns.{turn_grows, is_first_pending}
 use Rattle.ipcz_world.specs.Mailing.{taken_up, put_down}
-use Rattle.ipcz_world.specs.Soundness.{HasLengths}
-use Rattle.ipcz_world.specs.Coding.{WordTable, table_answer, table_after, table_of}
-use Rattle.ipcz_world.specs.WordAnswers.{source_for, touch}
-use Rattle.ipcz_world.specs.Taking.{IsRegular, IsTaken}
+use Rattle.ipcz_world.specs.Coding.{table_answer, table_after, table_of}
+use Rattle.ipcz_world.specs.Taking.{IsTaken}
 use Rattle.ipcz_world.proofs.code.RouterActs.{link_of, retabled, answers-as, touches-as, answers-kind}
 use Rattle.ipcz_world.proofs.code.Slots.{put-same}
 use Rattle.std.proofs.lemmas.Bool.{and_parts}

@@ -9,12 +9,12 @@ use Rattle.std.specs.List.{slice_get}
 use Rattle.ipcz_base.specs.Totals.{total_list, total_of}
 use Rattle.ipcz_node.specs.Serials.{entries_by}
 use Rattle.ipcz_world.specs.Tallies.{Tells}
-use Rattle.ipcz_world.specs.SettleLimit.{higher, highest, put_among, put_within, has_within}
+use Rattle.ipcz_world.proofs.Vocabulary.{End, Node, place_at, higher, highest}
+use Rattle.ipcz_world.specs.SettleLimit.{put_among, put_within, has_within}
 use Rattle.ipcz_base.specs.Ends.{same_end}
 use Rattle.ipcz_router.specs.Router.{is_terminal}
 use Rattle.ipcz_node.specs.Node.{find_router}
 use Rattle.std.specs.FinMap.{entries}
-use Rattle.ipcz_world.proofs.Vocabulary.{End, Node, place_at}
 
 -- what was told so far, with what is left, comes to the whole
 pub record IsTallied (sum : Option ℕ) (left whole : ℕ) : Type 0 where

@@ -2,18 +2,15 @@
 use Rattle.std.specs.Prelude.{◌≡◌, ◌≤◌, ◌<◌, ℕ, zero, suc, ◌+◌, ◌-◌, Bool, true, false, nat_lt, if◌then◌else◌, List, [], ◌∷◌, ◌++◌, refl}
 use Rattle.std.proofs.Common.{arith, ap, subst, ◌∙◌, sym, inl, inr}
 use Rattle.std.proofs.lemmas.Bool.Decides.{nat_tests}
-use Rattle.ipcz_world.proofs.Vocabulary.{Refusal, Act, Reply, World, after_act, unless}
+use Rattle.ipcz_world.proofs.Vocabulary.{Refusal, Act, Reply, World, after_act, unless, Happened, Turn, next_at, is_idle, turn_event}
+use Rattle.ipcz_world.proofs.Vocabulary.{turn_lacks_serials, Effect, refuse, turn_step, IsLawful, IsQuiet, next_node, Walk}
 use Rattle.ipcz_base.specs.declared.refusal.Refusal.TheVariants.{Stranger, NumbersEnd}
-use Rattle.ipcz_node.specs.declared.happened.Happened.{Happened}
 use Rattle.ipcz_world.specs.declared.step.Settled.{Settled}
 use Rattle.ipcz_world.specs.declared.step.Settled.TheVariants as ends
-use Rattle.ipcz_world.specs.declared.step.Step.TheVariants.{Turn}
 use Rattle.ipcz_world.specs.declared.step.Reply.TheVariants as replies
-use Rattle.ipcz_world.specs.Turns.{next_at, is_idle, turn_event, turn_lacks_serials}
-use Rattle.ipcz_world.specs.Steps.{Effect, refuse, turn_step, Gives, StepFirst}
-use Rattle.ipcz_world.specs.Lawfulness.{IsLawful}
-use Rattle.ipcz_world.specs.Settling.{IsQuiet, HasAct, AreVisits, next_node, node_behind, act_count, FitsAnswer, IsSettle, IsRefusedSettle}
-use Rattle.ipcz_world.specs.Visiting.{AreIdle, IsFirstBusy, IsNextBusy, IsPlace, Walk}
+use Rattle.ipcz_world.specs.Steps.{Gives, StepFirst}
+use Rattle.ipcz_world.specs.Settling.{HasAct, AreVisits, node_behind, act_count, FitsAnswer, IsSettle, IsRefusedSettle}
+use Rattle.ipcz_world.specs.Visiting.{AreIdle, IsFirstBusy, IsNextBusy, IsPlace}
 use Rattle.ipcz_world.proofs.facts.NodeCount.{count-after_act}
 use Rattle.ipcz_world.proofs.lawful.Idling.{quiet_from_idle}
 

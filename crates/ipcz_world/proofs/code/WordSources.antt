@@ -2,31 +2,25 @@
 use Rattle.std.specs.Prelude.{◌≡◌, ◌<◌, ◌≤◌, ℕ, zero, suc, ◌+◌, ◌-◌, ◌++◌, length, replicate, Bool, true, false, cond, nat_eq, nat_lt, if◌then◌else◌, Option, Some, None, List, [], ◌∷◌, refl}
 use Rattle.std.proofs.Common.{arith, sym, subst, inl, inr}
 use Rattle.std.proofs.lemmas.Bool.Decides.{nat_tests}
-use Rattle.ipcz_world.proofs.Vocabulary.{place_at, Side, A, B, has, Word, empty_word, open_word, Router, primary_word, RouterAct, Act, Hand, Close, Node, router_in}
-use Rattle.ipcz_world.proofs.Vocabulary.{Message, Refusal, Reply, World, node_at, word_at, mail_at, way, router_at, set_node, set_word, set_claimed, set_mail}
-use Rattle.ipcz_world.proofs.Vocabulary.{after_act, hand_message, unless, Books}
+use Rattle.ipcz_world.proofs.Vocabulary.{place_at, Side, A, B, has, Word, empty_word, open_word, Router, primary_word, RouterAct, Act, Hand, Close}
+use Rattle.ipcz_world.proofs.Vocabulary.{Node, router_in, Message, Refusal, Reply, World, node_at, word_at, mail_at, way, router_at, set_node}
+use Rattle.ipcz_world.proofs.Vocabulary.{set_word, set_claimed, set_mail, after_act, hand_message, unless, Books, Plan, Locks, Waits, Refuses}
+use Rattle.ipcz_world.proofs.Vocabulary.{plan_of, source_of, Look, Post, Idle, post_of, put_refusal, get_refusal, close_refusal, serials_refusal}
+use Rattle.ipcz_world.proofs.Vocabulary.{Mail, Printed, Wide, Step, has_unclaimed_word, new_world, touch, touch_word, after_router_act, after_hand}
+use Rattle.ipcz_world.proofs.Vocabulary.{after_look, after_post, full_message, turn_lacks_serials, Effect, GivesOrNoMemory, refuse, at_node}
+use Rattle.ipcz_world.proofs.Vocabulary.{open_with, open_on, open_step, close_step, StepAny, no_books, advance, Routes, routes_after, Lawful}
 use Rattle.ipcz_base.specs.declared.refusal.Refusal.TheVariants as refusals
 use Rattle.ipcz_word.specs.Laws.{HasNode}
 use Rattle.ipcz_word.specs.Layout.{bits_at, bits_of, locked_bit, sets_bits, source_bits, stable_bit, waiting_bit}
 use Rattle.ipcz_word.specs.SideSets.{Sides}
-use Rattle.ipcz_word.specs.Word.{Plan, Locks, Waits, Refuses, plan_of, word_by_plan}
-use Rattle.ipcz_router.specs.Router.{source_of}
+use Rattle.ipcz_word.specs.Word.{word_by_plan}
 use Rattle.ipcz_router.specs.declared.act.RouterAct.TheVariants as acts
-use Rattle.ipcz_node.specs.declared.act.Act.TheVariants.{Look, Post, Router as OfRouter, Idle}
-use Rattle.ipcz_node.specs.Acts.{post_of}
-use Rattle.ipcz_node.specs.Calls.{put_refusal, get_refusal, close_refusal, serials_refusal}
-use Rattle.ipcz_world.specs.declared.mail.Mail.{Mail}
-use Rattle.ipcz_base.specs.declared.profile.Profile.TheVariants.{Printed, Wide}
-use Rattle.ipcz_world.specs.declared.step.Step.{Step}
+use Rattle.ipcz_node.specs.declared.act.Act.TheVariants.{Router as OfRouter}
 use Rattle.ipcz_world.specs.declared.step.Step.TheVariants as steps
-use Rattle.ipcz_world.specs.World.{has_unclaimed_word, new_world}
-use Rattle.ipcz_world.specs.WordAnswers.{touch, touch_word, word_after}
-use Rattle.ipcz_world.specs.Turns.{after_router_act, after_hand, after_look, after_post, full_message, turn_lacks_serials}
-use Rattle.ipcz_world.specs.Steps.{Effect, GivesOrNoMemory, refuse, at_node, open_with, open_on, open_step, close_step, StepAny}
+use Rattle.ipcz_world.specs.WordAnswers.{word_after}
 use Rattle.ipcz_node.specs.FirstPairs.{first_pairs}
-use Rattle.ipcz_world.specs.Books.{no_books, advance}
-use Rattle.ipcz_world.specs.Routes.{Routes, first_routes, routes_after}
-use Rattle.ipcz_world.specs.Lawful.{Lawful, IsReached, RunAny}
+use Rattle.ipcz_world.specs.Routes.{first_routes}
+use Rattle.ipcz_world.specs.Lawful.{IsReached, RunAny}
 use Rattle.ipcz_world.proofs.Whole.{world_starts_lawful, each_step_keeps_lawful}
 use Rattle.ipcz_world.proofs.code.Regular.{lawful-regular}
 use Rattle.ipcz_world.proofs.frames.Frames.{word-set_word}

@@ -1,22 +1,16 @@
 -- What an act that touches no link word makes of the world: its node's part alone.
 use Rattle.std.specs.Prelude.{◌≡◌, ◌<◌, ℕ, true, false, if◌then◌else◌, Option, Some, None, Result, Ok, Err, IsOk, OnOk, OnErr, IfOk, IfErr}
 use Rattle.std.proofs.Common.{ap, sym, subst, refl, true≢false, ◌∙◌}
-use Rattle.ipcz_world.proofs.Vocabulary.{Refusal, put_place, Side, Word, Router, primary_word, RouterAct}
-use Rattle.ipcz_world.proofs.Vocabulary.{Node, bare_node, commit, World, node_at, router_at, set_node, after_act, can_take, answer_of}
+use Rattle.ipcz_world.proofs.Vocabulary.{Refusal, put_place, Side, Word, Router, primary_word, RouterAct, Node, bare_node, commit, World, node_at}
+use Rattle.ipcz_world.proofs.Vocabulary.{router_at, set_node, after_act, can_take, answer_of, source_of, Plain, act_lacks_serials, Happened, event_of}
+use Rattle.ipcz_world.proofs.Vocabulary.{after_router_act, router_seen, turn_event, turn_lacks_serials, word_answer, link_answer, touch, IsRegular}
 use Rattle.ipcz_base.specs.declared.refusal.Refusal.TheVariants.{NumbersEnd, OutOfMemory}
-use Rattle.ipcz_router.specs.Router.{source_of}
 use Rattle.ipcz_router.specs.ActEffects.{IsAnswerOf}
 use Rattle.ipcz_router.specs.declared.act.RouterAct.TheVariants as acts
-use Rattle.ipcz_router.specs.declared.act.Answer.TheVariants.{Plain}
 use Rattle.ipcz_node.specs.declared.act.Act.TheVariants.{Router as OfRouter}
-use Rattle.ipcz_node.specs.Acts.{act_lacks_serials}
 use Rattle.ipcz_node.specs.Preparing.{act_grows}
-use Rattle.ipcz_node.specs.declared.happened.Happened.{Happened}
-use Rattle.ipcz_node.specs.Events.{event_of}
-use Rattle.ipcz_world.specs.Turns.{after_router_act, router_seen, turn_event, turn_lacks_serials}
-use Rattle.ipcz_world.specs.WordAnswers.{word_answer, link_answer, touch}
 use Rattle.ipcz_world.specs.Wordless.{is_wordless}
-use Rattle.ipcz_world.specs.Taking.{IsRegular, IsTaken}
+use Rattle.ipcz_world.specs.Taking.{IsTaken}
 use Rattle.ipcz_world.proofs.code.Taken.{router-stands, refused-router, with_node}
 
 -- a word answers nothing to it

@@ -1,15 +1,13 @@
 -- No act takes a claim back.
 use Rattle.std.specs.Prelude.{◌≤◌, ℕ, ◌+◌, Bool, true, false, if◌then◌else◌, Option, Some, None}
 use Rattle.std.proofs.Common.{arith}
-use Rattle.ipcz_world.proofs.Vocabulary.{Message, Side, Router, primary_word, RouterAct, Act, Hand, Close, World, node_at, mail_at, way}
-use Rattle.ipcz_world.proofs.Vocabulary.{set_node, set_word, set_claimed, set_mail, after_act}
-use Rattle.ipcz_router.specs.Router.{source_of}
+use Rattle.ipcz_world.proofs.Vocabulary.{Message, Side, Router, primary_word, RouterAct, Act, Hand, Close, World, node_at, mail_at, way, set_node}
+use Rattle.ipcz_world.proofs.Vocabulary.{set_word, set_claimed, set_mail, after_act, source_of, Look, Post, Idle, post_of, touch_word, touch}
+use Rattle.ipcz_world.proofs.Vocabulary.{full_message, router_of, after_router_act, after_hand, after_look, after_post, has_unclaimed_word}
 use Rattle.ipcz_router.specs.declared.act.RouterAct.TheVariants as acts
-use Rattle.ipcz_node.specs.declared.act.Act.TheVariants.{Look, Post, Router as OfRouter, Idle}
-use Rattle.ipcz_node.specs.Acts.{post_of}
-use Rattle.ipcz_world.specs.WordAnswers.{claim_next, touch_word, touch}
-use Rattle.ipcz_world.specs.Turns.{message_in_hand, full_message, router_of, after_router_act, after_hand, after_look, after_post}
-use Rattle.ipcz_world.specs.World.{has_unclaimed_word}
+use Rattle.ipcz_node.specs.declared.act.Act.TheVariants.{Router as OfRouter}
+use Rattle.ipcz_world.specs.WordAnswers.{claim_next}
+use Rattle.ipcz_world.specs.Turns.{message_in_hand}
 
 claimed-touch_word : (w : World) (s : Side) (x : Option ℕ) (a : RouterAct) (o : Option ℕ) → w.claimed ≤ (touch_word w s x a o).claimed
 unfolding touch_word set_word

@@ -6,11 +6,9 @@ use Rattle.std.proofs.lemmas.Bool.Decides.{nat_tests}
 use Rattle.std.specs.FinMap.{get, len, empty_of_len, get-empty}
 use Rattle.std.specs.Ordering.{nat_cmp}
 use Rattle.ipcz_base.specs.declared.item.Item.{Item}
-use Rattle.ipcz_base.specs.declared.item.Item.TheVariants.{Parcel, Mark, Gone}
-use Rattle.ipcz_base.specs.Items.{is_gone_item}
+use Rattle.ipcz_world.proofs.Vocabulary.{Parcel, Mark, Gone, is_gone_item, item_passes, has_gone_next}
 use Rattle.ipcz_seq.specs.Queue.{Queue, item_at, current_item, is_drained}
 use Rattle.ipcz_router.specs.Router.{Router}
-use Rattle.ipcz_router.specs.Acts.{item_passes, has_gone_next}
 use Rattle.ipcz_world.specs.Books.{has_gone}
 
 pub drained_item : (q : Queue Item) (n : ℕ) → is_drained q ≡ true → item_at q n ≡ None

@@ -1,6 +1,6 @@
 -- A router that is found in a node stands there and passes the test, and one that passes is found.
-use Rattle.ipcz_world.proofs.Vocabulary.{Node, Found, terminal_of, Router, is_terminal, End, same_end}
-use Rattle.ipcz_node.specs.Node.{is_terminal_of, first_where, find_router}
+use Rattle.ipcz_world.proofs.Vocabulary.{Node, Found, terminal_of, Router, is_terminal, End, same_end, is_terminal_of}
+use Rattle.ipcz_node.specs.Node.{first_where, find_router}
 use Rattle.ipcz_router.specs.Router.{is_open_terminal}
 use Rattle.std.specs.Prelude.{not, ◌≡◌, ◌<◌, ℕ, Bool, true, false, cond, T, Some, List, [], ◌∷◌, refl, nat_eq}
 use Rattle.std.proofs.Common.{arith, sym, ◌∙◌, ap}

@@ -2,14 +2,11 @@
 use Rattle.std.specs.Prelude.{◌≡◌, ◌⊎◌, ◌≤◌, ℕ, suc, Bool, true, false, nat_le, if◌then◌else◌, Option, Some, None, refl}
 use Rattle.std.proofs.Common.{arith, ap, inl, inr}
 use Rattle.std.proofs.lemmas.Bool.Decides.{nat_tests}
-use Rattle.ipcz_world.proofs.Vocabulary.{Side, A, B, LinkId, Central, Peripheral, LinkEnd, opposite, same_side, has_link, same_link}
-use Rattle.ipcz_world.proofs.Vocabulary.{Router, router_has, World, Key, router_at, Records, is_begun, inner_link, side_router, bypass_of}
-use Rattle.ipcz_world.proofs.Vocabulary.{proxy_side, side_length, known_from, Standing, is_attached, router_view, view_by, view}
-use Rattle.ipcz_world.proofs.Vocabulary.{key_passes, passes, has_passed}
-use Rattle.ipcz_router.specs.Router.{outward_has, inward_has}
-use Rattle.ipcz_world.specs.Records.{length_by}
-use Rattle.ipcz_world.specs.Records.{bypass_length}
-use Rattle.ipcz_world.specs.Standing.{Awaited, awaited_view}
+use Rattle.ipcz_world.proofs.Vocabulary.{Side, A, B, LinkId, Central, Peripheral, LinkEnd, opposite, same_side, has_link, same_link, Router}
+use Rattle.ipcz_world.proofs.Vocabulary.{router_has, World, Key, router_at, Records, is_begun, inner_link, side_router, bypass_of, proxy_side}
+use Rattle.ipcz_world.proofs.Vocabulary.{side_length, known_from, Standing, is_attached, router_view, view_by, view, key_passes, passes, has_passed}
+use Rattle.ipcz_world.proofs.Vocabulary.{outward_has, length_by, bypass_length, Awaited, awaited_view}
+use Rattle.ipcz_router.specs.Router.{inward_has}
 use Rattle.std.proofs.lemmas.Bool.{or_right}
 
 pub opposite-twice : (s : Side) → opposite (opposite s) ≡ s

@@ -1,6 +1,7 @@
 -- An unclaimed word isn't lost.
 use Rattle.std.specs.Prelude.{◌≡◌, true, false, refl}
-use Rattle.ipcz_world.specs.Records.{Owner, Unclaimed, Spare, Opening, Fresh, Linked, Lost, is_unclaimed, is_lost_owner}
+use Rattle.ipcz_world.proofs.Vocabulary.{Unclaimed, Lost, is_lost_owner}
+use Rattle.ipcz_world.specs.Records.{Owner, Spare, Opening, Fresh, Linked, is_unclaimed}
 
 pub not_lost : (o : Owner) → is_unclaimed o ≡ true → is_lost_owner o ≡ false
 unfolding is_unclaimed is_lost_owner

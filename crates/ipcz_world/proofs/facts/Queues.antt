@@ -4,10 +4,9 @@ use Rattle.std.proofs.Common.{arith, sym, ◌∙◌, ap}
 use Rattle.std.specs.Ordering.{nat_cmp}
 use Rattle.std.specs.Cmp.{nat_cmp_total}
 use Rattle.std.specs.FinMap.{FinMap, nat_cmp-IsAntisymmetric, get, empty, entries, get-entries, get-empty, same_map}
-use Rattle.ipcz_world.proofs.Vocabulary.{total, Item, Queue, Router, item_at}
+use Rattle.ipcz_world.proofs.Vocabulary.{total, Item, Queue, Router, item_at, reach}
 use Rattle.std.proofs.lemmas.Option.{none-some, same_Some}
 use Rattle.ipcz_base.proofs.Totals.{total-empty, total-remove}
-use Rattle.ipcz_seq.specs.Queue.{reach}
 use Rattle.ipcz_world.proofs.facts.Reaching.{filled}
 
 -- from the current number up to the reach each number has its item

@@ -7,8 +7,8 @@ use Rattle.std.specs.Ordering.{nat_cmp, eq_by_cmp, is_lt}
 use Rattle.std.specs.Cmp.{nat_cmp_total}
 use Rattle.std.specs.FinMap.{get-remove, entries, entries_sorted, find, get-entries, is_sorted}
 use Rattle.std.specs.FinMap.Entries.{below_all}
-use Rattle.ipcz_world.proofs.Vocabulary.{Queue, item_at}
-use Rattle.ipcz_seq.specs.Queue.{IsReach, reach, reach_in, pop_front}
+use Rattle.ipcz_world.proofs.Vocabulary.{Queue, item_at, reach}
+use Rattle.ipcz_seq.specs.Queue.{IsReach, reach_in, pop_front}
 
 reach_in-from : {X : Type 0} (es : List (ℕ × X)) (n : ℕ) → n ≤ reach_in es n
 reach_in-from [] n = omega arith

@@ -1,21 +1,17 @@
 -- A link's side that is awaited is made by a message under way from the node of its other side.
-use Rattle.ipcz_world.specs.Records.{Retired}
+use Rattle.ipcz_world.proofs.Vocabulary.{Side, A, B, End, LinkId, Central, Peripheral, Descriptor, Message, same_link, opposite, same_end, Router}
+use Rattle.ipcz_world.proofs.Vocabulary.{World, Key, router_at, flow, Records, Terminal, At, is_linked, is_recorded, inner_link, side_router}
+use Rattle.ipcz_world.proofs.Vocabulary.{side_node, proxy_side, across_side, terminal_descriptor, view, view_by, router_view, is_attached, is_awaited}
+use Rattle.ipcz_world.proofs.Vocabulary.{IsUnderWay, makes, under_way, of_end, moves_of, total_list, Stands, BypassRecords, Told, of_bypass}
+use Rattle.ipcz_world.proofs.Vocabulary.{control_weight, inner_of, moving_link, Retired, Nowhere, Moving, key_at, is_made_by, move_weight}
 use Rattle.std.specs.Prelude.{◌≡◌, ◌≤◌, ℕ, zero, suc, Bool, true, false, cond, ◌&&◌, Option, Some, None, is_some, refl, List, [], ◌∷◌}
 use Rattle.std.specs.Prelude.{slice_get}
 use Rattle.std.proofs.Common.{arith, ap, subst, ◌∙◌, sym}
 use Rattle.std.proofs.lemmas.Bool.Decides.{nat_tests}
-use Rattle.ipcz_world.proofs.Vocabulary.{Side, A, B, End, LinkId, Central, Peripheral, Descriptor, Message, same_link, opposite, same_end}
-use Rattle.ipcz_world.proofs.Vocabulary.{Router, World, Key, router_at, flow, Records, Terminal, At, is_linked, is_recorded, inner_link}
-use Rattle.ipcz_world.proofs.Vocabulary.{side_router, side_node, proxy_side, across_side, terminal_descriptor, view, view_by, router_view}
-use Rattle.ipcz_world.proofs.Vocabulary.{is_attached, is_awaited, IsUnderWay, makes, under_way, of_end, moves_of, total_list, Stands}
-use Rattle.ipcz_world.proofs.Vocabulary.{BypassRecords, Told, of_bypass, control_weight, inner_of, moving_link}
 use Rattle.ipcz_base.specs.declared.message.Message.TheVariants as messages
 use Rattle.ipcz_node.specs.Hands.{has_moved}
-use Rattle.ipcz_world.specs.Records.{Nowhere, Moving}
-use Rattle.ipcz_world.specs.Records.{key_at}
 use Rattle.ipcz_world.proofs.frames.RecordRules.{record_rules, side_router-proxy}
-use Rattle.ipcz_world.specs.Flows.{is_made_by}
-use Rattle.ipcz_world.specs.Bypasses.{accept_of, move_weight}
+use Rattle.ipcz_world.specs.Bypasses.{accept_of}
 use Rattle.ipcz_world.proofs.frames.Opened.{OpenMoves}
 use Rattle.ipcz_world.proofs.frames.Flowing.{same_way, found, made_within, total_list-found}
 use Rattle.ipcz_world.proofs.facts.Lengths.{opposite-twice, same_link-tells}

@@ -2,9 +2,8 @@
 use Rattle.std.specs.Prelude.{◌≡◌, ◌≤◌, ℕ, true, Some, is_some, Bool, false, if◌then◌else◌, None, refl}
 use Rattle.std.proofs.Common.{arith, ◌∙◌, ap}
 use Rattle.std.proofs.lemmas.Bool.Decides.{nat_tests}
-use Rattle.ipcz_world.proofs.Vocabulary.{Side, A, B, LinkId, Central, Key, Records, inner_link, bypass_of, side_length, is_begun}
-use Rattle.ipcz_world.proofs.Vocabulary.{proxy_side, across_side}
-use Rattle.ipcz_world.specs.Records.{bypass_length, length_by}
+use Rattle.ipcz_world.proofs.Vocabulary.{Side, A, B, LinkId, Central, Key, Records, inner_link, bypass_of, side_length, is_begun, proxy_side}
+use Rattle.ipcz_world.proofs.Vocabulary.{across_side, bypass_length, length_by}
 use Rattle.ipcz_world.proofs.facts.LinkTests.{same_side-opposite}
 use Rattle.ipcz_world.proofs.facts.Lengths.{same_side-itself, known_from-yes}
 use Rattle.ipcz_world.proofs.frames.RecordRules.{record_rules}

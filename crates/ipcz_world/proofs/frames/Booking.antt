@@ -6,17 +6,12 @@ use Rattle.std.specs.Cmp.{nat_cmp_total}
 use Rattle.std.specs.FinMap.{empty, get-insert, nat_cmp-IsAntisymmetric}
 use Rattle.std.proofs.Common.{arith, ap, subst, ◌∙◌, sym, inl, inr}
 use Rattle.std.proofs.lemmas.Bool.Decides.{nat_tests}
-use Rattle.ipcz_world.proofs.Vocabulary.{End, Descriptor, Item, Message, opposite_end, same_end, total, total_list, Queue, item_at}
-use Rattle.ipcz_world.proofs.Vocabulary.{Router, World, Key, router_at, Books, read, Records, At, IsUnderWay, of_end, moves_of, Weight}
-use Rattle.ipcz_world.proofs.Vocabulary.{in_router, at_end, Conserved}
-use Rattle.ipcz_base.specs.declared.item.Item.TheVariants.{Mark}
+use Rattle.ipcz_world.proofs.Vocabulary.{End, Descriptor, Item, Message, opposite_end, same_end, total, total_list, Queue, item_at, Router, World}
+use Rattle.ipcz_world.proofs.Vocabulary.{Key, router_at, Books, read, Records, At, IsUnderWay, of_end, moves_of, Weight, in_router, at_end, Conserved}
+use Rattle.ipcz_world.proofs.Vocabulary.{Mark, reach, is_mark, has_mark, from_number, Moves, move_weight}
 use Rattle.ipcz_base.proofs.Totals.{total-remove, total-empty}
-use Rattle.ipcz_seq.specs.Queue.{IsReach, reach, push_at}
-use Rattle.ipcz_base.specs.Items.{is_mark}
-use Rattle.ipcz_world.specs.Books.{has_mark}
-use Rattle.ipcz_world.specs.Places.{from_number}
+use Rattle.ipcz_seq.specs.Queue.{IsReach, push_at}
 use Rattle.ipcz_world.proofs.frames.OfRecords.{in_places}
-use Rattle.ipcz_world.specs.Bypasses.{Moves, move_weight}
 use Rattle.ipcz_world.proofs.frames.Flowing.{weighed}
 use Rattle.ipcz_world.proofs.frames.Weighing.{in_places-set_router, in_router-is, of_number}
 use Rattle.ipcz_world.proofs.facts.Reaching.{is_reach, reach_one}

@@ -3,12 +3,11 @@ use Rattle.std.specs.Prelude.{◌≡◌, ◌⊎◌, ◌≤◌, ℕ, Bool, true, 
 use Rattle.std.proofs.Common.{arith, sym, ◌∙◌, ap, inl, inr}
 use Rattle.std.proofs.lemmas.Bool.Decides.{nat_tests}
 use Rattle.std.proofs.lemmas.Option.{same_Some}
-use Rattle.ipcz_world.proofs.Vocabulary.{Side, A, B, LinkId, Central, Peripheral, LinkEnd, has_link, Router, inward_edge, World, Key}
-use Rattle.ipcz_world.proofs.Vocabulary.{router_at, Books, Records, inner_link, bypass_of, is_begun, proxy_side, across_side, Standing}
-use Rattle.ipcz_world.proofs.Vocabulary.{view, is_attached, is_outward, inner_of, Inv}
+use Rattle.ipcz_world.proofs.Vocabulary.{Side, A, B, LinkId, Central, Peripheral, LinkEnd, has_link, Router, inward_edge, World, Key, router_at}
+use Rattle.ipcz_world.proofs.Vocabulary.{Books, Records, inner_link, bypass_of, is_begun, proxy_side, across_side, Standing, view, is_attached}
+use Rattle.ipcz_world.proofs.Vocabulary.{is_outward, inner_of, Inv, is_begun_router}
 use Rattle.ipcz_world.proofs.frames.RecordRules.{bypass_of-inner}
 use Rattle.ipcz_world.proofs.frames.StandingRules.{standing_rules}
-use Rattle.ipcz_world.specs.Structure.{is_begun_router}
 use Rattle.ipcz_world.proofs.facts.LinkTests.{side_is, has_link-is}
 use Rattle.ipcz_world.proofs.frames.BegunLengths.{begun-bypass_of}
 use Rattle.ipcz_world.proofs.facts.Lengths.{view-standing}

@@ -2,11 +2,10 @@
 use Rattle.std.specs.Prelude.{◌≡◌, ◌⊎◌, ◌≤◌, ℕ, zero, suc, true, is_some, Some, refl}
 use Rattle.std.proofs.Common.{arith, ap, sym, ◌∙◌, inl, inr}
 use Rattle.std.proofs.lemmas.Bool.Decides.{nat_tests}
-use Rattle.ipcz_world.proofs.Vocabulary.{Side, A, B, LinkId, Central, World, Key, Records, Fresh, Linked, BypassRecords}
-use Rattle.ipcz_world.proofs.Vocabulary.{IsBypassRecorded, is_begun, is_linked, is_recorded, inner_link, inner_of, side_router}
-use Rattle.ipcz_world.proofs.Vocabulary.{side_node, proxy_side, across_side, opposite}
-use Rattle.ipcz_world.specs.Bypasses.{fresh_of}
-use Rattle.ipcz_world.specs.Records.{Bypass, key_at}
+use Rattle.ipcz_world.proofs.Vocabulary.{Side, A, B, LinkId, Central, World, Key, Records, Fresh, Linked, BypassRecords, IsBypassRecorded, is_begun}
+use Rattle.ipcz_world.proofs.Vocabulary.{is_linked, is_recorded, inner_link, inner_of, side_router, side_node, proxy_side, across_side, opposite}
+use Rattle.ipcz_world.proofs.Vocabulary.{fresh_of, key_at}
+use Rattle.ipcz_world.specs.Records.{Bypass}
 
 -- a bypass with the same proxy and links, which has come as far or, behind its third stage, further
 pub record IsSameBypass (p q : Bypass) : Type 0 where

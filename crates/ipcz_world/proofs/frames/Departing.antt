@@ -1,11 +1,13 @@
 -- A router leaves with its primary links, empty: what is said of all but books, retired ends and Gone is kept, with the records after it.
 use Rattle.ipcz_world.proofs.frames.NearInv.{NearInv}
-use Rattle.ipcz_world.proofs.Vocabulary.{side_node}
+use Rattle.ipcz_world.proofs.Vocabulary.{side_node, next_sent, side_length, has_passed, Side, A, B, LinkId, Central, Peripheral, LinkEnd, Descriptor}
+use Rattle.ipcz_world.proofs.Vocabulary.{Item, opposite, opposite_end, has, Router, is_terminal, inward_edge, World, Key, same_key, router_at}
+use Rattle.ipcz_world.proofs.Vocabulary.{word_at, Books, read, Records, Spare, is_linked, is_begun, is_recorded, inner_link, bypass_of, side_router}
+use Rattle.ipcz_world.proofs.Vocabulary.{side_end, proxy_side, across_side, Weight, in_router, at_end, IsUnderWay, view, key_passes, has_primary}
+use Rattle.ipcz_world.proofs.Vocabulary.{is_attached, is_outward, IsRecorded, Stands, Words, Spares, Stages, inner_of, Conserved, Edge, Standing}
+use Rattle.ipcz_world.proofs.Vocabulary.{view_by, is_retired, length_by, RetiredEnds, Gones, decays, IsItemUnderWay, is_left, is_lost_owner, Lost}
+use Rattle.ipcz_world.proofs.Vocabulary.{spare_of, has_inward_primary, is_begun_router}
 use Rattle.std.proofs.lemmas.Bool.{or_left}
-use Rattle.ipcz_world.proofs.Vocabulary.{next_sent, side_length, has_passed}
-use Rattle.ipcz_world.specs.Books.{is_retired}
-use Rattle.ipcz_world.specs.Records.{length_by}
-use Rattle.ipcz_world.specs.Whereabouts.{RetiredEnds, Gones}
 use Rattle.ipcz_world.proofs.facts.LinkTests.{has_link-is}
 use Rattle.ipcz_world.proofs.facts.Lengths.{opposite-twice, view-standing, has_passed-none}
 use Rattle.ipcz_world.proofs.frames.Draining.{next_sent-standing}
@@ -21,20 +23,11 @@ use Rattle.std.proofs.Common.{arith, sym, ◌∙◌, ap, subst, inl, inr}
 use Rattle.std.proofs.lemmas.Bool.Decides.{nat_tests}
 use Rattle.std.proofs.lemmas.Option.{none-some}
 use Rattle.ipcz_world.proofs.frames.OfRecords.{source}
-use Rattle.ipcz_world.proofs.Vocabulary.{Side, A, B, LinkId, Central, Peripheral, LinkEnd, Descriptor, Item, opposite, opposite_end, has, Router}
-use Rattle.ipcz_world.proofs.Vocabulary.{is_terminal, inward_edge, World, Key, same_key, router_at, word_at, Books, read, Records, Spare, is_linked}
-use Rattle.ipcz_world.proofs.Vocabulary.{is_begun, is_recorded, inner_link, bypass_of, side_router, side_end, proxy_side, across_side, Weight}
-use Rattle.ipcz_world.proofs.Vocabulary.{in_router, at_end, IsUnderWay, view, key_passes, has_primary}
-use Rattle.ipcz_world.proofs.Vocabulary.{is_attached, is_outward, IsRecorded, Stands, Words, Spares, Stages, inner_of, Conserved}
-use Rattle.ipcz_world.proofs.Vocabulary.{Edge, Standing, view_by}
 use Rattle.std.proofs.lemmas.Bool.{and_parts}
 use Rattle.ipcz_base.specs.declared.message.Message.TheVariants as messages
-use Rattle.ipcz_router.specs.Router.{decays}
 use Rattle.ipcz_word.specs.Word.{Word}
-use Rattle.ipcz_world.specs.Numbers.{IsItemUnderWay}
-use Rattle.ipcz_world.specs.Records.{is_left, is_lost_owner, Lost, Opening, Fresh}
-use Rattle.ipcz_world.specs.Standing.{spare_of, has_inward_primary, taking_queue}
-use Rattle.ipcz_world.specs.Structure.{is_begun_router}
+use Rattle.ipcz_world.specs.Records.{Opening, Fresh}
+use Rattle.ipcz_world.specs.Standing.{taking_queue}
 use Rattle.ipcz_world.proofs.facts.Lengths.{HasEnd, has_link-tells}
 use Rattle.ipcz_world.proofs.facts.Tests.{not_both}
 use Rattle.ipcz_world.proofs.frames.Frames.{same_key_tells, same_key-itself}
@@ -43,14 +36,14 @@ use Rattle.ipcz_world.proofs.frames.Touching.{either}
 use Rattle.ipcz_world.proofs.frames.GivingUp.{Gives, Keeps, was_same, WasSame, passes-still, same-messages}
 use Rattle.ipcz_world.proofs.frames.GivenUp.{Settled}
 use Rattle.ipcz_world.proofs.frames.SameMessages.{recorded-same}
-use Rattle.ipcz_world.proofs.frames.LeftRecords.{off_of, off-primary, off-inward, off-back, off-owner, off-lost, off-back_owner, is_off}
+use Rattle.ipcz_world.proofs.frames.LeftRecords.{off_of, off-primary, off-inward, off-back, off-owner, off-lost, off-back_owner, is_off, off-owners}
 use Rattle.ipcz_world.proofs.frames.LeftRecords.{off-same, off-is}
 use Rattle.ipcz_world.proofs.frames.Sourcing.{sourced-by}
 use Rattle.ipcz_world.proofs.frames.Booking.{from_number-range, length-drop}
 use Rattle.ipcz_world.proofs.frames.Weighing.{in_places-has, in_message-item, of_number}
 use Rattle.ipcz_world.proofs.facts.LinkTests.{same_end-itself}
 use Rattle.ipcz_world.proofs.frames.Known.{edge_has-tells, attached_recorded}
-use Rattle.ipcz_world.proofs.frames.LeftOff as off
+use Rattle.ipcz_world.proofs.frames.Aside as off
 use Rattle.ipcz_world.specs.Routes.{source as source'}
 use Rattle.ipcz_world.specs.Standing.{fed_queue, sending_queue}
 use Rattle.ipcz_world.proofs.frames.Draining.{taking_queue-standing}
@@ -130,19 +123,22 @@ module _ {w v : World} {b : Books} {g : Records} {k : Key} {r : Router} (law : N
 
   -- the records after it, field by field
   abbrev pub h : Records
-  h = off.off_records g left_records.owner (λ i. (left_records.central i).left) (λ p. (left_records.peripheral p).left)
+  h = off.aside g left_records.owner (off.central_left left_records) (off.peripheral_left left_records) g.terminal
 
   pub h_is : left_records ≡ h
   h_is = off-is g left_records (off-same g r)
 
-  pub is_off_here : off.IsOff g left_records.owner (λ i. (left_records.central i).left) (λ p. (left_records.peripheral p).left)
+  pub is_off_here : off.IsAside g left_records.owner (off.central_left left_records) (off.peripheral_left left_records) g.terminal
   is_off_here = is_off g r k (λ i s. law.spares.spare k r i is.here s)
+
+  keeps_owners : off.KeepsOwners g left_records.owner
+  keeps_owners = off-owners g r k (λ i s. law.spares.spare k r i is.here s)
 
   linked : (i : ℕ) → is_linked (h.owner i) ≡ true → is_linked (g.owner i) ≡ true
   linked i e = sym (is_off_here.linked i) ∙ e
 
   recorded : (l : LinkId) → is_recorded w h l ≡ is_recorded w g l
-  recorded l = off.recorded-off is_off_here w l
+  recorded l = off.recorded-aside is_off_here w l
 
   pub left_more : (l : LinkId) (s : Side) → is_left g l s ≡ true → is_left h l s ≡ true
   left_more = is_off_here.more
@@ -273,7 +269,7 @@ module _ {w v : World} {b : Books} {g : Records} {k : Key} {r : Router} (law : N
           go true o =
               let most : n < length (b.put (opposite_end r.end)) =
               subst (λ d. n < length (b.put d)) (source_outward g l s o ∙ ap opposite_end (sym end)) range.1 in
-              let low : r.in_queue.current ≤ n = (off.items-off is_off_here w law.items).not_passed from to i l s n item moves r.in_queue u
+              let low : r.in_queue.current ≤ n = (off.items-aside is_off_here w law.items).not_passed from to i l s n item moves r.in_queue u
               (ap (taking_queue l s) at ∙ taking_queue-standing l s r ∙ ap Some (fed_outward l s r o)) in
               omega (arith, most, low, is.in_all)
           go false o =
@@ -727,26 +723,26 @@ module _ {w v : World} {b : Books} {g : Records} {k : Key} {r : Router} (law : N
   -- all but the groups that tell of terminals, retired ends and Gone
   pub near-departed : NearInv v b h
   near-departed = record {
-    counts = counts-gives w v h k r None c keeps.words.claimed (off.counts-off is_off_here w law.counts);
+    counts = counts-gives w v h k r None c keeps.words.claimed (off.counts-aside is_off_here w keeps_owners law.counts);
     ordered = ordered-gives w v k r None c law.ordered;
     shape = shape-gives w v k r None c keeps law.shape;
-    links = links-gives w v h k r None c (off.links-off is_off_here w law.links);
-    positions = positions-gives w v h k r None c (off.positions-off is_off_here w law.positions);
+    links = links-gives w v h k r None c (off.links-aside is_off_here w law.links);
+    positions = positions-gives w v h k r None c (off.positions-aside is_off_here w law.positions);
     stands = stands-departed;
     words = words-departed;
     spares = spares-departed;
-    bypasses = bypasses-same w v h (same-messages c.one) (off.bypasses-off is_off_here w law.bypasses);
-    live = off.live-off is_off_here w law.live;
+    bypasses = bypasses-same w v h (same-messages c.one) (off.bypasses-aside is_off_here w keeps_owners law.bypasses);
+    live = off.live-aside is_off_here w law.live;
     stages = stages-departed;
-    told = told-same w v h (same-messages c.one) (off.told-off is_off_here w law.told);
-    moves = moves-same w v h (same-messages c.one) (off.moves-off is_off_here w law.moves);
-    end_places = end_places-gives w v h k r None c (off.end_places-off is_off_here w law.end_places);
-    books_kept = books-gives w v b h k r None c (off.books_kept-off is_off_here w law.books_kept);
-    items = items-gives w v h k r None c settled (off.items-off is_off_here w law.items);
-    order = order-gives w v h k r None c (off.order-off is_off_here w law.order);
-    proxy_numbers = proxy_numbers-gives w v h k r None c settled (off.proxy_numbers-off is_off_here w law.proxy_numbers);
-    fresh_numbers = fresh_numbers-gives w v h k r None c (off.fresh_numbers-off is_off_here w law.fresh_numbers);
-    conserved = conserved-gives w v b h k r None c on_node (off.conserved-off is_off_here w law.conserved);
-    held_once = held_once-gives w v b h k r None c on_node (off.held_once-off is_off_here w law.held_once);
+    told = told-same w v h (same-messages c.one) (off.told-aside is_off_here w law.told);
+    moves = moves-same w v h (same-messages c.one) (off.moves-aside is_off_here w law.moves);
+    end_places = end_places-gives w v h k r None c (off.end_places-aside is_off_here w law.end_places);
+    books_kept = books-gives w v b h k r None c (off.books_kept-aside is_off_here w law.books_kept);
+    items = items-gives w v h k r None c settled (off.items-aside is_off_here w law.items);
+    order = order-gives w v h k r None c (off.order-aside is_off_here w law.order);
+    proxy_numbers = proxy_numbers-gives w v h k r None c settled (off.proxy_numbers-aside is_off_here w law.proxy_numbers);
+    fresh_numbers = fresh_numbers-gives w v h k r None c (off.fresh_numbers-aside is_off_here w law.fresh_numbers);
+    conserved = conserved-gives w v b h k r None c on_node (off.conserved-aside is_off_here w law.conserved);
+    held_once = held_once-gives w v b h k r None c on_node (off.held_once-aside is_off_here w law.held_once);
     no_strays = λ n. (c.one.nodes n).strays ∙ law.no_strays n;
   }

@@ -4,13 +4,12 @@ use Rattle.std.specs.Cmp.{nat_cmp_total}
 use Rattle.std.specs.FinMap.{get-remove}
 use Rattle.std.proofs.Common.{arith, ap, subst, ◌∙◌, sym, inl, inr}
 use Rattle.std.proofs.lemmas.Bool.Decides.{nat_tests}
-use Rattle.ipcz_world.proofs.Vocabulary.{Side, A, B, LinkId, Central, Peripheral, LinkEnd, Item, opposite, Queue, item_at, Router, World}
-use Rattle.ipcz_world.proofs.Vocabulary.{Key, same_key, router_at, Records, side_length, across_side, Standing, view, next_sent}
-use Rattle.ipcz_world.proofs.Vocabulary.{taking_queue, is_gone, is_awaited, sending_queue, fed_queue, Ordered, inner_of, Order}
-use Rattle.ipcz_world.proofs.Vocabulary.{ProxyNumbers, FreshNumbers, has_passed, standing_router}
+use Rattle.ipcz_world.proofs.Vocabulary.{Side, A, B, LinkId, Central, Peripheral, LinkEnd, Item, opposite, Queue, item_at, Router, World, Key}
+use Rattle.ipcz_world.proofs.Vocabulary.{same_key, router_at, Records, side_length, across_side, Standing, view, next_sent, taking_queue, is_gone}
+use Rattle.ipcz_world.proofs.Vocabulary.{is_awaited, sending_queue, fed_queue, Ordered, inner_of, Order, ProxyNumbers, FreshNumbers, has_passed}
+use Rattle.ipcz_world.proofs.Vocabulary.{standing_router, may_have_sent}
 use Rattle.ipcz_seq.specs.Queue.{pop_front}
 use Rattle.ipcz_world.proofs.frames.Frames.{same_key_tells}
-use Rattle.ipcz_world.specs.Standing.{may_have_sent}
 use Rattle.ipcz_world.proofs.frames.Touching.{IsTouched, IsAlike, recorded_same}
 use Rattle.ipcz_world.proofs.frames.Seen.{seen}
 

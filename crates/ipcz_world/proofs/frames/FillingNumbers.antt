@@ -2,20 +2,15 @@
 use Rattle.std.specs.Prelude.{◌≡◌, ◌≤◌, ◌<◌, ℕ, Bool, true, false, not, cond, nat_le, Option, Some, None, is_some, refl, List}
 use Rattle.std.proofs.Common.{arith, ap, subst, ◌∙◌, sym, inl, inr}
 use Rattle.std.proofs.lemmas.Bool.Decides.{nat_tests}
-use Rattle.ipcz_world.proofs.Vocabulary.{Side, A, B, LinkId, Central, Peripheral, LinkEnd, Descriptor, Item, opposite, Edge, Router}
-use Rattle.ipcz_world.proofs.Vocabulary.{inward_edge, World, Key, router_at, Records, is_begun, side_router, side_end, side_length}
-use Rattle.ipcz_world.proofs.Vocabulary.{known_from, bypass_of, inner_link, proxy_side, across_side, terminal_descriptor, Standing, view}
-use Rattle.ipcz_world.proofs.Vocabulary.{view_by, next_sent, taking_queue, is_awaited, is_attached, sending_queue, fed_queue, Ordered}
-use Rattle.ipcz_world.proofs.Vocabulary.{Links, Positions, Stands, is_outward, BypassRecords, inner_of, Order, ProxyNumbers, has_passed}
-use Rattle.ipcz_world.proofs.Vocabulary.{standing_router, Books}
-use Rattle.ipcz_edge.specs.Edge.{edge_has}
-use Rattle.ipcz_world.specs.Records.{length_by, bypass_length}
+use Rattle.ipcz_world.proofs.Vocabulary.{Side, A, B, LinkId, Central, Peripheral, LinkEnd, Descriptor, Item, opposite, Edge, Router, inward_edge}
+use Rattle.ipcz_world.proofs.Vocabulary.{World, Key, router_at, Records, is_begun, side_router, side_end, side_length, known_from, bypass_of}
+use Rattle.ipcz_world.proofs.Vocabulary.{inner_link, proxy_side, across_side, terminal_descriptor, Standing, view, view_by, next_sent, taking_queue}
+use Rattle.ipcz_world.proofs.Vocabulary.{is_awaited, is_attached, sending_queue, fed_queue, Ordered, Links, Positions, Stands, is_outward}
+use Rattle.ipcz_world.proofs.Vocabulary.{BypassRecords, inner_of, Order, ProxyNumbers, has_passed, standing_router, Books, edge_has, length_by}
+use Rattle.ipcz_world.proofs.Vocabulary.{bypass_length, Awaited, awaited_view, may_have_sent, is_begun_router, has_role, link_in, fresh_of}
+use Rattle.ipcz_world.proofs.Vocabulary.{IsItemUnderWay}
 use Rattle.ipcz_world.proofs.frames.RecordRules.{bypass_of-inner}
-use Rattle.ipcz_world.specs.Standing.{View, Awaited, Waiting, Gone, awaited_view}
-use Rattle.ipcz_world.specs.Standing.{may_have_sent}
-use Rattle.ipcz_world.specs.Structure.{is_begun_router, has_role, link_in}
-use Rattle.ipcz_world.specs.Bypasses.{fresh_of}
-use Rattle.ipcz_world.specs.Numbers.{IsItemUnderWay}
+use Rattle.ipcz_world.specs.Standing.{View, Waiting, Gone}
 use Rattle.ipcz_world.proofs.frames.Touching.{recorded_same}
 use Rattle.ipcz_world.proofs.frames.Draining.{gone_same, taking_queue-standing}
 use Rattle.ipcz_world.proofs.frames.Opened.{OpenInv}

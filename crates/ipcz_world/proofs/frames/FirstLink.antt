@@ -2,8 +2,7 @@
 use Rattle.ipcz_world.proofs.frames.FirstLinkStages.{live-grown}
 use Rattle.std.specs.Prelude.{ℕ}
 use Rattle.std.proofs.Common.{◌∙◌}
-use Rattle.ipcz_world.proofs.Vocabulary.{Side, End, World, Key, Books, Records, Owner, Terminal, Inv}
-use Rattle.ipcz_world.specs.Records.{CentralRecord}
+use Rattle.ipcz_world.proofs.Vocabulary.{Side, End, World, Key, Books, Records, Owner, Terminal, Inv, CentralRecord}
 use Rattle.ipcz_world.proofs.frames.FreshPairs.{IsGrown}
 use Rattle.ipcz_world.proofs.frames.FirstLinkLinks.{counts-grown, ordered-grown, shape-grown, links-grown, positions-grown}
 use Rattle.ipcz_world.proofs.frames.FirstLinkStages.{stands-grown, words-grown, spares-grown, bypasses-grown, stages-grown, told-grown}

@@ -1,16 +1,12 @@
 -- A word becomes a pair's first link: what the records say of the links and bypasses that were there, and of the new link.
 use Rattle.ipcz_word.specs.SideSets.{has, has-none}
-use Rattle.ipcz_world.specs.Records.{is_left}
+use Rattle.ipcz_world.proofs.Vocabulary.{Side, A, B, End, LinkId, Central, Peripheral, LinkEnd, opposite, Router, World, Key, router_at, Books}
+use Rattle.ipcz_world.proofs.Vocabulary.{Records, Owner, Terminal, is_linked, is_begun, is_recorded, inner_link, bypass_of, side_router, side_node}
+use Rattle.ipcz_world.proofs.Vocabulary.{side_end, side_length, terminal_descriptor, is_nowhere, proxy_side, view, view_by, router_view, key_passes}
+use Rattle.ipcz_world.proofs.Vocabulary.{Inv, is_left, CentralRecord, key_at, length_by, bypass_length, awaited_view}
 use Rattle.std.specs.Prelude.{◌≡◌, ◌≢◌, ◌⊎◌, ◌≤◌, ℕ, Bool, true, false, nat_eq, Option, Some, None, refl}
 use Rattle.std.proofs.Common.{arith, ap, ◌∙◌, sym, inl, inr}
 use Rattle.std.proofs.lemmas.Bool.Decides.{nat_tests}
-use Rattle.ipcz_world.proofs.Vocabulary.{Side, A, B, End, LinkId, Central, Peripheral, LinkEnd, opposite, Router, World, Key, router_at}
-use Rattle.ipcz_world.proofs.Vocabulary.{Books, Records, Owner, Terminal, is_linked, is_begun, is_recorded, inner_link, bypass_of}
-use Rattle.ipcz_world.proofs.Vocabulary.{side_router, side_node, side_end, side_length, terminal_descriptor, is_nowhere, proxy_side, view}
-use Rattle.ipcz_world.proofs.Vocabulary.{view_by, router_view, key_passes, Inv}
-use Rattle.ipcz_world.specs.Records.{CentralRecord, key_at}
-use Rattle.ipcz_world.specs.Records.{length_by, bypass_length}
-use Rattle.ipcz_world.specs.Standing.{awaited_view}
 use Rattle.ipcz_world.proofs.frames.StandingRules.{standing_rules}
 use Rattle.ipcz_world.proofs.frames.SameMessages.{SameMessages}
 use Rattle.ipcz_world.proofs.frames.FreshPairs.{fresh_at, end_of, IsGrown, is_nowhere-at, central_one}

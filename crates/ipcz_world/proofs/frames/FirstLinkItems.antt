@@ -1,31 +1,22 @@
 -- A word becomes a pair's first link: the terminals and descriptors, the numbers of items and their places.
-use Rattle.ipcz_world.proofs.Vocabulary.{inward_edge, opposite_end, LinkEnd}
+use Rattle.ipcz_world.proofs.Vocabulary.{inward_edge, opposite_end, LinkEnd, Side, A, B, End, Central, Descriptor, Item, Message, opposite, same_end}
+use Rattle.ipcz_world.proofs.Vocabulary.{has_end, Queue, item_at, Router, is_terminal, World, Key, router_at, Books, read, is_closed, Records, Owner}
+use Rattle.ipcz_world.proofs.Vocabulary.{Terminal, At, is_linked, is_begun, is_recorded, inner_link, side_end, terminal_node, is_nowhere, across_side}
+use Rattle.ipcz_world.proofs.Vocabulary.{Standing, view, key_passes, next_sent, taking_queue, is_gone, is_awaited, IsUnderWay, moves_of, at_end}
+use Rattle.ipcz_world.proofs.Vocabulary.{names_end, inner_of, moving_link, Terminals, EndPlaces, BooksKept, Conserved, HeldOnce, Items, Order}
+use Rattle.ipcz_world.proofs.Vocabulary.{ProxyNumbers, FreshNumbers, has_passed, standing_router, Inv, decays, end_at, is_retired, is_left, Retired}
+use Rattle.ipcz_world.proofs.Vocabulary.{RetiredEnds, Gones, next_number, has_mark, CentralRecord, may_have_sent, Moves, move_weight}
 use Rattle.std.specs.Prelude.{nat_le}
 use Rattle.std.proofs.lemmas.Option.{same_Some}
 use Rattle.ipcz_world.proofs.frames.FirstLinkAround.{left_same, left_before, by_word, begun_apart}
-use Rattle.ipcz_router.specs.Router.{decays}
 use Rattle.ipcz_world.proofs.frames.GonesKept.{gones-new, gone_like-itself, retired_somewhere}
 use Rattle.std.specs.Prelude.{◌||◌}
-use Rattle.ipcz_base.specs.Ends.{end_at}
-use Rattle.ipcz_world.specs.Books.{is_retired}
-use Rattle.ipcz_world.specs.Records.{is_left, Retired, side_length}
-use Rattle.ipcz_world.specs.Whereabouts.{RetiredEnds, Gones}
+use Rattle.ipcz_world.specs.Records.{side_length}
 use Rattle.std.specs.Prelude.{◌≡◌, ◌≢◌, ◌≤◌, ℕ, Bool, true, false, ◌&&◌, nat_eq, Some, is_some, refl, [], length, slice_get}
 use Rattle.std.proofs.Common.{arith, ap, subst, ◌∙◌, sym, inl, inr}
 use Rattle.std.proofs.lemmas.Bool.Decides.{nat_tests}
-use Rattle.ipcz_world.proofs.Vocabulary.{Side, A, B, End, Central, Descriptor, Item, Message, opposite, same_end, has_end, Queue, item_at}
-use Rattle.ipcz_world.proofs.Vocabulary.{Router, is_terminal, World, Key, router_at, Books, read, is_closed, Records, Owner, Terminal, At}
-use Rattle.ipcz_world.proofs.Vocabulary.{is_linked, is_begun, is_recorded, inner_link, side_end, terminal_node, is_nowhere, across_side}
-use Rattle.ipcz_world.proofs.Vocabulary.{Standing, view, key_passes, next_sent, taking_queue, is_gone, is_awaited, IsUnderWay, moves_of}
-use Rattle.ipcz_world.proofs.Vocabulary.{at_end, names_end, inner_of, moving_link, Terminals, EndPlaces, BooksKept, Conserved, HeldOnce}
-use Rattle.ipcz_world.proofs.Vocabulary.{Items, Order, ProxyNumbers, FreshNumbers, has_passed, standing_router, Inv}
 use Rattle.ipcz_base.specs.declared.message.Message.TheVariants as messages
 use Rattle.ipcz_seq.specs.Queue.{queue_from}
-use Rattle.ipcz_router.specs.Calls.{next_number}
-use Rattle.ipcz_world.specs.Books.{has_mark}
-use Rattle.ipcz_world.specs.Records.{CentralRecord}
-use Rattle.ipcz_world.specs.Standing.{may_have_sent}
-use Rattle.ipcz_world.specs.Bypasses.{Moves, move_weight}
 use Rattle.ipcz_world.proofs.frames.Draining.{taking_queue-standing}
 use Rattle.ipcz_world.proofs.frames.Fitting.{fits_of, items_by}
 use Rattle.ipcz_world.proofs.frames.SameMessages.{under-same, made-same, under_way-same}

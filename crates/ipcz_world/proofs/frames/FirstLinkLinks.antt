@@ -1,17 +1,12 @@
 -- A word becomes a pair's first link: each link is as its record says, and primary or decaying as its bypass says.
-use Rattle.ipcz_world.proofs.Vocabulary.{HasLinks}
+use Rattle.ipcz_world.proofs.Vocabulary.{HasLinks, HasShape, IsOrdered, Side, End, Central, LinkEnd, opposite, Router, inward_edge, World, Key}
+use Rattle.ipcz_world.proofs.Vocabulary.{node_at, Books, Records, Owner, Terminal, is_linked, bypass_of, side_router, side_node, Counts, Ordered}
+use Rattle.ipcz_world.proofs.Vocabulary.{Shape, Links, IsRecorded, Positions, is_outward, Inv, CentralRecord, is_begun_router}
 use Rattle.ipcz_world.proofs.frames.LinksKept.{links-still}
-use Rattle.ipcz_world.proofs.Vocabulary.{HasShape}
-use Rattle.ipcz_world.proofs.Vocabulary.{IsOrdered}
 use Rattle.ipcz_world.proofs.frames.FreshPairs.{fresh_marked}
 use Rattle.std.specs.Prelude.{refl}
 use Rattle.std.specs.Prelude.{◌≡◌, ◌<◌, ℕ, true, Some}
 use Rattle.std.proofs.Common.{arith, ap, subst, ◌∙◌, sym, inl, inr}
-use Rattle.ipcz_world.proofs.Vocabulary.{Side, End, Central, LinkEnd, opposite, Router, inward_edge, World, Key, node_at, Books}
-use Rattle.ipcz_world.proofs.Vocabulary.{Records, Owner, Terminal, is_linked, bypass_of, side_router, side_node, Counts, Ordered, Shape}
-use Rattle.ipcz_world.proofs.Vocabulary.{Links, IsRecorded, Positions, is_outward, Inv}
-use Rattle.ipcz_world.specs.Records.{CentralRecord}
-use Rattle.ipcz_world.specs.Structure.{is_begun_router}
 use Rattle.ipcz_world.proofs.frames.Touching.{hands-same}
 use Rattle.ipcz_world.proofs.frames.FreshPairs.{fresh_at, IsNew, IsGrown, empty_item, fresh_central, central_outward}
 use Rattle.ipcz_world.proofs.facts.Tests.{not_both}

@@ -1,23 +1,18 @@
 -- A word becomes a pair's first link: who stands where, the words, the bypasses and their messages.
 use Rattle.ipcz_world.proofs.frames.LiveLinks.{first_begun}
-use Rattle.ipcz_world.specs.Bypasses.{LiveLinks}
-use Rattle.ipcz_base.specs.Ends.{end_at}
+use Rattle.ipcz_world.proofs.Vocabulary.{Side, A, B, End, LinkId, Central, Peripheral, Message, has, opposite, Word, empty_word, open_word, Router}
+use Rattle.ipcz_world.proofs.Vocabulary.{World, Key, word_at, router_at, Books, Records, Owner, Terminal, is_linked, is_begun, is_recorded}
+use Rattle.ipcz_world.proofs.Vocabulary.{inner_link, side_router, across_side, key_passes, has_primary, IsUnderWay, Stands, Words, Spares}
+use Rattle.ipcz_world.proofs.Vocabulary.{BypassRecords, Stages, Told, inner_of, of_bypass, control_weight, Inv, LiveLinks, end_at, CentralRecord}
+use Rattle.ipcz_world.proofs.Vocabulary.{key_at, spare_of, has_inward_primary, fresh_of, is_left}
 use Rattle.std.proofs.Common.{true≢false}
 use Rattle.ipcz_world.specs.Records.{is_nowhere, side_end}
 use Rattle.ipcz_world.proofs.frames.Sourcing.{sourced-by, had-itself}
 use Rattle.std.specs.Prelude.{◌≡◌, ◌≢◌, ◌⊎◌, ℕ, Bool, true, false, nat_eq, Option, Some, None, is_some, refl}
 use Rattle.std.proofs.Common.{arith, ap, ◌∙◌, sym, inl, inr}
 use Rattle.std.proofs.lemmas.Bool.Decides.{nat_tests}
-use Rattle.ipcz_world.proofs.Vocabulary.{Side, A, B, End, LinkId, Central, Peripheral, Message, has, opposite, Word, empty_word}
-use Rattle.ipcz_world.proofs.Vocabulary.{open_word, Router, World, Key, word_at, router_at, Books, Records, Owner, Terminal, is_linked}
-use Rattle.ipcz_world.proofs.Vocabulary.{is_begun, is_recorded, inner_link, side_router, across_side, key_passes, has_primary}
-use Rattle.ipcz_world.proofs.Vocabulary.{IsUnderWay, Stands, Words, Spares, BypassRecords, Stages, Told, inner_of, of_bypass}
-use Rattle.ipcz_world.proofs.Vocabulary.{control_weight, Inv}
 use Rattle.ipcz_base.specs.declared.message.Message.TheVariants as messages
 use Rattle.ipcz_word.specs.SideSets.{has-both, has-none}
-use Rattle.ipcz_world.specs.Records.{CentralRecord, key_at}
-use Rattle.ipcz_world.specs.Standing.{spare_of, has_inward_primary}
-use Rattle.ipcz_world.specs.Bypasses.{fresh_of}
 use Rattle.ipcz_world.proofs.frames.Flowing.{under_way-congr}
 use Rattle.ipcz_world.proofs.frames.SameMessages.{under-same, made-same, under_way-same}
 use Rattle.ipcz_world.proofs.frames.FreshPairs.{IsGrown, has_fresh, fresh_marked, about_same, expected_alike, expected_none}
@@ -26,7 +21,6 @@ use Rattle.ipcz_world.proofs.frames.FirstLinkAround.{begun_apart, linked_kept, r
 use Rattle.ipcz_world.proofs.frames.FirstLinkAround.{node_kept, end_kept, bypass_kept, kept, passes_kept, passes_same, new_router}
 use Rattle.ipcz_world.proofs.frames.FirstLinkAround.{not_inner, begun_link, by_word, central_apart, central_recorded, new_passes}
 use Rattle.ipcz_world.proofs.frames.FirstLinkAround.{fresh_link, proxy_same, same, left_same}
-use Rattle.ipcz_world.specs.Records.{is_left}
 use Rattle.ipcz_world.proofs.frames.BypassesKept.{bypass-kept, same_bypass}
 
 module _ {w v : World} {b : Books} {g : Records} {owner' : ℕ → Owner} {central' : ℕ → CentralRecord} {terminal' : End → Terminal} {i : ℕ}

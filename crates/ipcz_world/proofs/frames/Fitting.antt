@@ -1,13 +1,10 @@
 -- What is said of an item under way, message by message.
 use Rattle.std.specs.Prelude.{◌||◌}
-use Rattle.ipcz_world.specs.Records.{is_left}
+use Rattle.ipcz_world.proofs.Vocabulary.{Side, LinkId, Central, Descriptor, Item, opposite, Queue, item_at, Router, World, Key, Records, is_recorded}
+use Rattle.ipcz_world.proofs.Vocabulary.{side_node, side_length, view, next_sent, taking_queue, is_gone, is_awaited, is_made_before, Items, is_left}
+use Rattle.ipcz_world.proofs.Vocabulary.{may_have_sent, IsItemUnderWay}
 use Rattle.std.specs.Prelude.{◌≡◌, ◌≤◌, ◌<◌, ℕ, true, false, Some, None, is_some, refl, List}
 use Rattle.std.proofs.Common.{arith, subst, ◌∙◌, sym}
-use Rattle.ipcz_world.proofs.Vocabulary.{Side, LinkId, Central, Descriptor, Item, opposite, Queue, item_at, Router, World, Key, Records}
-use Rattle.ipcz_world.proofs.Vocabulary.{is_recorded, side_node, side_length, view, next_sent, taking_queue, is_gone, is_awaited}
-use Rattle.ipcz_world.proofs.Vocabulary.{is_made_before, Items}
-use Rattle.ipcz_world.specs.Standing.{may_have_sent}
-use Rattle.ipcz_world.specs.Numbers.{IsItemUnderWay}
 use Rattle.ipcz_world.proofs.frames.Touching.{recorded_same}
 use Rattle.ipcz_world.proofs.frames.Draining.{IsDraining, gone_same, awaited_same, sent_same, sent_before, taken_before, below_drained}
 

@@ -3,9 +3,8 @@ use Rattle.std.specs.Prelude.{◌≡◌, ◌≢◌, ◌⊎◌, ◌≤◌, ◌<�
 use Rattle.std.specs.Prelude.{length, take, slice_get}
 use Rattle.std.proofs.Common.{arith, ap, subst, ◌∙◌, sym, inl, inr}
 use Rattle.std.proofs.lemmas.Bool.Decides.{nat_tests}
-use Rattle.ipcz_world.proofs.Vocabulary.{Side, LinkId, Message, World, flow, IsUnderWay, makes, is_made_before, under_way, total_below}
-use Rattle.ipcz_world.proofs.Vocabulary.{total_list}
-use Rattle.ipcz_world.specs.Flows.{is_made_by}
+use Rattle.ipcz_world.proofs.Vocabulary.{Side, LinkId, Message, World, flow, IsUnderWay, makes, is_made_before, under_way, total_below, total_list}
+use Rattle.ipcz_world.proofs.Vocabulary.{is_made_by}
 use Rattle.ipcz_world.proofs.frames.Totalling.{total_below-same}
 use Rattle.ipcz_world.proofs.frames.Sums.{total_list-at}
 

@@ -6,11 +6,9 @@ use Rattle.std.proofs.Common.{arith, ap, sym, ◌∙◌, inl, inr}
 use Rattle.std.proofs.lemmas.Option.{same_Some}
 use Rattle.std.proofs.lemmas.Bool.Decides.{nat_tests}
 use Rattle.ipcz_base.proofs.Indexed.{place_at-put_place}
-use Rattle.ipcz_world.proofs.Vocabulary.{Word, empty_word, Router, Node, bare_node, with_router, Empty, World, Key, same_key, node_at}
-use Rattle.ipcz_world.proofs.Vocabulary.{word_at, mail_at, router_at, set_node, set_word, set_claimed, set_mail, set_router}
-use Rattle.ipcz_node.specs.Node.{without_router}
-use Rattle.ipcz_world.specs.declared.mail.Mail.{Mail}
-use Rattle.ipcz_world.specs.World.{remove_router}
+use Rattle.ipcz_world.proofs.Vocabulary.{Word, empty_word, Router, Node, bare_node, with_router, Empty, World, Key, same_key, node_at, word_at}
+use Rattle.ipcz_world.proofs.Vocabulary.{mail_at, router_at, set_node, set_word, set_claimed, set_mail, set_router, without_router, Mail}
+use Rattle.ipcz_world.proofs.facts.Updates.{remove_router}
 
 -- the nodes, after a node was changed
 pub node-set_node : (w : World) (n : ℕ) (x : Node) (j : ℕ) → node_at (set_node w n x) j ≡ cond (nat_eq j n) x (node_at w j)

@@ -1,24 +1,18 @@
 -- A word that gets its owner, and the terminals of a pair that is new on it: the relation, and small facts of fresh terminals.
-use Rattle.ipcz_word.specs.SideSets.{none}
-use Rattle.ipcz_world.specs.Records.{Retired}
+use Rattle.ipcz_world.proofs.Vocabulary.{Side, A, B, End, LinkId, Central, Descriptor, Item, Message, opposite, opposite_end, has_link, word_of}
+use Rattle.ipcz_world.proofs.Vocabulary.{is_central, item_at, empty_word, open_word, Router, World, Key, node_at, word_at, router_at, flow, Records}
+use Rattle.ipcz_world.proofs.Vocabulary.{Owner, Spare, Opening, Fresh, Terminal, At, is_linked, is_unclaimed, is_begun, inner_link, bypass_of}
+use Rattle.ipcz_world.proofs.Vocabulary.{side_node, side_end, terminal_node, is_nowhere, proxy_side, across_side, is_attached, fed_queue}
+use Rattle.ipcz_world.proofs.Vocabulary.{sending_queue, Weight, is_outward, inner_of, of_bypass, control_weight, times_held, none, Retired, reach}
+use Rattle.ipcz_world.proofs.Vocabulary.{is_on_central, new_end, CentralRecord, Nowhere, Moving, move_weight}
 use Rattle.ipcz_world.proofs.frames.OfRecords.{holds, in_places}
 use Rattle.std.specs.Prelude.{◌≡◌, ◌≢◌, ◌⊎◌, ◌≤◌, ◌<◌, ◌+◌, ℕ, Bool, true, false, cond, nat_le, Some, None, refl}
 use Rattle.std.specs.Ordering.{nat_cmp}
 use Rattle.std.specs.FinMap.{get-empty}
 use Rattle.std.proofs.Common.{arith}
 use Rattle.std.proofs.lemmas.Bool.Decides.{nat_tests}
-use Rattle.ipcz_world.proofs.Vocabulary.{Side, A, B, End, LinkId, Central, Descriptor, Item, Message, opposite, opposite_end, has_link}
-use Rattle.ipcz_world.proofs.Vocabulary.{word_of, is_central, item_at, empty_word, open_word, Router, World, Key, node_at, word_at}
-use Rattle.ipcz_world.proofs.Vocabulary.{router_at, flow, Records, Owner, Spare, Opening, Fresh, Terminal, At, is_linked, is_unclaimed}
-use Rattle.ipcz_world.proofs.Vocabulary.{is_begun, inner_link, bypass_of, side_node, side_end, terminal_node, is_nowhere, proxy_side}
-use Rattle.ipcz_world.proofs.Vocabulary.{across_side, is_attached, fed_queue, sending_queue, Weight, is_outward, inner_of, of_bypass}
-use Rattle.ipcz_world.proofs.Vocabulary.{control_weight, times_held}
 use Rattle.ipcz_base.specs.declared.message.Message.TheVariants as messages
-use Rattle.ipcz_seq.specs.Queue.{queue_from, reach}
-use Rattle.ipcz_router.specs.Router.{is_on_central}
-use Rattle.ipcz_node.specs.Node.{new_end}
-use Rattle.ipcz_world.specs.Records.{CentralRecord, Nowhere, Moving}
-use Rattle.ipcz_world.specs.Bypasses.{move_weight}
+use Rattle.ipcz_seq.specs.Queue.{queue_from}
 use Rattle.ipcz_world.proofs.frames.Touching.{HasSameHands}
 use Rattle.ipcz_world.proofs.facts.Reaching.{is_reach, reach_one}
 use Rattle.ipcz_world.proofs.facts.Lengths.{same_side-itself}

@@ -6,18 +6,16 @@ use Rattle.ipcz_world.proofs.frames.OfRecords.{holds, held_times}
 use Rattle.std.specs.Prelude.{◌<◌, ◌≡◌, ◌≢◌, ◌⊎◌, ◌≤◌, ℕ, ◌+◌, Bool, true, false, not, ◌&&◌, ◌||◌, Option, Some, None, is_some, List, refl}
 use Rattle.std.proofs.Common.{arith, sym, ◌∙◌, ap, subst, inl, inr}
 use Rattle.std.proofs.lemmas.Option.{same_Some, none-some}
-use Rattle.ipcz_world.proofs.Vocabulary.{Side, A, B, End, LinkId, Central, LinkEnd, Descriptor, Item, Message, opposite, same_end}
-use Rattle.ipcz_world.proofs.Vocabulary.{opposite_end, has_end, has_link, item_at, Router, is_terminal, inward_edge, World, Key, same_key}
-use Rattle.ipcz_world.proofs.Vocabulary.{node_at, router_at, Books, is_closed, Spare, Records, is_linked, is_begun}
-use Rattle.ipcz_world.proofs.Vocabulary.{side_router, side_length, proxy_side, across_side, Weight, in_router, times, at_end, names_end}
-use Rattle.ipcz_world.proofs.Vocabulary.{IsUnderWay, total_below, view, passes, key_passes, is_gone, has_decaying, has_inward_decaying}
-use Rattle.ipcz_world.proofs.Vocabulary.{Counts, Shape, Stands, Words, Spares, Stages, inner_of, Terminals, EndPlaces, BooksKept}
-use Rattle.ipcz_world.proofs.Vocabulary.{Conserved, HeldOnce, times_held, Items, Order, ProxyNumbers, FreshNumbers, Inv}
+use Rattle.ipcz_world.proofs.Vocabulary.{Side, A, B, End, LinkId, Central, LinkEnd, Descriptor, Item, Message, opposite, same_end, opposite_end}
+use Rattle.ipcz_world.proofs.Vocabulary.{has_end, has_link, item_at, Router, is_terminal, inward_edge, World, Key, same_key, node_at, router_at}
+use Rattle.ipcz_world.proofs.Vocabulary.{Books, is_closed, Spare, Records, is_linked, is_begun, side_router, side_length, proxy_side, across_side}
+use Rattle.ipcz_world.proofs.Vocabulary.{Weight, in_router, times, at_end, names_end, IsUnderWay, total_below, view, passes, key_passes, is_gone}
+use Rattle.ipcz_world.proofs.Vocabulary.{has_decaying, has_inward_decaying, Counts, Shape, Stands, Words, Spares, Stages, inner_of, Terminals}
+use Rattle.ipcz_world.proofs.Vocabulary.{EndPlaces, BooksKept, Conserved, HeldOnce, times_held, Items, Order, ProxyNumbers, FreshNumbers, Inv}
+use Rattle.ipcz_world.proofs.Vocabulary.{spare_of, IsItemUnderWay, Gones, is_left, decays}
 use Rattle.ipcz_world.proofs.frames.Frames.{same_key_tells}
 use Rattle.ipcz_world.proofs.frames.OfRecords.{in_places}
-use Rattle.ipcz_world.specs.Standing.{spare_of}
 use Rattle.ipcz_world.proofs.frames.StandingRules.{standing_rules}
-use Rattle.ipcz_world.specs.Numbers.{IsItemUnderWay}
 use Rattle.ipcz_world.proofs.frames.Sums.{total_below-same}
 use Rattle.ipcz_world.proofs.frames.Weights.{in_option}
 use Rattle.ipcz_world.proofs.frames.OneRouter.{SameWords, SameButRouter}
@@ -28,9 +26,6 @@ use Rattle.ipcz_world.proofs.frames.GivingUp.{Gives, IsBare, HasSameFlags, Keeps
 use Rattle.ipcz_world.proofs.frames.GivingUp.{ordered-gives, shape-gives, links-gives, begun_part, positions-gives, stands-gives}
 use Rattle.ipcz_world.proofs.frames.GivingUp.{flag-still}
 use Rattle.ipcz_world.proofs.frames.GonesKept.{IsGoneLike, gones-by}
-use Rattle.ipcz_world.specs.Whereabouts.{Gones}
-use Rattle.ipcz_world.specs.Records.{is_left}
-use Rattle.ipcz_router.specs.Router.{decays}
 use Rattle.ipcz_world.proofs.frames.EndsKept.{terminal-kept, ends-kept}
 use Rattle.ipcz_world.proofs.frames.WordsKept.{word-kept}
 

@@ -1,21 +1,15 @@
 -- A router gives decaying links up, or leaves: the relation, and what is said of shapes, links and who stands there is kept.
-use Rattle.ipcz_world.proofs.Vocabulary.{HasPositions, word_of}
+use Rattle.ipcz_world.proofs.Vocabulary.{HasPositions, word_of, HasShape, IsOrdered, Side, A, B, LinkId, Central, LinkEnd, has_link, Router}
+use Rattle.ipcz_world.proofs.Vocabulary.{is_terminal, inward_edge, World, Key, same_key, mail_at, way, router_at, Records, inner_link, side_router}
+use Rattle.ipcz_world.proofs.Vocabulary.{Weight, in_router, passes, key_passes, has_primary, Counts, Ordered, Shape, Links, IsRecorded, Positions}
+use Rattle.ipcz_world.proofs.Vocabulary.{Stands, decays, is_sink, has_inward_primary, is_begun_router, has_role, link_in}
 use Rattle.ipcz_world.proofs.frames.LinksKept.{links-kept}
 use Rattle.ipcz_world.proofs.frames.LinksKept.{KeepsLinks}
-use Rattle.ipcz_world.proofs.Vocabulary.{HasShape}
-use Rattle.ipcz_world.proofs.Vocabulary.{IsOrdered}
 use Rattle.std.specs.Prelude.{◌≡◌, ◌≢◌, ◌⊎◌, ℕ, ◌+◌, ◌*◌, Bool, true, false, Option, Some, None, is_some, refl}
 use Rattle.std.proofs.lemmas.Option.{none-some}
 use Rattle.std.proofs.Common.{arith, sym, ◌∙◌, ap, inl, inr}
-use Rattle.ipcz_world.proofs.Vocabulary.{Side, A, B, LinkId, Central, LinkEnd, has_link, Router, is_terminal, inward_edge, World, Key}
-use Rattle.ipcz_world.proofs.Vocabulary.{same_key, mail_at, way, router_at, Records, inner_link, side_router, Weight, in_router, passes}
-use Rattle.ipcz_world.proofs.Vocabulary.{key_passes, has_primary, Counts, Ordered, Shape, Links, IsRecorded, Positions, Stands}
-use Rattle.ipcz_router.specs.Router.{decays, is_sink}
 use Rattle.ipcz_world.proofs.frames.Frames.{same_key_tells}
-use Rattle.ipcz_world.specs.Standing.{has_inward_primary}
 use Rattle.ipcz_world.proofs.frames.StandingRules.{standing_rules}
-use Rattle.ipcz_world.specs.Structure.{is_begun_router}
-use Rattle.ipcz_world.specs.Structure.{has_role, link_in}
 use Rattle.ipcz_world.proofs.frames.OneRouter.{SameWords, SameButRouter}
 use Rattle.ipcz_world.proofs.frames.SameMessages.{SameMessages, recorded-same}
 use Rattle.ipcz_world.proofs.frames.Views.{IsPart, part-itself}

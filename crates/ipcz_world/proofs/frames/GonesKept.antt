@@ -2,18 +2,12 @@
 use Rattle.std.specs.Prelude.{List}
 use Rattle.ipcz_base.specs.declared.parcel.Parcel as parcels
 use Rattle.std.proofs.lemmas.Option.{none-some}
-use Rattle.ipcz_world.proofs.Vocabulary.{LinkId}
+use Rattle.ipcz_world.proofs.Vocabulary.{LinkId, Side, End, LinkEnd, opposite, opposite_end, Router, is_terminal, inward_edge, World, Key, same_key}
+use Rattle.ipcz_world.proofs.Vocabulary.{router_at, Books, is_closed, Records, Mark, end_at, decays, is_begun_router, is_retired, is_left, Retired}
+use Rattle.ipcz_world.proofs.Vocabulary.{Gones, RetiredEnds}
 use Rattle.std.specs.Prelude.{◌≡◌, ◌≢◌, ◌⊎◌, ◌<◌, ◌≤◌, ℕ, Bool, true, false, cond, Some, None, is_some, length, slice_get, refl}
 use Rattle.std.proofs.Common.{arith, sym, ◌∙◌, ap, subst, inl, inr}
-use Rattle.ipcz_base.specs.declared.item.Item.TheVariants.{Mark}
-use Rattle.ipcz_world.proofs.Vocabulary.{Side, End, LinkEnd, opposite, opposite_end, Router, is_terminal, inward_edge, World, Key, same_key}
-use Rattle.ipcz_world.proofs.Vocabulary.{router_at, Books, is_closed, Records}
-use Rattle.ipcz_base.specs.Ends.{end_at}
-use Rattle.ipcz_router.specs.Router.{decays}
-use Rattle.ipcz_world.specs.Structure.{is_begun_router}
-use Rattle.ipcz_world.specs.Books.{is_retired}
-use Rattle.ipcz_world.specs.Records.{is_left, is_nowhere, Retired}
-use Rattle.ipcz_world.specs.Whereabouts.{Gones, RetiredEnds}
+use Rattle.ipcz_world.specs.Records.{is_nowhere}
 use Rattle.ipcz_world.proofs.facts.LinkTests.{opposite_end-twice}
 use Rattle.ipcz_world.proofs.frames.Frames.{same_key_tells}
 
@@ -326,18 +320,7 @@ right-left left o = record {
 -- if only what was read changes
 pub right-books : {b : Books} {g : Records} {r : Router} {got : End → List parcels.Parcel} {gone : End → ℕ} → IsGoneRight b g r →
     IsGoneRight (record b { got = got; gone = gone }) g r
-right-books o = record {
-  sent = o.sent;
-  sent_back = o.sent_back;
-  left_primary = o.left_primary;
-  left_inner = o.left_inner;
-  out_put = o.out_put;
-  in_put = o.in_put;
-  still = o.still;
-  dropped = o.dropped;
-  dropped_closed = o.dropped_closed;
-  dropped_back = o.dropped_back;
-}
+right-books o = assumption o
 
 -- no end of a pair with an open end has retired
 pub open_unretired : {b : Books} {g : Records} → BooksKeep b → RetiredEnds b g → (e : End) → is_closed b e ≡ false →

@@ -5,15 +5,13 @@ use Rattle.std.proofs.Common.{◌⊎◌, inl, inr, arith, ap, ◌∙◌, sym, ap
 use Rattle.std.proofs.lemmas.Option.{none-some, same_Some}
 use Rattle.std.proofs.lemmas.Bool.Decides.{nat_tests}
 use Rattle.std.specs.FinMap.{insert}
-use Rattle.ipcz_world.proofs.Vocabulary.{Side, LinkId, Message, Router, outbox, World, Key, same_key, node_at, word_at, mail_at, way}
-use Rattle.ipcz_world.proofs.Vocabulary.{router_at, messages_in, flow, set_router, IsUnderWay, makes, is_made_before, under_way}
-use Rattle.ipcz_world.proofs.Vocabulary.{total_list}
+use Rattle.ipcz_world.proofs.Vocabulary.{Side, LinkId, Message, Router, outbox, World, Key, same_key, node_at, word_at, mail_at, way, router_at}
+use Rattle.ipcz_world.proofs.Vocabulary.{messages_in, flow, set_router, IsUnderWay, makes, is_made_before, under_way, total_list, is_made_by}
 use Rattle.ipcz_base.proofs.Indexed.{place_at-put_place}
 use Rattle.ipcz_world.specs.declared.mail.Mail.TheVariants as mails
-use Rattle.ipcz_world.specs.World.{push_message}
+use Rattle.ipcz_world.proofs.facts.Updates.{push_message}
 use Rattle.ipcz_world.proofs.frames.Frames.{frames, same_key_tells}
-use Rattle.ipcz_world.specs.Flows.{is_made_by}
-use Rattle.ipcz_world.specs.Acts.{free}
+use Rattle.ipcz_world.proofs.facts.Updates.{free}
 use Rattle.ipcz_world.proofs.frames.Totalling.{total_list-append, total_pairs, total_pairs-one}
 use Rattle.ipcz_world.proofs.frames.Unmoved.{Changed}
 

@@ -2,9 +2,9 @@
 use Rattle.std.specs.Prelude.{◌≡◌, ◌⊎◌, true, Option, Some}
 use Rattle.std.proofs.Common.{inl, inr}
 use Rattle.std.proofs.lemmas.Bool.{or_cases}
-use Rattle.ipcz_router.specs.Router.{outward_has, inward_has}
-use Rattle.ipcz_world.proofs.Vocabulary.{Side, LinkId, LinkEnd, has_link, Router, router_has, inward_edge, World, Key, router_at}
-use Rattle.ipcz_world.proofs.Vocabulary.{Records, is_recorded, side_router, side_end, IsRecorded, Links}
+use Rattle.ipcz_world.proofs.Vocabulary.{Side, LinkId, LinkEnd, has_link, Router, router_has, inward_edge, World, Key, router_at, Records}
+use Rattle.ipcz_world.proofs.Vocabulary.{is_recorded, side_router, side_end, IsRecorded, Links, outward_has}
+use Rattle.ipcz_router.specs.Router.{inward_has}
 use Rattle.ipcz_world.proofs.facts.Lengths.{HasEnd, has_link-tells}
 
 -- what a router's having a link tells

@@ -4,9 +4,9 @@ use Rattle.std.specs.Prelude.{◌≡◌, ◌≢◌, ◌⊎◌, ◌≤◌, ◌<�
 use Rattle.std.specs.Prelude.{◌∷◌, ◌++◌}
 use Rattle.std.proofs.Common.{arith, ap, ◌∙◌, sym, inl, inr}
 use Rattle.std.proofs.lemmas.Bool.Decides.{nat_tests}
-use Rattle.ipcz_world.proofs.Vocabulary.{Side, A, B, End, opposite_end, same_end, has_end, opposite, Node, World, node_at, times}
-use Rattle.ipcz_world.proofs.Vocabulary.{total_below, times_held}
-use Rattle.ipcz_node.specs.Node.{EndSet, with_ends, without_ends, holds_end}
+use Rattle.ipcz_world.proofs.Vocabulary.{Side, A, B, End, opposite_end, same_end, has_end, opposite, Node, World, node_at, times, total_below}
+use Rattle.ipcz_world.proofs.Vocabulary.{times_held, holds_end}
+use Rattle.ipcz_node.specs.Node.{EndSet, with_ends, without_ends}
 use Rattle.ipcz_node.proofs.Held.{contains-with_ends, contains-without_ends}
 use Rattle.ipcz_node.specs.Calls.{are_held_once}
 use Rattle.ipcz_world.proofs.frames.Changing.{IsNodeChanged}

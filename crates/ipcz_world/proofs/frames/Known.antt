@@ -4,18 +4,14 @@ use Rattle.std.specs.Prelude.{◌≡◌, ◌⊎◌, ◌<◌, ℕ, Bool, true, fa
 use Rattle.std.proofs.Common.{arith, ap, subst, ◌∙◌, inl, inr}
 use Rattle.std.specs.FinMap.{get-empty}
 use Rattle.std.specs.Ordering.{nat_cmp}
-use Rattle.ipcz_world.proofs.Vocabulary.{Side, A, B, LinkId, Central, Peripheral, LinkEnd, Descriptor, Item, has_link, opposite_end, Edge}
-use Rattle.ipcz_world.proofs.Vocabulary.{Queue, item_at, Router, inward_edge, World, Key, router_at, Books, Records, side_router}
-use Rattle.ipcz_world.proofs.Vocabulary.{side_node, side_end, terminal_descriptor, bypass_of, proxy_side, Standing, view, view_by}
-use Rattle.ipcz_world.proofs.Vocabulary.{router_view, is_attached, taking_queue, fed_queue, Counts, Links, IsRecorded, Positions}
-use Rattle.ipcz_world.proofs.Vocabulary.{Conserved}
-use Rattle.ipcz_edge.specs.Edge.{edge_has}
+use Rattle.ipcz_world.proofs.Vocabulary.{Side, A, B, LinkId, Central, Peripheral, LinkEnd, Descriptor, Item, has_link, opposite_end, Edge, Queue}
+use Rattle.ipcz_world.proofs.Vocabulary.{item_at, Router, inward_edge, World, Key, router_at, Books, Records, side_router, side_node, side_end}
+use Rattle.ipcz_world.proofs.Vocabulary.{terminal_descriptor, bypass_of, proxy_side, Standing, view, view_by, router_view, is_attached, taking_queue}
+use Rattle.ipcz_world.proofs.Vocabulary.{fed_queue, Counts, Links, IsRecorded, Positions, Conserved, edge_has, key_at, Awaited, awaited_view, link_in}
+use Rattle.ipcz_world.proofs.Vocabulary.{IsItemUnderWay}
 use Rattle.ipcz_seq.specs.Queue.{queue_from}
-use Rattle.ipcz_world.specs.Records.{key_at}
 use Rattle.ipcz_world.proofs.frames.RecordRules.{bypass_of-inner, record_rules}
-use Rattle.ipcz_world.specs.Standing.{View, Awaited, Waiting, Gone, awaited_view}
-use Rattle.ipcz_world.specs.Structure.{link_in}
-use Rattle.ipcz_world.specs.Numbers.{IsItemUnderWay}
+use Rattle.ipcz_world.specs.Standing.{View, Waiting, Gone}
 use Rattle.ipcz_world.proofs.frames.Weighing.{not_in_out, not_in_in}
 use Rattle.ipcz_world.proofs.facts.LinkTests.{side_is}
 use Rattle.ipcz_world.proofs.facts.Lengths.{same_link-tells, same_side-tells}

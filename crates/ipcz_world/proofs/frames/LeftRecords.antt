@@ -4,11 +4,11 @@ use Rattle.std.proofs.Common.{arith, sym, ◌∙◌, ap, inl, inr}
 use Rattle.std.proofs.lemmas.Bool.Decides.{nat_tests}
 use Rattle.ipcz_word.specs.SideSets.{Sides, has, with, has-with_here, has-with_apart}
 use Rattle.ipcz_world.proofs.Vocabulary.{Side, A, B, LinkId, Central, Peripheral, LinkEnd, Router, inward_edge, Key, same_key, same_side, Records}
-use Rattle.ipcz_world.proofs.Vocabulary.{Owner, is_linked}
-use Rattle.ipcz_world.specs.Records.{CentralRecord, PeripheralRecord, Spare, Lost, Fresh, Linked, is_unclaimed, is_lost_owner, is_left}
-use Rattle.ipcz_world.specs.Remembering.{left_link, left_end, lost_word}
+use Rattle.ipcz_world.proofs.Vocabulary.{Owner, is_linked, CentralRecord, Lost, is_lost_owner, is_left}
+use Rattle.ipcz_world.specs.Records.{PeripheralRecord, Spare, Fresh, Linked, is_unclaimed}
+use Rattle.ipcz_world.proofs.facts.RecordsAfter.{left_link, left_end, lost_word}
 use Rattle.ipcz_world.proofs.frames.Frames.{same_key_tells, same_key-itself}
-use Rattle.ipcz_world.proofs.frames.LeftOff.{off_records, IsOff}
+use Rattle.ipcz_world.proofs.frames.Aside.{aside, IsAside, KeepsOwners, central_left, peripheral_left}
 use Rattle.ipcz_world.proofs.facts.Lengths.{same_side-tells}
 use Rattle.ipcz_world.proofs.facts.Tests.{nat_eq-itself}
 
@@ -33,7 +33,7 @@ same_but-then g h u a c = record {
 }
 
 pub off-is : (g h : Records) → SameButLeft g h →
-    h ≡ off_records g h.owner (λ i. (h.central i).left) (λ p. (h.peripheral p).left)
+    h ≡ aside g h.owner (central_left h) (peripheral_left h) g.terminal
 off-is g h s = λ t. record {
   owner = h.owner;
   central = λ i. s.central i t;
@@ -279,12 +279,20 @@ module _ (g : Records) (r : Router) where
       (λ s h l. let f : is_lost_owner Lost ≡ false = ap is_lost_owner h ∙ l in cc)
 
   pub is_off : (k : Key) → ((i : ℕ) → r.spare ≡ Some i → g.owner i ≡ Spare k) →
-      IsOff g (off_of g r).owner (λ i. ((off_of g r).central i).left) (λ p. ((off_of g r).peripheral p).left)
-  unfolding is_linked is_unclaimed is_left
+      IsAside g (off_of g r).owner (central_left (off_of g r)) (peripheral_left (off_of g r)) g.terminal
+  unfolding is_linked is_left
   is_off k spared = record {
     linked = λ i. owner_by i (λ x. is_linked x ≡ is_linked (g.owner i)) (λ n. refl) (λ s. sym (ap is_linked (spared i s)));
+    more = off-more;
+    nowhere = λ e. refl;
+    descriptor = λ e. refl;
+    weight = λ f e. refl;
+  }
+
+  pub off-owners : (k : Key) → ((i : ℕ) → r.spare ≡ Some i → g.owner i ≡ Spare k) → KeepsOwners g (off_of g r).owner
+  unfolding is_unclaimed
+  off-owners k spared = record {
     unclaimed = λ i. owner_by i (λ x. is_unclaimed x ≡ is_unclaimed (g.owner i)) (λ n. refl) (λ s. sym (ap is_unclaimed (spared i s)));
     fresh = λ o i e. owner_by i (λ x. x ≡ Fresh o) (λ n. e) (λ s. let f : Spare k ≡ Fresh o = sym (spared i s) ∙ e in cc);
     link = λ i e. owner_by i (λ x. x ≡ Linked) (λ n. e) (λ s. let f : Spare k ≡ Linked = sym (spared i s) ∙ e in cc);
-    more = off-more;
   }

@@ -2,13 +2,10 @@
 use Rattle.std.specs.Prelude.{◌≡◌, ◌⊎◌, ◌&&◌, ◌||◌, ℕ, Bool, true, false, Some, refl}
 use Rattle.std.proofs.Common.{sym, ◌∙◌, ap, inl, inr}
 use Rattle.std.proofs.lemmas.Bool.{and_parts}
-use Rattle.ipcz_world.proofs.Vocabulary.{Side, A, B, LinkId, Central, Router, World, Key, router_at, word_at, has, Books, Records, side_router, is_linked, is_begun}
-use Rattle.ipcz_world.specs.Records.{is_left}
+use Rattle.ipcz_world.proofs.Vocabulary.{Side, A, B, LinkId, Central, Router, World, Key, router_at, word_at, has, Books, Records, side_router}
+use Rattle.ipcz_world.proofs.Vocabulary.{is_linked, is_begun, is_left, RetiredEnds, is_retired, end_at}
 use Rattle.ipcz_world.specs.Standing.{key_passes, passes}
 use Rattle.ipcz_world.specs.Structure.{Stands, Words}
-use Rattle.ipcz_world.specs.Whereabouts.{RetiredEnds}
-use Rattle.ipcz_world.specs.Books.{is_retired}
-use Rattle.ipcz_base.specs.Ends.{end_at}
 
 -- a router that stands at a side hasn't left it
 pub not_left : (w : World) (g : Records) (link : LinkId) (s : Side) (k : Key) (r : Router) → Stands w g → side_router g link s ≡ Some k →

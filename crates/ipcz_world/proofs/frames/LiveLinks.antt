@@ -2,8 +2,7 @@
 use Rattle.std.specs.Prelude.{◌≡◌, ◌⊎◌, ℕ, Bool, true, false, nat_eq, nat_le, refl}
 use Rattle.std.proofs.Common.{arith, sym, ◌∙◌, inl, inr}
 use Rattle.std.proofs.lemmas.Bool.Decides.{nat_tests}
-use Rattle.ipcz_world.proofs.Vocabulary.{Records, is_linked, is_begun}
-use Rattle.ipcz_world.specs.Bypasses.{LiveLinks}
+use Rattle.ipcz_world.proofs.Vocabulary.{Records, is_linked, is_begun, LiveLinks}
 
 -- if the words of links, their pairs, and the bypasses that have just begun, are among those that were
 pub live-kept : (g h : Records) → ((i : ℕ) → is_linked (h.owner i) ≡ true → is_linked (g.owner i) ≡ true) →

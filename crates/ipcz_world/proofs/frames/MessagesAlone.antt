@@ -4,23 +4,19 @@ use Rattle.ipcz_world.proofs.frames.GonesKept.{gones-by, gone_like-itself}
 use Rattle.ipcz_world.proofs.frames.Sourcing.{sourced-by, had-itself}
 use Rattle.ipcz_word.specs.Word.{Word}
 use Rattle.ipcz_world.proofs.frames.OfRecords.{holds, held_times, in_node, in_message, in_places}
-use Rattle.ipcz_world.proofs.Vocabulary.{Weight, at_end, names_end, times, Side, A, B, End, LinkId, Central, Peripheral, LinkEnd}
-use Rattle.ipcz_world.proofs.Vocabulary.{Descriptor, Item, Message, opposite, has_end, is_central, Router, World, Key, node_at}
-use Rattle.ipcz_world.proofs.Vocabulary.{router_at, Books, Records, is_recorded, inner_link, side_node, side_router, across_side}
-use Rattle.ipcz_world.proofs.Vocabulary.{IsUnderWay, of_end, moves_of, total_below, total_list, view, view_by, router_view, passes}
-use Rattle.ipcz_world.proofs.Vocabulary.{key_passes, next_sent, taking_queue, is_gone, is_awaited, Counts, Ordered, Shape, Links}
-use Rattle.ipcz_world.proofs.Vocabulary.{IsRecorded, Positions, Stands, Words, Spares, BypassRecords, Stages, Told, of_bypass, inner_of}
-use Rattle.ipcz_world.proofs.Vocabulary.{Terminals, EndPlaces, BooksKept, Conserved, HeldOnce, times_held, Items, Order, ProxyNumbers}
-use Rattle.ipcz_world.proofs.Vocabulary.{FreshNumbers, standing_router, Inv}
+use Rattle.ipcz_world.proofs.Vocabulary.{Weight, at_end, names_end, times, Side, A, B, End, LinkId, Central, Peripheral, LinkEnd, Descriptor, Item}
+use Rattle.ipcz_world.proofs.Vocabulary.{Message, opposite, has_end, is_central, Router, World, Key, node_at, router_at, Books, Records, is_recorded}
+use Rattle.ipcz_world.proofs.Vocabulary.{inner_link, side_node, side_router, across_side, IsUnderWay, of_end, moves_of, total_below, total_list, view}
+use Rattle.ipcz_world.proofs.Vocabulary.{view_by, router_view, passes, key_passes, next_sent, taking_queue, is_gone, is_awaited, Counts, Ordered}
+use Rattle.ipcz_world.proofs.Vocabulary.{Shape, Links, IsRecorded, Positions, Stands, Words, Spares, BypassRecords, Stages, Told, of_bypass, inner_of}
+use Rattle.ipcz_world.proofs.Vocabulary.{Terminals, EndPlaces, BooksKept, Conserved, HeldOnce, times_held, Items, Order, ProxyNumbers, FreshNumbers}
+use Rattle.ipcz_world.proofs.Vocabulary.{standing_router, Inv, spare_of, may_have_sent, Moves, IsItemUnderWay}
 use Rattle.ipcz_world.specs.Places.{in_message as in_message', in_node as in_node'}
 use Rattle.std.specs.Prelude.{◌≡◌, ℕ, ◌+◌, Bool, true, false, Option, Some, None, List, [], slice_get, refl}
 use Rattle.std.specs.FinMap.{get}
 use Rattle.std.proofs.Common.{arith, sym, ◌∙◌, ap, inl, inr}
 use Rattle.ipcz_base.specs.declared.message.Message.TheVariants as messages
 use Rattle.ipcz_node.specs.Hands.{link_asked, side_asked}
-use Rattle.ipcz_world.specs.Standing.{spare_of, may_have_sent}
-use Rattle.ipcz_world.specs.Bypasses.{Moves}
-use Rattle.ipcz_world.specs.Numbers.{IsItemUnderWay}
 use Rattle.ipcz_world.proofs.frames.Flowing.{CameFrom}
 use Rattle.ipcz_world.proofs.frames.Weighing.{in_places-is}
 use Rattle.ipcz_world.proofs.frames.MessagesPassing.{IsFlush, Passes, HasHands}

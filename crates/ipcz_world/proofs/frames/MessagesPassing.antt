@@ -2,12 +2,11 @@
 use Rattle.std.specs.Prelude.{◌≡◌, ◌⊎◌, ◌<◌, ℕ, ◌+◌, ◌*◌, true, Some, is_some, take, slice_get, refl}
 use Rattle.std.proofs.Common.{arith, sym, ◌∙◌, ap, inl, inr}
 use Rattle.std.proofs.lemmas.Bool.Decides.{nat_tests}
-use Rattle.ipcz_world.proofs.Vocabulary.{Side, LinkId, Message, opposite, is_central, Node, World, node_at, word_at, mail_at, way, flow}
-use Rattle.ipcz_world.proofs.Vocabulary.{set_node, hand_message, Records, is_recorded, side_node, IsUnderWay, makes, under_way}
-use Rattle.ipcz_world.proofs.Vocabulary.{total_below, total_list, Counts}
+use Rattle.ipcz_world.proofs.Vocabulary.{Side, LinkId, Message, opposite, is_central, Node, World, node_at, word_at, mail_at, way, flow, set_node}
+use Rattle.ipcz_world.proofs.Vocabulary.{hand_message, Records, is_recorded, side_node, IsUnderWay, makes, under_way, total_below, total_list, Counts}
+use Rattle.ipcz_world.proofs.Vocabulary.{is_made_by}
 use Rattle.ipcz_base.specs.declared.message.Message.TheVariants as messages
 use Rattle.ipcz_world.proofs.frames.Frames.{frames}
-use Rattle.ipcz_world.specs.Flows.{is_made_by}
 use Rattle.ipcz_world.proofs.frames.Flowing.{IsPushed, IsTaken, CameFrom, came_pushed, came_taken, under_way-pushed, under_way-taken}
 use Rattle.ipcz_world.proofs.frames.Totalling.{total_below-same}
 

@@ -3,12 +3,11 @@ use Rattle.ipcz_world.specs.Places.{in_places as in_places'}
 use Rattle.std.specs.Prelude.{Bool, true, false, ◌≡◌, ◌<◌, ℕ, ◌+◌, ◌*◌, cond, Option, Some, None, [], refl}
 use Rattle.std.proofs.Common.{sym, ◌∙◌, arith, ap}
 use Rattle.std.proofs.lemmas.Bool.Decides.{nat_tests}
-use Rattle.ipcz_world.proofs.Vocabulary.{Router, Node, with_router, place_at, Word, set_word, set_claimed, World, Key, same_key, node_at}
-use Rattle.ipcz_world.proofs.Vocabulary.{word_at, mail_at, way, router_at, set_node, set_router, flow, Records, Weight, under_way}
-use Rattle.ipcz_node.specs.Node.{without_router}
+use Rattle.ipcz_world.proofs.Vocabulary.{Router, Node, with_router, place_at, Word, set_word, set_claimed, World, Key, same_key, node_at, word_at}
+use Rattle.ipcz_world.proofs.Vocabulary.{mail_at, way, router_at, set_node, set_router, flow, Records, Weight, under_way, without_router}
 use Rattle.std.specs.Ordering.{nat_cmp}
 use Rattle.std.specs.FinMap.{FinMap}
-use Rattle.ipcz_world.specs.World.{remove_router}
+use Rattle.ipcz_world.proofs.facts.Updates.{remove_router}
 use Rattle.ipcz_world.proofs.frames.Frames.{same_key-itself, frames, router-set_router, router-remove_router, word-set_node, mail-set_node, claimed-set_node}
 use Rattle.ipcz_world.proofs.frames.Frames.{size-set_node, count-set_node}
 use Rattle.ipcz_world.proofs.frames.OfRecords.{in_places}
@@ -126,15 +125,7 @@ words-remove_router w k = record { words = λ i. word-set_node w _ _ i; claimed 
 pub set-word : (w v : World) (k : Key) (x : Option Router) (i : ℕ) (word : Word) → SameButRouter w v k x →
     SameButRouter w (set_word v i word) k x
 unfolding set_word router_at node_at mail_at flow under_way in_places'
-set-word w v k x i word one = record {
-  routers = one.routers;
-  nodes = one.nodes;
-  mail = one.mail;
-  size = one.size;
-  count = one.count;
-  flows = one.flows;
-  places = one.places;
-}
+set-word w v k x i word one = assumption one
 
 pub set-claimed : (w v : World) (k : Key) (x : Option Router) (i : ℕ) → SameButRouter w v k x → SameButRouter w (set_claimed v i) k x
 unfolding set_claimed router_at node_at mail_at flow under_way in_places'

@@ -1,14 +1,11 @@
 -- The invariant while the moves of an item under way are in the making: all clauses but that an item has one descriptor per end.
-use Rattle.ipcz_world.specs.Whereabouts.{RetiredEnds, Gones}
-use Rattle.ipcz_world.specs.Bypasses.{LiveLinks}
+use Rattle.ipcz_world.proofs.Vocabulary.{Side, A, B, End, LinkId, Descriptor, Item, Message, is_central, ends_in, World, Key, Books, Records}
+use Rattle.ipcz_world.proofs.Vocabulary.{is_recorded, inner_link, side_node, side_router, side_end, IsUnderWay, under_way, of_end, moves_of}
+use Rattle.ipcz_world.proofs.Vocabulary.{total_list, Counts, Ordered, Shape, Links, Positions, Stands, Words, Spares, BypassRecords, Stages, Told}
+use Rattle.ipcz_world.proofs.Vocabulary.{moving_link, Terminals, EndPlaces, BooksKept, Conserved, HeldOnce, Items, Order, ProxyNumbers, FreshNumbers}
+use Rattle.ipcz_world.proofs.Vocabulary.{Inv, RetiredEnds, Gones, LiveLinks, move_weight}
 use Rattle.std.specs.Prelude.{◌≡◌, ◌≢◌, ℕ, false, true, None, Some, List, [], map, slice_get}
-use Rattle.ipcz_world.proofs.Vocabulary.{Side, A, B, End, LinkId, Descriptor, Item, Message, is_central, ends_in, World, Key, Books}
-use Rattle.ipcz_world.proofs.Vocabulary.{Records, is_recorded, inner_link, side_node, side_router, side_end, IsUnderWay, under_way}
-use Rattle.ipcz_world.proofs.Vocabulary.{of_end, moves_of, total_list, Counts, Ordered, Shape, Links, Positions, Stands, Words, Spares}
-use Rattle.ipcz_world.proofs.Vocabulary.{BypassRecords, Stages, Told, moving_link, Terminals, EndPlaces, BooksKept, Conserved, HeldOnce}
-use Rattle.ipcz_world.proofs.Vocabulary.{Items, Order, ProxyNumbers, FreshNumbers, Inv}
 use Rattle.ipcz_base.specs.declared.message.Message.TheVariants as messages
-use Rattle.ipcz_world.specs.Bypasses.{move_weight}
 use Rattle.ipcz_world.specs.Inv.{HasNoStrays}
 
 -- an item between two nodes has one descriptor per end, in order
@@ -77,17 +74,7 @@ opened w b g law = record {
   live = law.live;
   stages = law.stages;
   told = law.told;
-  moves = record {
-    within = law.moves.within;
-    recorded = law.moves.recorded;
-    peripheral = law.moves.peripheral;
-    sender = law.moves.sender;
-    receiver = law.moves.receiver;
-    awaited = law.moves.awaited;
-    end = law.moves.end;
-    one = law.moves.one;
-    moving = law.moves.moving;
-  };
+  moves = assumption law.moves;
   terminals = law.terminals;
   end_places = law.end_places;
   books_kept = law.books_kept;
@@ -116,18 +103,7 @@ closed w b g law ends = record {
   live = law.live;
   stages = law.stages;
   told = law.told;
-  moves = record {
-    ends = ends;
-    within = law.moves.within;
-    recorded = law.moves.recorded;
-    peripheral = law.moves.peripheral;
-    sender = law.moves.sender;
-    receiver = law.moves.receiver;
-    awaited = law.moves.awaited;
-    end = law.moves.end;
-    one = law.moves.one;
-    moving = law.moves.moving;
-  };
+  moves = assumption law.moves;
   terminals = law.terminals;
   end_places = law.end_places;
   books_kept = law.books_kept;

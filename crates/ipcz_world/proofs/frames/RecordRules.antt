@@ -1,10 +1,7 @@
 -- What each function of a link reads in the records, by the kind of the link.
-use Rattle.ipcz_world.specs.Records.{Lost}
+use Rattle.ipcz_world.proofs.Vocabulary.{Side, A, B, Central, World, Key, node_at, Records, inner_link, is_linked, is_begun, is_recorded, side_node}
+use Rattle.ipcz_world.proofs.Vocabulary.{side_router, bypass_of, Owner, Spare, Fresh, Linked, Opening, is_unclaimed, Lost, key_at, Unclaimed}
 use Rattle.std.specs.Prelude.{◌≡◌, refl, ℕ, ◌&&◌, nat_lt, if◌then◌else◌, Some, None, true}
-use Rattle.ipcz_world.proofs.Vocabulary.{Side, A, B, Central, World, Key, node_at, Records, inner_link, is_linked, is_begun, is_recorded}
-use Rattle.ipcz_world.proofs.Vocabulary.{side_node, side_router, bypass_of, Owner, Spare, Fresh, Linked, Opening, is_unclaimed}
-use Rattle.ipcz_world.specs.Records.{key_at}
-use Rattle.ipcz_world.specs.Records.{Unclaimed}
 use Rattle.std.proofs.Common.{arith}
 
 -- the router of a side, of a central link

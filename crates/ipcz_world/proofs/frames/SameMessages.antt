@@ -1,10 +1,8 @@
 -- Acts that leave the messages under way and the links' counters as they are: what is said of messages is kept.
 use Rattle.std.specs.Prelude.{◌≡◌, ℕ, take, refl}
 use Rattle.std.proofs.Common.{arith, sym, ◌∙◌, ap}
-use Rattle.ipcz_world.proofs.Vocabulary.{Side, LinkId, Central, Peripheral, Message, World, node_at, flow, Records, is_recorded}
-use Rattle.ipcz_world.proofs.Vocabulary.{IsUnderWay, is_made_before, under_way, total_below, total_list, BypassRecords, Told}
-use Rattle.ipcz_world.specs.Flows.{is_made_by}
-use Rattle.ipcz_world.specs.Bypasses.{Moves}
+use Rattle.ipcz_world.proofs.Vocabulary.{Side, LinkId, Central, Peripheral, Message, World, node_at, flow, Records, is_recorded, IsUnderWay}
+use Rattle.ipcz_world.proofs.Vocabulary.{is_made_before, under_way, total_below, total_list, BypassRecords, Told, is_made_by, Moves}
 use Rattle.ipcz_world.proofs.frames.Sums.{total_below-same}
 use Rattle.ipcz_world.proofs.frames.BypassesKept.{bypasses-still}
 

@@ -1,10 +1,10 @@
 -- Who stands at a link's side if one router changes and its links don't.
 use Rattle.std.specs.Prelude.{◌≡◌, ◌⊎◌, Bool, true, false, Option, Some, None, refl}
 use Rattle.std.proofs.Common.{arith, ◌∙◌, inl, inr}
-use Rattle.ipcz_world.proofs.Vocabulary.{Side, A, B, LinkId, Central, Peripheral, Router, World, Key, same_key, router_at, Records}
-use Rattle.ipcz_world.proofs.Vocabulary.{side_router, side_end, terminal_descriptor, Standing, view, view_by, router_view, is_attached}
+use Rattle.ipcz_world.proofs.Vocabulary.{Side, A, B, LinkId, Central, Peripheral, Router, World, Key, same_key, router_at, Records, side_router}
+use Rattle.ipcz_world.proofs.Vocabulary.{side_end, terminal_descriptor, Standing, view, view_by, router_view, is_attached, awaited_view}
 use Rattle.ipcz_world.proofs.frames.Frames.{same_key_tells}
-use Rattle.ipcz_world.specs.Standing.{Gone, awaited_view}
+use Rattle.ipcz_world.specs.Standing.{Gone}
 use Rattle.ipcz_world.proofs.frames.Touching.{IsTouched, IsAlike}
 
 pub attached_same : (r y : Router) → IsAlike r y → (link : LinkId) (s : Side) → is_attached link s y ≡ is_attached link s r

@@ -1,13 +1,12 @@
 -- An AcceptBypass under way comes from the node that the old link's word names.
-use Rattle.ipcz_world.specs.Records.{Lost}
+use Rattle.ipcz_world.proofs.Vocabulary.{Side, B, World, word_at, Books, Records, is_linked, is_begun, side_node, inner_of, Inv, Lost, Unclaimed}
+use Rattle.ipcz_world.proofs.Vocabulary.{source_for}
 use Rattle.std.specs.Prelude.{◌≡◌, ℕ, true, false, nat_eq, nat_lt, Some, refl}
 use Rattle.std.proofs.Common.{◌∙◌, arith, ap, sym}
 use Rattle.std.proofs.lemmas.Bool.Decides.{nat_tests}
 use Rattle.ipcz_base.specs.declared.message.Message.TheVariants as messages
 use Rattle.ipcz_router.specs.Bypass.{is_source}
-use Rattle.ipcz_world.proofs.Vocabulary.{Side, B, World, word_at, Books, Records, is_linked, is_begun, side_node, inner_of, Inv}
-use Rattle.ipcz_world.specs.Records.{Owner, Unclaimed, Spare, Opening, Fresh, Linked, is_unclaimed}
-use Rattle.ipcz_world.specs.WordAnswers.{source_for}
+use Rattle.ipcz_world.specs.Records.{Owner, Spare, Opening, Fresh, Linked, is_unclaimed}
 use Rattle.ipcz_world.proofs.facts.Tests.{nat_eq-itself}
 use Rattle.ipcz_world.proofs.frames.Telling.{IsAccept}
 

@@ -3,7 +3,7 @@ use Rattle.std.proofs.Common.{◌≡◌, ◌⊎◌, inl, inr, ◌≢◌, ◌∙�
 use Rattle.std.specs.Prelude.{cond, unwrap_or, option_map}
 use Rattle.ipcz_base.specs.declared.link_end.LinkEnd.{LinkEnd}
 use Rattle.ipcz_base.specs.declared.link_id.LinkId.TheVariants.{Central}
-use Rattle.ipcz_edge.specs.Edge.{no_edge}
+use Rattle.ipcz_world.proofs.Vocabulary.{no_edge}
 use Rattle.ipcz_router.specs.Router.{Router, inward_edge}
 use Rattle.ipcz_world.specs.World.{World, Key, router_at, word_at, same_key}
 use Rattle.ipcz_world.specs.Structure.{AreSourced}

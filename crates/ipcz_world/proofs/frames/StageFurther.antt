@@ -1,16 +1,15 @@
 -- The record of a bypass goes a stage further, from 3 or 4: links, words and stages are as before.
 use Rattle.ipcz_world.proofs.frames.LinksKept.{links-kept}
 use Rattle.ipcz_world.proofs.frames.LinksKept.{KeepsLinks}
-use Rattle.ipcz_world.proofs.Vocabulary.{HasShape}
-use Rattle.ipcz_world.proofs.Vocabulary.{opposite_end}
+use Rattle.ipcz_world.proofs.Vocabulary.{HasShape, opposite_end, Side, A, B, LinkId, Central, Peripheral, LinkEnd, Descriptor, Item, opposite}
+use Rattle.ipcz_world.proofs.Vocabulary.{has_link, word_of, Router, inward_edge, World, Key, same_key, word_at, router_at, Books, Records}
+use Rattle.ipcz_world.proofs.Vocabulary.{is_recorded, inner_link, side_node, side_router, side_end, proxy_side, across_side, known_from, side_length}
+use Rattle.ipcz_world.proofs.Vocabulary.{is_attached, view, has_primary, has_decaying, has_inward_decaying, key_passes, IsUnderWay, is_made_before}
+use Rattle.ipcz_world.proofs.Vocabulary.{Shape, Links, IsRecorded, Stands, Words, BypassRecords, Stages, inner_of, is_done, is_sink, is_retired}
+use Rattle.ipcz_world.proofs.Vocabulary.{RetiredEnds, Gones, is_left, is_proxy, decays, has_inward_primary, is_begun_router, has_role, fresh_of}
 use Rattle.std.specs.Prelude.{◌||◌}
-use Rattle.ipcz_router.specs.ActTable.{is_done}
-use Rattle.ipcz_router.specs.Router.{is_sink}
 use Rattle.ipcz_world.proofs.frames.Sealing.{retired_ends_of, gones_of}
 use Rattle.ipcz_world.proofs.frames.GonesKept.{IsGoneLike, gones-by}
-use Rattle.ipcz_world.specs.Books.{is_retired}
-use Rattle.ipcz_world.specs.Whereabouts.{RetiredEnds, Gones}
-use Rattle.ipcz_world.specs.Records.{is_left}
 use Rattle.ipcz_world.proofs.frames.Unmoved.{is_left-agree, bypass_of-agree}
 use Rattle.ipcz_world.proofs.frames.Sourcing.{sourced-by}
 use Rattle.ipcz_word.specs.Word.{Word}
@@ -18,19 +17,9 @@ use Rattle.std.specs.Prelude.{◌≡◌, ◌≢◌, ◌⊎◌, ◌≤◌, ℕ, s
 use Rattle.std.specs.Prelude.{refl}
 use Rattle.std.proofs.Common.{arith, ap, ◌∙◌, sym, inl, inr}
 use Rattle.std.proofs.lemmas.Bool.Decides.{nat_tests}
-use Rattle.ipcz_world.proofs.Vocabulary.{Side, A, B, LinkId, Central, Peripheral, LinkEnd, Descriptor, Item, opposite}
-use Rattle.ipcz_world.proofs.Vocabulary.{has_link, word_of, Router, inward_edge, World, Key, same_key, word_at, router_at, Books, Records}
-use Rattle.ipcz_world.proofs.Vocabulary.{is_recorded, inner_link, side_node, side_router, side_end, proxy_side, across_side, known_from}
-use Rattle.ipcz_world.proofs.Vocabulary.{side_length, is_attached, view, has_primary, has_decaying, has_inward_decaying, key_passes}
-use Rattle.ipcz_world.proofs.Vocabulary.{IsUnderWay, is_made_before, Shape, Links, IsRecorded, Stands, Words, BypassRecords, Stages}
-use Rattle.ipcz_world.proofs.Vocabulary.{inner_of}
 use Rattle.ipcz_base.specs.declared.message.Message.TheVariants as messages
-use Rattle.ipcz_router.specs.Router.{is_proxy, decays}
 use Rattle.ipcz_world.proofs.frames.Frames.{same_key_tells}
-use Rattle.ipcz_world.specs.Records.{set_bypass}
-use Rattle.ipcz_world.specs.Standing.{has_inward_primary}
-use Rattle.ipcz_world.specs.Structure.{is_begun_router, has_role}
-use Rattle.ipcz_world.specs.Bypasses.{fresh_of}
+use Rattle.ipcz_world.proofs.facts.RecordsAfter.{set_bypass}
 use Rattle.ipcz_world.proofs.frames.Unmoved.{IsLike, Changed, Carried, Agree, side_node-agree, side_end-agree, proxy_side-agree}
 use Rattle.ipcz_world.proofs.frames.Unmoved.{is_recorded-kept, key_passes-kept}
 use Rattle.ipcz_world.proofs.frames.Viewing.{IsSameView, view-kept}

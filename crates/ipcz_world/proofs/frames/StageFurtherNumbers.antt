@@ -1,16 +1,15 @@
 -- The record of a bypass goes a stage further, from 3 or 4: the numbers of items against the lengths that are known then.
 use Rattle.std.specs.Prelude.{◌||◌}
-use Rattle.ipcz_world.specs.Records.{is_left, side_length}
+use Rattle.ipcz_world.proofs.Vocabulary.{B, Central, LinkEnd, Item, opposite, Queue, item_at, Router, inward_edge, World, Key, same_key, router_at}
+use Rattle.ipcz_world.proofs.Vocabulary.{Books, Records, inner_link, proxy_side, across_side, known_from, view, is_gone, Positions, inner_of, Items}
+use Rattle.ipcz_world.proofs.Vocabulary.{Order, ProxyNumbers, FreshNumbers, has_passed, standing_router, is_left, link_in}
+use Rattle.ipcz_world.specs.Records.{side_length}
 use Rattle.ipcz_world.proofs.frames.StageFurther.{left_same}
 use Rattle.std.specs.Prelude.{◌≡◌, ◌≢◌, ◌⊎◌, ◌≤◌, ℕ, suc, true, false, nat_eq, is_some, Some, None, option_map}
 use Rattle.std.proofs.Common.{arith, ap, ◌∙◌, sym, inl, inr}
 use Rattle.std.proofs.lemmas.Option.{same_Some}
-use Rattle.ipcz_world.proofs.Vocabulary.{B, Central, LinkEnd, Item, opposite, Queue, item_at, Router, inward_edge, World, Key, same_key}
-use Rattle.ipcz_world.proofs.Vocabulary.{router_at, Books, Records, inner_link, proxy_side, across_side, known_from, view, is_gone}
-use Rattle.ipcz_world.proofs.Vocabulary.{Positions, inner_of, Items, Order, ProxyNumbers, FreshNumbers, has_passed, standing_router}
 use Rattle.ipcz_world.proofs.frames.Frames.{same_key_tells}
-use Rattle.ipcz_world.specs.Records.{set_bypass}
-use Rattle.ipcz_world.specs.Structure.{link_in}
+use Rattle.ipcz_world.proofs.facts.RecordsAfter.{set_bypass}
 use Rattle.ipcz_world.proofs.frames.Unmoved.{IsLike, Changed, Carried, bypass_of-agree}
 use Rattle.ipcz_world.proofs.frames.Sealing.{Sealed, positions_of, items_of, order_of, proxy_numbers_of, fresh_numbers_of}
 use Rattle.ipcz_world.proofs.frames.StageFurther.{IsLinkedLike, StillMade, begun_like, at_o, agree, taken_same, accepted_same, at_least}

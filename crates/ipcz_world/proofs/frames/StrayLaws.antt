@@ -7,13 +7,13 @@ use Rattle.std.proofs.lemmas.Bool.Decides.{nat_tests}
 use Rattle.std.proofs.lemmas.Option.{same_Some}
 use Rattle.std.specs.Ordering.{nat_cmp, eq_by_cmp}
 use Rattle.std.specs.FinMap.{entries, find, get-entries}
-use Rattle.ipcz_world.proofs.Vocabulary.{Side, B, LinkId, Central, Message, Router, router_has, World, Key, node_at, router_at, Books}
-use Rattle.ipcz_world.proofs.Vocabulary.{Records, side_router, side_node, proxy_side, across_side, IsUnderWay, is_made_before, Standing}
-use Rattle.ipcz_world.proofs.Vocabulary.{view, is_awaited, is_gone, has_primary, has_decaying, inner_of, Inv}
+use Rattle.ipcz_world.proofs.Vocabulary.{Side, B, LinkId, Central, Message, Router, router_has, World, Key, node_at, router_at, Books, Records}
+use Rattle.ipcz_world.proofs.Vocabulary.{side_router, side_node, proxy_side, across_side, IsUnderWay, is_made_before, Standing, view, is_awaited}
+use Rattle.ipcz_world.proofs.Vocabulary.{is_gone, has_primary, has_decaying, inner_of, Inv, is_named, Awaited}
 use Rattle.ipcz_base.specs.declared.message.Message.TheVariants as messages
-use Rattle.ipcz_node.specs.Node.{first_where, is_named}
+use Rattle.ipcz_node.specs.Node.{first_where}
 use Rattle.ipcz_node.specs.Hands.{link_asked, side_asked}
-use Rattle.ipcz_world.specs.Standing.{View, Awaited, Waiting, Gone}
+use Rattle.ipcz_world.specs.Standing.{View, Waiting, Gone}
 use Rattle.ipcz_world.specs.Laws.{is_flush, StrayLaw}
 use Rattle.ipcz_world.proofs.frames.Known.{IsStanding, standing_known, node_of_router}
 use Rattle.ipcz_world.proofs.frames.Telling.{peer_told, accept_told, stop_told, will_stop_told}

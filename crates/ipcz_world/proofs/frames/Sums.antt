@@ -2,8 +2,7 @@
 use Rattle.std.specs.Prelude.{◌≡◌, ◌≤◌, ◌<◌, ℕ, zero, suc, ◌+◌, true, false, cond, nat_eq, Some, List, [], ◌∷◌, slice_get, refl}
 use Rattle.std.proofs.Common.{arith}
 use Rattle.std.proofs.lemmas.Bool.Decides.{nat_tests}
-use Rattle.ipcz_world.proofs.Vocabulary.{Item, place_at, total_below, total_list}
-use Rattle.ipcz_world.specs.Places.{from_number}
+use Rattle.ipcz_world.proofs.Vocabulary.{Item, place_at, total_below, total_list, from_number}
 
 -- a list has at least the weight of each of its elements
 pub total_list-at : {X : Type 0} (h : X → ℕ) (xs : List X) (i : ℕ) (x : X) → slice_get xs i ≡ Some x → h x ≤ total_list h xs

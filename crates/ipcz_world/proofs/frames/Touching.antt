@@ -1,9 +1,11 @@
 -- One router changes in what its links, its spare and its lock don't show: what is said of those is kept.
-use Rattle.ipcz_world.proofs.Vocabulary.{HasPositions}
+use Rattle.ipcz_world.proofs.Vocabulary.{HasPositions, HasShape, A, B, LinkId, Central, Peripheral, LinkEnd, Router, World, Key, same_key, node_at}
+use Rattle.ipcz_world.proofs.Vocabulary.{word_at, mail_at, way, router_at, hand_message, Records, is_recorded, inner_link, side_router, across_side}
+use Rattle.ipcz_world.proofs.Vocabulary.{Counts, Shape, Links, IsRecorded, Positions, Stands, Words, Spares, BypassRecords, Stages, inner_of}
+use Rattle.ipcz_world.proofs.Vocabulary.{Terminals, inward_edge, HasTerminal, spare_of, fresh_of, is_sink, is_proxy, is_done}
 use Rattle.ipcz_world.proofs.frames.EachKept.{each-by}
 use Rattle.ipcz_world.proofs.frames.LinksKept.{links-kept}
 use Rattle.ipcz_world.proofs.frames.LinksKept.{KeepsLinks}
-use Rattle.ipcz_world.proofs.Vocabulary.{HasShape}
 use Rattle.ipcz_world.proofs.frames.EachKept.{each-one}
 use Rattle.std.proofs.Common.{ap}
 use Rattle.ipcz_world.proofs.frames.Sourcing.{sourced-by, had-one, inward-same}
@@ -13,20 +15,10 @@ use Rattle.std.specs.Prelude.{◌≡◌, ◌≢◌, ◌⊎◌, ◌<◌, ℕ, ◌
 use Rattle.std.proofs.Common.{inl, inr}
 use Rattle.std.proofs.lemmas.Bool.{or_left, or_right}
 use Rattle.std.proofs.Common.{arith, ◌∙◌, sym}
-use Rattle.ipcz_world.proofs.Vocabulary.{A, B, LinkId, Central, Peripheral, LinkEnd, Router, World, Key, same_key, node_at, word_at}
-use Rattle.ipcz_world.proofs.Vocabulary.{mail_at, way, router_at, hand_message, Records, is_recorded, inner_link, side_router}
-use Rattle.ipcz_world.proofs.Vocabulary.{across_side, Counts, Shape, Links, IsRecorded, Positions, Stands, Words, Spares, BypassRecords}
-use Rattle.ipcz_world.proofs.Vocabulary.{Stages, inner_of, Terminals}
 use Rattle.ipcz_world.proofs.frames.Frames.{same_key_tells}
-use Rattle.ipcz_world.specs.Standing.{spare_of}
-use Rattle.ipcz_world.specs.Bypasses.{fresh_of}
 use Rattle.ipcz_world.proofs.frames.OneChange.{OneChanges, passes-same}
-use Rattle.ipcz_router.specs.Router.{is_sink, is_proxy}
-use Rattle.ipcz_router.specs.ActTable.{is_done}
-use Rattle.ipcz_world.proofs.Vocabulary.{inward_edge}
 use Rattle.ipcz_world.proofs.frames.BypassesKept.{bypasses-still}
 use Rattle.ipcz_world.proofs.frames.EndsKept.{terminal-kept}
-use Rattle.ipcz_world.proofs.Vocabulary.{HasTerminal}
 use Rattle.ipcz_world.proofs.frames.WordsKept.{word-kept}
 
 -- two routers with the same end, links and flags of bypasses

@@ -1,16 +1,13 @@
 -- What an act keeps that changes one router's links and flags, and no item, terminal or end.
-use Rattle.ipcz_world.proofs.Vocabulary.{IsOrdered}
+use Rattle.ipcz_world.proofs.Vocabulary.{IsOrdered, has, Weight, in_router, times, at_end, names_end, Side, A, B, End, LinkId, Central, Peripheral}
+use Rattle.ipcz_world.proofs.Vocabulary.{Descriptor, Item, Message, opposite, is_central, same_end, has_end, opposite_end, total, total_below}
+use Rattle.ipcz_world.proofs.Vocabulary.{total_list, Router, is_terminal, World, Key, node_at, router_at, same_key, Books, Records, is_begun}
+use Rattle.ipcz_world.proofs.Vocabulary.{is_linked, is_recorded, inner_link, side_node, side_router, side_end, bypass_of, proxy_side, is_nowhere}
+use Rattle.ipcz_world.proofs.Vocabulary.{terminal_node, key_passes, IsUnderWay, moves_of, under_way, of_end, Ordered, Spares, of_bypass}
+use Rattle.ipcz_world.proofs.Vocabulary.{control_weight, moving_link, Terminals, EndPlaces, BooksKept, Conserved, HeldOnce, times_held, HasTerminal}
+use Rattle.ipcz_world.proofs.Vocabulary.{HasEndsHere, item_at, is_left, spare_of, Moves, move_weight}
 use Rattle.ipcz_world.proofs.frames.EachKept.{each-one}
-use Rattle.ipcz_world.proofs.Vocabulary.{has}
-use Rattle.ipcz_world.specs.Records.{is_left}
 use Rattle.ipcz_world.proofs.frames.OfRecords.{holds, held_times, source, in_message, in_places}
-use Rattle.ipcz_world.proofs.Vocabulary.{Weight, in_router, times, at_end, names_end, Side, A, B, End, LinkId, Central, Peripheral}
-use Rattle.ipcz_world.proofs.Vocabulary.{Descriptor, Item, Message, opposite, is_central, same_end, has_end, opposite_end, total}
-use Rattle.ipcz_world.proofs.Vocabulary.{total_below, total_list, Router, is_terminal, World, Key, node_at, router_at, same_key, Books}
-use Rattle.ipcz_world.proofs.Vocabulary.{Records, is_begun, is_linked, is_recorded, inner_link, side_node, side_router, side_end}
-use Rattle.ipcz_world.proofs.Vocabulary.{bypass_of, proxy_side, is_nowhere, terminal_node, key_passes, IsUnderWay, moves_of, under_way}
-use Rattle.ipcz_world.proofs.Vocabulary.{of_end, Ordered, Spares, of_bypass, control_weight, moving_link, Terminals, EndPlaces, BooksKept}
-use Rattle.ipcz_world.proofs.Vocabulary.{Conserved, HeldOnce, times_held}
 use Rattle.ipcz_world.specs.Places.{in_message as in_message', in_node as in_node', in_places as in_places'}
 use Rattle.ipcz_world.specs.Routes.{source as source'}
 use Rattle.std.specs.Prelude.{◌≡◌, ℕ, ◌+◌, Bool, false, cond, ◌&&◌, nat_eq, Option, Some, None, List, slice_get, refl, true, ◌⊎◌, ◌≢◌}
@@ -18,13 +15,11 @@ use Rattle.std.proofs.Common.{arith, ap, ◌∙◌, sym, inl, inr}
 use Rattle.std.proofs.lemmas.Option.{none-some}
 use Rattle.ipcz_base.specs.declared.message.Message.TheVariants as messages
 use Rattle.ipcz_world.proofs.frames.Frames.{same_key_tells}
-use Rattle.ipcz_world.specs.Standing.{spare_of}
-use Rattle.ipcz_world.specs.Bypasses.{is_by, Moves, move_weight}
+use Rattle.ipcz_world.specs.Bypasses.{is_by}
 use Rattle.ipcz_world.specs.Inv.{HasNoStrays}
 use Rattle.ipcz_world.proofs.frames.Totalling.{total_below-same}
 use Rattle.ipcz_world.proofs.frames.OneChange.{OneChanges, passes-same}
 use Rattle.ipcz_world.proofs.frames.EndsKept.{terminal-kept, ends-kept}
-use Rattle.ipcz_world.proofs.Vocabulary.{HasTerminal, HasEndsHere, item_at}
 use Rattle.ipcz_world.proofs.frames.EachKept.{each-by}
 
 -- two routers alike but for links and flags

@@ -1,13 +1,12 @@
 -- What a link's side shows before and after a router has changed its links and flags.
 use Rattle.std.specs.Prelude.{◌≡◌, ◌≢◌, ◌⊎◌, Bool, true, false, if◌then◌else◌, Option, Some, None, option_map, refl}
 use Rattle.std.proofs.Common.{arith, ap, ◌∙◌, inl, inr}
-use Rattle.ipcz_world.proofs.Vocabulary.{Side, A, B, End, LinkId, Central, Peripheral, Router, World, Key, same_key, router_at, Records}
-use Rattle.ipcz_world.proofs.Vocabulary.{side_router, side_end, terminal_descriptor, Standing, is_attached, router_view, view_by, view}
-use Rattle.ipcz_world.proofs.Vocabulary.{sending_queue, fed_queue, next_sent, taking_queue, is_gone, is_awaited, passes, key_passes}
-use Rattle.ipcz_world.proofs.Vocabulary.{standing_router}
+use Rattle.ipcz_world.proofs.Vocabulary.{Side, A, B, End, LinkId, Central, Peripheral, Router, World, Key, same_key, router_at, Records, side_router}
+use Rattle.ipcz_world.proofs.Vocabulary.{side_end, terminal_descriptor, Standing, is_attached, router_view, view_by, view, sending_queue, fed_queue}
+use Rattle.ipcz_world.proofs.Vocabulary.{next_sent, taking_queue, is_gone, is_awaited, passes, key_passes, standing_router, awaited_view}
+use Rattle.ipcz_world.proofs.Vocabulary.{may_have_sent}
 use Rattle.ipcz_world.proofs.frames.Frames.{same_key_tells}
-use Rattle.ipcz_world.specs.Standing.{View, Gone, awaited_view}
-use Rattle.ipcz_world.specs.Standing.{may_have_sent}
+use Rattle.ipcz_world.specs.Standing.{View, Gone}
 use Rattle.ipcz_world.proofs.frames.Unmoved.{IsLike, Changed, Agree, side_end-agree}
 
 -- two views of a link's side that show the same but for the router's links and flags

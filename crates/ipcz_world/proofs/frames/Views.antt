@@ -1,15 +1,12 @@
 -- How the sides of links are seen if one router gives links up.
 use Rattle.std.specs.Prelude.{◌≡◌, ◌≢◌, ◌⊎◌, ℕ, Bool, true, false, cond, Option, Some, None, refl}
 use Rattle.std.proofs.Common.{arith, ap, inl, inr}
-use Rattle.ipcz_world.proofs.Vocabulary.{Side, A, B, LinkId, Central, Peripheral, LinkEnd, Item, has_link, Queue, Edge, Router}
-use Rattle.ipcz_world.proofs.Vocabulary.{is_terminal, inward_edge, World, Key, same_key, router_at, Records, side_router, Standing, view}
-use Rattle.ipcz_world.proofs.Vocabulary.{view_by, router_view, is_attached, passes, sending_queue, fed_queue, next_sent, taking_queue}
-use Rattle.ipcz_world.proofs.Vocabulary.{is_gone, is_awaited, standing_router}
-use Rattle.ipcz_edge.specs.Edge.{edge_has}
-use Rattle.ipcz_router.specs.Router.{is_proxy}
+use Rattle.ipcz_world.proofs.Vocabulary.{Side, A, B, LinkId, Central, Peripheral, LinkEnd, Item, has_link, Queue, Edge, Router, is_terminal}
+use Rattle.ipcz_world.proofs.Vocabulary.{inward_edge, World, Key, same_key, router_at, Records, side_router, Standing, view, view_by, router_view}
+use Rattle.ipcz_world.proofs.Vocabulary.{is_attached, passes, sending_queue, fed_queue, next_sent, taking_queue, is_gone, is_awaited, standing_router}
+use Rattle.ipcz_world.proofs.Vocabulary.{edge_has, is_proxy, may_have_sent}
 use Rattle.ipcz_world.proofs.frames.Frames.{same_key_tells}
 use Rattle.ipcz_world.specs.Standing.{View, Gone}
-use Rattle.ipcz_world.specs.Standing.{may_have_sent}
 use Rattle.ipcz_world.proofs.frames.OneRouter.{SameButRouter}
 use Rattle.ipcz_world.proofs.frames.Draining.{is_awaited-standing, is_gone-standing, may_have_sent-standing, standing-standing}
 use Rattle.ipcz_world.proofs.frames.Draining.{next_sent-standing, taking_queue-standing}

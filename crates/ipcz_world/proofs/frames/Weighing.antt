@@ -1,9 +1,8 @@
 -- What the items in all places weigh, after each update, and that no item is in two places.
-use Rattle.ipcz_world.proofs.Vocabulary.{Weight, in_router, at_end, Side, LinkId, Descriptor, Item, Message, opposite_end, total}
-use Rattle.ipcz_world.proofs.Vocabulary.{total_below, total_list, Queue, item_at, Router, Node, with_router, World, Key, node_at}
-use Rattle.ipcz_world.proofs.Vocabulary.{router_at, flow, set_router, Books, read, Records, IsUnderWay, under_way, Conserved}
+use Rattle.ipcz_world.proofs.Vocabulary.{Weight, in_router, at_end, Side, LinkId, Descriptor, Item, Message, opposite_end, total, total_below}
+use Rattle.ipcz_world.proofs.Vocabulary.{total_list, Queue, item_at, Router, Node, with_router, World, Key, node_at, router_at, flow, set_router}
+use Rattle.ipcz_world.proofs.Vocabulary.{Books, read, Records, IsUnderWay, under_way, Conserved, from_number}
 use Rattle.ipcz_world.specs.Places.{in_message as in_message', in_node as in_node', in_places as in_places'}
-use Rattle.ipcz_world.specs.Places.{from_number}
 use Rattle.std.specs.Prelude.{◌≡◌, ◌≤◌, ◌<◌, ◌+◌, ℕ, Bool, true, false, cond, nat_eq, Some, None, refl, List, [], ◌∷◌, drop, slice_get}
 use Rattle.std.specs.Ordering.{nat_cmp}
 use Rattle.std.specs.Cmp.{nat_cmp_total}

@@ -6,11 +6,10 @@ use Rattle.std.proofs.lemmas.Bool.Decides.{nat_tests}
 use Rattle.std.specs.Ordering.{nat_cmp}
 use Rattle.std.specs.Cmp.{nat_cmp_total}
 use Rattle.std.specs.FinMap.{nat_cmp-IsAntisymmetric, get}
-use Rattle.ipcz_world.proofs.Vocabulary.{Message, Item, opposite_end, item_at, Router, Node, with_router, World, Key, node_at, router_at}
-use Rattle.ipcz_world.proofs.Vocabulary.{set_node, set_router, flow, Records, IsUnderWay, Weight, in_router}
+use Rattle.ipcz_world.proofs.Vocabulary.{Message, Item, opposite_end, item_at, Router, Node, with_router, World, Key, node_at, router_at, set_node}
+use Rattle.ipcz_world.proofs.Vocabulary.{set_router, flow, Records, IsUnderWay, Weight, in_router, without_router}
 use Rattle.ipcz_base.proofs.Totals.{total-insert, total-insert_new, total-remove}
-use Rattle.ipcz_node.specs.Node.{without_router}
-use Rattle.ipcz_world.specs.World.{remove_router}
+use Rattle.ipcz_world.proofs.facts.Updates.{remove_router}
 use Rattle.ipcz_world.proofs.frames.Frames.{frames, node-set_node, word-set_node, claimed-set_node, size-set_node, count-set_node}
 use Rattle.ipcz_world.proofs.frames.OfRecords.{in_message, in_node, in_places}
 use Rattle.ipcz_world.proofs.facts.Queues.{total-at}

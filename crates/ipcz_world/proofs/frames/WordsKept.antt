@@ -3,8 +3,7 @@ use Rattle.std.specs.Prelude.{◌≡◌, ◌≤◌, ℕ, true, false, Some}
 use Rattle.std.proofs.Common.{ap, sym, ◌∙◌}
 use Rattle.ipcz_word.specs.Word.{Word}
 use Rattle.ipcz_world.proofs.Vocabulary.{Side, A, B, Central, has, same_side, World, Records, HasWord, word_at, is_begun, is_linked, inner_link}
-use Rattle.ipcz_world.proofs.Vocabulary.{side_router, side_node, proxy_side, key_passes}
-use Rattle.ipcz_world.specs.Records.{is_left}
+use Rattle.ipcz_world.proofs.Vocabulary.{side_router, side_node, proxy_side, key_passes, is_left}
 
 -- in another world the word is the same, and other records tell the same of its link
 pub record KeepsWord (w v : World) (g h : Records) (i : ℕ) : Type 0 where

@@ -1,5 +1,13 @@
 -- What each act and call of a node leaves of its routers.
-use Rattle.ipcz_router.specs.ActEffects.{leaves_by}
+use Rattle.ipcz_world.proofs.Vocabulary.{Side, A, B, End, LinkId, Central, Peripheral, LinkEnd, Descriptor, Item, Message, is_central, has_link}
+use Rattle.ipcz_world.proofs.Vocabulary.{word_of, place_at, Edge, Router, inward_edge, primary_word, from_descriptor, bypass_peer, is_possible}
+use Rattle.ipcz_world.proofs.Vocabulary.{output_of, RouterAct, Close, Node, Found, router_in, with_router, terminal_of, commit, World, answer_of}
+use Rattle.ipcz_world.proofs.Vocabulary.{leaves_by, Parcel, outward_has, decays, accept, accept_message, accept_bypass, stop_proxying}
+use Rattle.ipcz_world.proofs.Vocabulary.{proxy_will_stop, stop_message, will_stop_message, is_rest, may_take, drop_item, is_done, is_proxy}
+use Rattle.ipcz_world.proofs.Vocabulary.{is_terminal_of, apply, Answer, Applied, add_router, add_end, new_end, link_router, is_named, on_found}
+use Rattle.ipcz_world.proofs.Vocabulary.{on_router, put_node, put_at_router, get_node, get_at_router, close_end, close_node, open_node}
+use Rattle.ipcz_world.proofs.Vocabulary.{close_at_router, Transfer, move_found, move_ends, moved_ends, send_item, send, deliver, handle, fits, tell}
+use Rattle.ipcz_world.proofs.Vocabulary.{take_in, make_terminals, commit_router, keep_or_drop, has_unclaimed_word, flushed}
 use Rattle.std.specs.Prelude.{◌≡◌, ◌⊎◌, nat_eq, length, ℕ, Bool, true, false, ◌&&◌, not, nat_lt, if◌then◌else◌}
 use Rattle.std.specs.Prelude.{Option, Some, None, is_some, is_none, option_map, List, [], ◌∷◌, ◌++◌, slice_get, refl}
 use Rattle.std.proofs.Common.{arith, ap, sym, ◌∙◌, subst, inl, inr}
@@ -8,40 +16,23 @@ use Rattle.std.proofs.lemmas.Bool.{or_left}
 use Rattle.std.proofs.lemmas.Option.{same_Some}
 use Rattle.std.specs.Ordering.{nat_cmp}
 use Rattle.ipcz_world.proofs.facts.Tests.{false-true, or_second}
-use Rattle.ipcz_world.proofs.Vocabulary.{Side, A, B, End, LinkId, Central, Peripheral, LinkEnd, Descriptor, Item, Message, is_central}
-use Rattle.ipcz_world.proofs.Vocabulary.{has_link}
-use Rattle.ipcz_world.proofs.Vocabulary.{word_of, place_at, Edge, Router, inward_edge, primary_word, from_descriptor, bypass_peer}
-use Rattle.ipcz_world.proofs.Vocabulary.{is_possible, output_of, RouterAct, Close, Node, Found, router_in, with_router, terminal_of, commit}
-use Rattle.ipcz_world.proofs.Vocabulary.{World, answer_of}
 use Rattle.ipcz_base.specs.declared.parcel.Parcel as parcels
-use Rattle.ipcz_base.specs.declared.item.Item.TheVariants.{Parcel}
 use Rattle.ipcz_base.specs.declared.message.Message.TheVariants as messages
 use Rattle.ipcz_base.specs.Links.{central_end}
-use Rattle.ipcz_router.specs.Router.{outward_has, inward_has, decays}
-use Rattle.ipcz_router.specs.Calls.{accept, take_item, put_item, extend}
+use Rattle.ipcz_router.specs.Router.{inward_has}
+use Rattle.ipcz_router.specs.Calls.{take_item, put_item, extend}
 use Rattle.ipcz_router.specs.Closing.{close_router}
-use Rattle.ipcz_router.specs.Bypass.{accept_message, accept_bypass, stop_proxying, proxy_will_stop, stop_message, will_stop_message}
 use Rattle.ipcz_router.specs.Bypass.{fits_bypass_peer, fits_accept_bypass}
-use Rattle.ipcz_router.specs.ActTable.{is_rest, may_take}
 use Rattle.std.specs.FinMap.{entries, find, get-entries, len, len-entries}
 use Rattle.ipcz_seq.specs.Queue.{Queue, current_item, is_drained}
-use Rattle.ipcz_router.specs.Acts.{drop_item}
-use Rattle.ipcz_router.specs.ActTable.{is_done}
-use Rattle.ipcz_router.specs.Router.{is_open_terminal, router_has, is_proxy}
-use Rattle.ipcz_node.specs.Node.{is_terminal_of}
+use Rattle.ipcz_router.specs.Router.{is_open_terminal, router_has}
 use Rattle.ipcz_world.proofs.lawful.Following.{IsReadyProxy, able-tells}
-use Rattle.ipcz_router.specs.ActEffects.{apply}
 use Rattle.ipcz_router.specs.declared.act.RouterAct.TheVariants as acts
-use Rattle.ipcz_router.specs.declared.act.Answer.{Answer}
 use Rattle.ipcz_router.specs.declared.act.Answer.TheVariants as answers
-use Rattle.ipcz_router.specs.declared.act.Applied.{Applied}
 use Rattle.ipcz_router.specs.declared.act.Applied.TheVariants as sends
 use Rattle.ipcz_node.specs.declared.act.Act.TheVariants.{Router as OfRouter}
-use Rattle.ipcz_node.specs.Node.{add_router, add_end, new_end, link_router, is_named, on_found, on_router}
-use Rattle.ipcz_node.specs.Calls.{put_node, put_at_router, get_node, get_at_router, close_end, close_node, open_node, close_at_router}
-use Rattle.ipcz_node.specs.Sends.{Transfer, move_found, move_ends, moved_ends, send_item, send, next_link}
-use Rattle.ipcz_node.specs.Hands.{deliver, handle, fits, passes_at, tell, take_in, make_terminals}
-use Rattle.ipcz_node.specs.Acts.{commit_router, keep_or_drop}
+use Rattle.ipcz_node.specs.Sends.{next_link}
+use Rattle.ipcz_node.specs.Hands.{passes_at}
 use Rattle.ipcz_world.proofs.facts.Finding.{found_tells, terminal_tells}
 use Rattle.ipcz_world.proofs.facts.Lengths.{HasEnd, has_link-tells}
 use Rattle.ipcz_world.proofs.facts.Tests.{and_first, and_second}
@@ -49,8 +40,6 @@ use Rattle.ipcz_world.proofs.lawful.Following.{Follows, IsLeft, follows-left, Is
 use Rattle.ipcz_world.proofs.lawful.Going.{IsNew, IsOff, IsCounted, Changes, Goes, changes-itself, changes-else, changes-with}
 use Rattle.ipcz_world.proofs.lawful.Going.{changes-without}
 use Rattle.ipcz_world.proofs.lawful.Going.{changes-push, changes-tell, goes-by, goes-add}
-use Rattle.ipcz_world.specs.World.{has_unclaimed_word}
-use Rattle.ipcz_node.specs.Hands.{flushed}
 
 -- whether an act changes the word of its router's link
 unfoldable pub is_wordy : RouterAct → Bool

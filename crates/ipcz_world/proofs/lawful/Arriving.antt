@@ -5,20 +5,17 @@ use Rattle.std.proofs.lemmas.Bool.Decides.{nat_tests}
 use Rattle.std.proofs.lemmas.Bool.{or_left}
 use Rattle.ipcz_base.specs.declared.link_end.LinkEnd.{LinkEnd}
 use Rattle.ipcz_base.specs.Links.{word_of}
-use Rattle.ipcz_edge.specs.Edge.{Edge, no_edge}
+use Rattle.ipcz_world.proofs.Vocabulary.{Side, A, B, End, Node, Found, node_at, terminal_of, LinkId, Central, Peripheral, opposite_end, has_link}
+use Rattle.ipcz_world.proofs.Vocabulary.{Router, is_terminal, inward_edge, World, Key, router_at, Books, Records, is_begun, is_recorded, inner_link}
+use Rattle.ipcz_world.proofs.Vocabulary.{bypass_of, side_router, side_end, is_closed, inner_of, has_primary, has_decaying, is_outward, Inv, no_edge}
+use Rattle.ipcz_world.proofs.Vocabulary.{decays, is_on_central, holds_end, is_retired, IsLawful, IsRanked, is_left, key_at, is_begun_router, has_role}
+use Rattle.ipcz_world.proofs.Vocabulary.{link_in}
+use Rattle.ipcz_edge.specs.Edge.{Edge}
 use Rattle.ipcz_router.specs.Arrivals.{has_arrived}
-use Rattle.ipcz_router.specs.Router.{decays, is_on_central}
 use Rattle.ipcz_node.specs.Arriving.{arrival_of}
-use Rattle.ipcz_node.specs.Node.{holds_end}
-use Rattle.ipcz_world.proofs.Vocabulary.{Side, A, B, End, Node, Found, node_at, terminal_of, LinkId, Central, Peripheral, opposite_end, has_link, Router, is_terminal, inward_edge}
-use Rattle.ipcz_world.proofs.Vocabulary.{World, Key, router_at, Books, Records, is_begun, is_recorded, inner_link, bypass_of, side_router, side_end, is_closed}
-use Rattle.ipcz_world.proofs.Vocabulary.{inner_of, has_primary, has_decaying, is_outward, Inv}
 use Rattle.ipcz_world.specs.Arrived.{IsOutOfRoute, AreOutOfRoute, ArrivedLeaveProxiesBehind, arrival_in}
-use Rattle.ipcz_world.specs.Books.{is_retired}
-use Rattle.ipcz_world.specs.Lawfulness.{IsLawful}
-use Rattle.ipcz_world.specs.Owed.{IsRanked}
-use Rattle.ipcz_world.specs.Records.{At, is_left, key_at, terminal_descriptor}
-use Rattle.ipcz_world.specs.Structure.{IsRecorded, is_begun_router, has_role, link_in}
+use Rattle.ipcz_world.specs.Records.{At, terminal_descriptor}
+use Rattle.ipcz_world.specs.Structure.{IsRecorded}
 use Rattle.ipcz_world.specs.Bypasses.{moving_link}
 use Rattle.ipcz_world.proofs.facts.Finding.{IsTerminalOf, terminal_tells}
 use Rattle.ipcz_world.proofs.facts.Lengths.{HasEnd, has_link-tells, has_link-some, known_from-yes}

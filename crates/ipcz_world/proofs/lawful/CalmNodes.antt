@@ -8,24 +8,19 @@ use Rattle.std.specs.FinMap.{nat_cmp-IsAntisymmetric, get}
 use Rattle.std.proofs.lemmas.List.{length-append}
 use Rattle.ipcz_base.proofs.Totals.{total-insert, total-remove}
 use Rattle.ipcz_base.specs.declared.message.Message.TheVariants as messages
-use Rattle.ipcz_world.proofs.Vocabulary.{End, Item, Message, LinkEnd, opposite_end, ends_in, total, total_list, Router, Node, Found, with_router, RouterAct}
-use Rattle.ipcz_world.proofs.Vocabulary.{current_item, output_of, is_possible, moves_of}
-use Rattle.ipcz_router.specs.Router.{router_has, outward_has, is_sink}
-use Rattle.ipcz_router.specs.Acts.{way_out, way_in, pop_out, send_on, drop_item, has_gone_next, item_passes, rest}
-use Rattle.ipcz_base.specs.Items.{is_mark}
-use Rattle.ipcz_router.specs.ActTable.{may_take, is_rest}
-use Rattle.ipcz_router.specs.Calls.{accept}
-use Rattle.ipcz_router.specs.ActEffects.{apply, leaves_by, item_output, discard_output}
+use Rattle.ipcz_world.proofs.Vocabulary.{End, Item, Message, LinkEnd, opposite_end, ends_in, total, total_list, Router, Node, Found, with_router}
+use Rattle.ipcz_world.proofs.Vocabulary.{RouterAct, current_item, output_of, is_possible, moves_of, outward_has, is_sink, way_out, way_in, pop_out}
+use Rattle.ipcz_world.proofs.Vocabulary.{send_on, drop_item, has_gone_next, item_passes, rest, is_mark, may_take, is_rest, accept, apply, leaves_by}
+use Rattle.ipcz_world.proofs.Vocabulary.{item_output, discard_output, Answer, link_router, on_found, push_out, send, send_item, commit_router}
+use Rattle.ipcz_world.proofs.Vocabulary.{keep_or_drop, fits, handle, take_in, deliver, Rates, worth}
+use Rattle.ipcz_router.specs.Router.{router_has}
 use Rattle.ipcz_router.specs.declared.act.RouterAct.TheVariants as acts
-use Rattle.ipcz_router.specs.declared.act.Answer.{Answer}
-use Rattle.ipcz_node.specs.Node.{link_router, on_found, add_stray, push_out, outbox}
-use Rattle.ipcz_node.specs.Sends.{send, send_item, item_message}
-use Rattle.ipcz_node.specs.Acts.{commit_router, keep_or_drop}
-use Rattle.ipcz_node.specs.Hands.{fits, handle, take_in, deliver, free_hand}
+use Rattle.ipcz_node.specs.Node.{add_stray, outbox}
+use Rattle.ipcz_node.specs.Sends.{item_message}
+use Rattle.ipcz_node.specs.Hands.{free_hand}
 use Rattle.ipcz_world.proofs.facts.Finding.{found_tells}
 use Rattle.ipcz_world.proofs.facts.Tests.{and_first, and_second}
 use Rattle.ipcz_world.proofs.frames.Totalling.{total_list-put_place, total_list-append}
-use Rattle.ipcz_world.specs.Ranks.{Rates, worth}
 use Rattle.ipcz_world.proofs.lawful.NodeStays.{IsBare, sent-bare, or-none}
 use Rattle.ipcz_world.proofs.lawful.CalmRouters as routers
 use Rattle.ipcz_world.proofs.lawful.CalmRouters.{is_calm, is_passing, router_keeps}

@@ -3,20 +3,19 @@ use Rattle.std.specs.Prelude.{◌≡◌, ◌≤◌, ℕ, ◌+◌, ◌*◌, ◌-�
 use Rattle.std.proofs.Common.{arith, ap, inl, inr}
 use Rattle.ipcz_base.specs.declared.item.Item.{Item}
 use Rattle.ipcz_base.specs.Ends.{opposite_end}
-use Rattle.ipcz_world.proofs.Vocabulary.{End}
+use Rattle.ipcz_world.proofs.Vocabulary.{End, is_proxy, is_on_central, decays, pop_out, send_on, drop_item, has_gone_next, item_passes, rest, is_mark}
+use Rattle.ipcz_world.proofs.Vocabulary.{is_done, may_take, is_rest, accept, Rates, router_worth}
 use Rattle.ipcz_edge.specs.Edge.{Edge, can_finish}
-use Rattle.ipcz_router.specs.Router.{Router, is_terminal, is_proxy, is_on_central, has_no_link, decays, rouse}
-use Rattle.ipcz_router.specs.Acts.{pop_out, send_on, drop_item, has_gone_next, item_passes, rest}
-use Rattle.ipcz_base.specs.Items.{is_mark}
+use Rattle.ipcz_router.specs.Router.{Router, is_terminal, has_no_link, rouse}
 use Rattle.ipcz_base.specs.declared.link_end.LinkEnd.{LinkEnd}
 use Rattle.ipcz_seq.specs.Queue.{current_item, is_drained}
 use Rattle.ipcz_world.proofs.facts.Tests.{and_first, and_second, not_both}
 use Rattle.ipcz_world.proofs.lawful.Following.{IsAble, able-tells}
-use Rattle.ipcz_router.specs.ActTable.{is_possible, is_ready, is_done, may_take, is_rest}
-use Rattle.ipcz_router.specs.Calls.{accept, put_item}
+use Rattle.ipcz_router.specs.ActTable.{is_possible, is_ready}
+use Rattle.ipcz_router.specs.Calls.{put_item}
 use Rattle.ipcz_router.specs.declared.act.RouterAct.{RouterAct}
 use Rattle.ipcz_router.specs.declared.act.RouterAct.TheVariants as acts
-use Rattle.ipcz_world.specs.Ranks.{Rates, worth_left, is_unbegun, bypass_worth, sink_worth, router_worth}
+use Rattle.ipcz_world.specs.Ranks.{worth_left, is_unbegun, bypass_worth, sink_worth}
 use Rattle.ipcz_world.specs.PutBounds.{router_stays}
 use Rattle.ipcz_world.proofs.lawful.RouterStays.{stays-left, proxy-stays}
 use Rattle.ipcz_world.proofs.lawful.RouterWorths.{worth-most}

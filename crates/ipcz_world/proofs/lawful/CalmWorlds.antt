@@ -7,40 +7,29 @@ use Rattle.std.specs.Ordering.{nat_cmp}
 use Rattle.std.specs.FinMap.{entries}
 use Rattle.ipcz_base.specs.Totals.{total_of}
 use Rattle.ipcz_base.proofs.Totals.{total-empty}
-use Rattle.ipcz_world.proofs.Vocabulary.{End, LinkId, Message, opposite_end, total, total_list, Router, Node, bare_node, RouterAct, Act, Close, Hand, outbox}
-use Rattle.ipcz_world.proofs.Vocabulary.{Item, same_end, is_terminal, current_item, is_closed, read}
-use Rattle.ipcz_world.proofs.Vocabulary.{router_in, commit, World, node_at, mail_at, way, router_at, Books, answer_of}
-use Rattle.ipcz_world.proofs.Vocabulary.{set_node, set_mail, after_act, can_take, hand_message, messages_in, output_of}
+use Rattle.ipcz_world.proofs.Vocabulary.{End, LinkId, Message, opposite_end, total, total_list, Router, Node, bare_node, RouterAct, Act, Close, Hand}
+use Rattle.ipcz_world.proofs.Vocabulary.{outbox, Item, same_end, is_terminal, current_item, is_closed, read, router_in, commit, World, node_at}
+use Rattle.ipcz_world.proofs.Vocabulary.{mail_at, way, router_at, Books, answer_of, set_node, set_mail, after_act, can_take, hand_message}
+use Rattle.ipcz_world.proofs.Vocabulary.{messages_in, output_of, Answer, Applied, Look, Post, Idle, Happened, on_router, moved_ends, deliver}
+use Rattle.ipcz_world.proofs.Vocabulary.{commit_router, post_of, first_of, rest_of, event_of, Mail, Turn, after_turn, has_mark, advance, is_mark}
+use Rattle.ipcz_world.proofs.Vocabulary.{is_gone_item, has_gone_next, item_passes, is_sink, Routes, routes_after, routes_after_turn, source_for}
+use Rattle.ipcz_world.proofs.Vocabulary.{touch, after_router_act, after_hand, after_look, after_post, full_message, may_act, turn_event, router_seen}
+use Rattle.ipcz_world.proofs.Vocabulary.{router_of, Lawful, StepKeepsLawful, Rates, worth, router_worth, node_worth, rank}
 use Rattle.ipcz_router.specs.declared.act.RouterAct.TheVariants as acts
-use Rattle.ipcz_router.specs.declared.act.Answer.{Answer}
 use Rattle.ipcz_router.specs.declared.act.Answer.TheVariants as answers
-use Rattle.ipcz_router.specs.declared.act.Applied.{Applied}
 use Rattle.ipcz_router.specs.declared.act.Applied.TheVariants as outputs
-use Rattle.ipcz_node.specs.declared.act.Act.TheVariants.{Look, Post, Router as OfRouter, Idle}
-use Rattle.ipcz_node.specs.declared.happened.Happened.{Happened}
+use Rattle.ipcz_node.specs.declared.act.Act.TheVariants.{Router as OfRouter}
 use Rattle.ipcz_node.specs.declared.happened.Happened.TheVariants as events
-use Rattle.ipcz_node.specs.Node.{on_router, outbox_count}
-use Rattle.ipcz_node.specs.Sends.{moved_ends}
-use Rattle.ipcz_node.specs.Hands.{deliver}
-use Rattle.ipcz_node.specs.Acts.{commit_router, post_of, first_of, rest_of}
-use Rattle.ipcz_node.specs.Events.{event_of, event_at, router_event, send_event, hand_event}
-use Rattle.ipcz_world.specs.declared.mail.Mail.{Mail}
+use Rattle.ipcz_node.specs.Node.{outbox_count}
+use Rattle.ipcz_node.specs.Events.{event_at, router_event, send_event, hand_event}
 use Rattle.ipcz_world.specs.declared.mail.Mail.TheVariants as mails
-use Rattle.ipcz_world.specs.declared.step.Step.TheVariants.{Turn}
 use Rattle.ipcz_world.specs.declared.step.Reply.TheVariants as replies
-use Rattle.ipcz_world.specs.Books.{after_turn, after_discard, after_retire, has_mark, advance}
-use Rattle.ipcz_base.specs.Items.{is_mark, is_gone_item}
-use Rattle.ipcz_router.specs.Acts.{has_gone_next, item_passes}
-use Rattle.ipcz_router.specs.Router.{is_sink}
+use Rattle.ipcz_world.specs.Books.{after_discard, after_retire}
 use Rattle.ipcz_world.proofs.facts.Tests.{and_first, and_second}
 use Rattle.ipcz_world.proofs.facts.LinkTests.{same_end-tells, opposite_end-twice}
-use Rattle.ipcz_world.specs.Routes.{Routes, routes_after, routes_after_turn}
-use Rattle.ipcz_world.specs.WordAnswers.{source_for, touch}
-use Rattle.ipcz_world.specs.Turns.{after_router_act, after_hand, after_look, after_post, full_message, may_act, turn_event, is_first_pending}
-use Rattle.ipcz_world.specs.Turns.{hand_seen, router_seen, router_of}
-use Rattle.ipcz_world.specs.Lawful.{Lawful}
-use Rattle.ipcz_world.specs.WorldLaws.{StepKeepsLawful}
-use Rattle.ipcz_world.specs.Ranks.{Rates, worth, router_worth, node_worth, rank, IsRated, AreTurns, TurnsKeepRates, is_unlock, unlock_count}
+use Rattle.ipcz_world.specs.Turns.{is_first_pending}
+use Rattle.ipcz_world.specs.Turns.{hand_seen}
+use Rattle.ipcz_world.specs.Ranks.{IsRated, AreTurns, TurnsKeepRates, is_unlock, unlock_count}
 use Rattle.ipcz_world.specs.PutBounds.{router_stays, node_stays, stays, is_retire, retire_count}
 use Rattle.ipcz_world.proofs.frames.Totalling.{total_list-put_place}
 use Rattle.ipcz_world.proofs.lawful.Limits.{mailed-bare}

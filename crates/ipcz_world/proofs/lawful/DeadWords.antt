@@ -4,30 +4,26 @@ use Rattle.std.proofs.Common.{arith, sym, ◌∙◌, ap, subst, inl, inr}
 use Rattle.std.proofs.lemmas.Bool.{or_left}
 use Rattle.std.proofs.lemmas.Bool.Decides.{nat_tests}
 use Rattle.ipcz_base.proofs.Indexed.{place_at-put_place}
-use Rattle.ipcz_world.proofs.Vocabulary.{LinkId, Central, Peripheral, LinkEnd, Message, Router, RouterAct, Act, Close, Hand, Node, Word, Refusal, primary_word, word_of, has_link, put_place, empty_word, open_word}
-use Rattle.ipcz_world.proofs.Vocabulary.{World, Key, way, node_at, word_at, mail_at, router_at, set_node, set_word, set_claimed, set_mail}
-use Rattle.ipcz_world.proofs.Vocabulary.{answer_of, after_act, can_take, hand_message, unless, Books, Reply, commit}
-use Rattle.ipcz_base.specs.declared.profile.Profile.TheVariants.{Printed, Wide}
+use Rattle.ipcz_world.proofs.Vocabulary.{LinkId, Central, Peripheral, LinkEnd, Message, Router, RouterAct, Act, Close, Hand, Node, Word, Refusal}
+use Rattle.ipcz_world.proofs.Vocabulary.{primary_word, word_of, has_link, put_place, empty_word, open_word, World, Key, way, node_at, word_at}
+use Rattle.ipcz_world.proofs.Vocabulary.{mail_at, router_at, set_node, set_word, set_claimed, set_mail, answer_of, after_act, can_take, hand_message}
+use Rattle.ipcz_world.proofs.Vocabulary.{unless, Books, Reply, commit, Printed, Wide, source_of, Look, Post, Idle, post_of, open_node}
+use Rattle.ipcz_world.proofs.Vocabulary.{serials_refusal, put_refusal, get_refusal, close_refusal, deliver, Mail, Step, has_unclaimed_word}
+use Rattle.ipcz_world.proofs.Vocabulary.{link_answer, word_answer, touch, touch_word, source_for, after_hand, after_look, after_post}
+use Rattle.ipcz_world.proofs.Vocabulary.{after_router_act, full_message, router_of, next_at, turn_event, router_seen, turn_lacks_serials, Effect}
+use Rattle.ipcz_world.proofs.Vocabulary.{GivesOrNoMemory, refuse, at_node, open_with, open_on, open_step, close_step, turn_step, StepAny, Routes}
+use Rattle.ipcz_world.proofs.Vocabulary.{Lawful}
 use Rattle.ipcz_base.specs.declared.refusal.Refusal.TheVariants as refusals
 use Rattle.ipcz_base.specs.declared.message.Message.TheVariants as messages
-use Rattle.ipcz_router.specs.Router.{source_of}
 use Rattle.ipcz_router.specs.declared.act.RouterAct.TheVariants as acts
 use Rattle.ipcz_router.specs.declared.act.Answer.TheVariants as answers
-use Rattle.ipcz_node.specs.declared.act.Act.TheVariants.{Look, Post, Router as OfRouter, Idle}
-use Rattle.ipcz_node.specs.Acts.{post_of}
-use Rattle.ipcz_node.specs.Calls.{open_node, serials_refusal, put_refusal, get_refusal, close_refusal}
-use Rattle.ipcz_node.specs.Hands.{deliver}
-use Rattle.ipcz_world.specs.declared.mail.Mail.{Mail}
+use Rattle.ipcz_node.specs.declared.act.Act.TheVariants.{Router as OfRouter}
 use Rattle.ipcz_world.specs.declared.mail.Mail.TheVariants as mails
-use Rattle.ipcz_world.specs.declared.step.Step.{Step}
 use Rattle.ipcz_world.specs.declared.step.Step.TheVariants as steps
 use Rattle.ipcz_world.specs.declared.step.Reply.TheVariants as replies
-use Rattle.ipcz_world.specs.World.{has_unclaimed_word}
-use Rattle.ipcz_world.specs.WordAnswers.{link_answer, word_answer, word_after, touch, touch_word, source_for}
-use Rattle.ipcz_world.specs.Turns.{after_hand, after_look, after_post, after_router_act, full_message, router_of, next_at, turn_event, hand_seen, router_seen, turn_lacks_serials, hand_lacks_serials, turn_grows, hand_grows}
-use Rattle.ipcz_world.specs.Steps.{Effect, GivesOrNoMemory, AnyAct, refuse, at_node, open_with, open_on, open_step, close_step, turn_step, is_refused, StepAny}
-use Rattle.ipcz_world.specs.Routes.{Routes}
-use Rattle.ipcz_world.specs.Lawful.{Lawful}
+use Rattle.ipcz_world.specs.WordAnswers.{word_after}
+use Rattle.ipcz_world.specs.Turns.{hand_seen, hand_lacks_serials, turn_grows, hand_grows}
+use Rattle.ipcz_world.specs.Steps.{AnyAct, is_refused}
 use Rattle.ipcz_world.specs.HeldEnds.{ByRouter, with_words, IsLive, AgreesOnLive, DeadWordsDoNotMatter}
 use Rattle.ipcz_world.proofs.facts.Tests.{and_first}
 use Rattle.ipcz_world.proofs.facts.Lengths.{has_link-some}

@@ -4,17 +4,10 @@ use Rattle.std.specs.Prelude.{◌≡◌, ◌⊎◌, ◌≤◌, ℕ, Bool, true, 
 use Rattle.std.proofs.Common.{arith, ap, sym, ◌∙◌, inl, inr}
 use Rattle.std.proofs.lemmas.Bool.Decides.{nat_tests}
 use Rattle.ipcz_world.proofs.Vocabulary.{Side, A, B, End, LinkId, Central, Peripheral, LinkEnd, has_link, word_of, opposite, opposite_end, has}
-use Rattle.ipcz_world.proofs.Vocabulary.{Router, RouterAct, is_possible, World, Key, word_at, router_at, Books, Records, Inv, has_primary}
-use Rattle.ipcz_world.proofs.Vocabulary.{is_begun, side_end, IsRecorded}
-use Rattle.ipcz_base.specs.declared.item.Item.TheVariants.{Gone}
-use Rattle.ipcz_base.specs.Ends.{end_at}
-use Rattle.ipcz_router.specs.Router.{decays, is_on_central}
-use Rattle.ipcz_router.specs.Acts.{has_gone_next}
-use Rattle.ipcz_router.specs.ActTable.{is_rest, may_take, is_done}
-use Rattle.ipcz_router.specs.ActEffects.{leaves_by}
+use Rattle.ipcz_world.proofs.Vocabulary.{Router, RouterAct, is_possible, World, Key, word_at, router_at, Books, Records, Inv, has_primary, is_begun}
+use Rattle.ipcz_world.proofs.Vocabulary.{side_end, IsRecorded, Gone, end_at, decays, is_on_central, has_gone_next, is_rest, may_take, is_done}
+use Rattle.ipcz_world.proofs.Vocabulary.{leaves_by, is_retired, is_left}
 use Rattle.ipcz_router.specs.declared.act.RouterAct.TheVariants as acts
-use Rattle.ipcz_world.specs.Books.{is_retired}
-use Rattle.ipcz_world.specs.Records.{is_left}
 use Rattle.ipcz_world.proofs.acts.Reading.{in_numbers}
 use Rattle.ipcz_world.proofs.facts.Drained.{gone_found, gone_next-tells}
 use Rattle.ipcz_world.proofs.facts.Lengths.{HasEnd, has_link-tells, has_link-some}

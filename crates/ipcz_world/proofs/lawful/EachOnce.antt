@@ -2,12 +2,10 @@
 use Rattle.std.specs.Prelude.{◌≡◌, ◌<◌, ◌≤◌, ℕ, zero, suc, ◌+◌, Bool, true, false, nat_eq, Some, List, [], ◌∷◌, drop, slice_get, refl}
 use Rattle.std.proofs.Common.{arith, ap, subst, ◌∙◌, sym}
 use Rattle.std.proofs.lemmas.Bool.Decides.{nat_tests}
-use Rattle.ipcz_world.proofs.Vocabulary.{End, Item, opposite_end, item_at, Router, World, Key, router_at, Books, read, Records, at_end}
-use Rattle.ipcz_world.proofs.Vocabulary.{Inv}
-use Rattle.ipcz_world.specs.Records.{routes_of}
-use Rattle.ipcz_world.specs.Places.{from_number, just, times_at, unread_weight}
+use Rattle.ipcz_world.proofs.Vocabulary.{End, Item, opposite_end, item_at, Router, World, Key, router_at, Books, read, Records, at_end, Inv}
+use Rattle.ipcz_world.proofs.Vocabulary.{routes_of, from_number, Routes}
+use Rattle.ipcz_world.specs.Places.{just, times_at, unread_weight}
 use Rattle.ipcz_world.specs.Places as places
-use Rattle.ipcz_world.specs.Routes.{Routes}
 use Rattle.ipcz_world.specs.WorldLaws.{ItemsStandOnce}
 use Rattle.ipcz_base.specs.Items.{same_item}
 use Rattle.ipcz_world.proofs.facts.LinkTests.{same_end-itself, opposite_end-twice}

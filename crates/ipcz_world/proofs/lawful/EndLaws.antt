@@ -2,12 +2,9 @@
 use Rattle.std.specs.Prelude.{◌≡◌, ℕ, Bool, true, false, cond, ◌&&◌, nat_eq, refl}
 use Rattle.std.proofs.Common.{arith, ap, sym, ◌∙◌}
 use Rattle.std.proofs.lemmas.Bool.Decides.{nat_tests}
-use Rattle.ipcz_world.proofs.Vocabulary.{End, Central, World, Books, Records, is_linked, is_nowhere, side_end, Inv}
-use Rattle.ipcz_base.specs.Ends.{end_at}
-use Rattle.ipcz_world.specs.Books.{has_mark}
+use Rattle.ipcz_world.proofs.Vocabulary.{End, Central, World, Books, Records, is_linked, is_nowhere, side_end, Inv, end_at, has_mark, routes_of}
 use Rattle.ipcz_world.specs.Plain.{IsUnwritten}
 use Rattle.ipcz_world.specs.Routes.{is_opened}
-use Rattle.ipcz_world.specs.Records.{routes_of}
 use Rattle.ipcz_world.specs.Laws.{EndLaw}
 use Rattle.ipcz_world.proofs.frames.RecordRules.{is_recorded-central}
 

@@ -1,23 +1,18 @@
 -- Each message in a node's hand fits there, a Flush aside: else the node would have a stray after handling it.
-use Rattle.ipcz_world.specs.WordAnswers.{source_for}
+use Rattle.ipcz_world.proofs.Vocabulary.{Side, LinkId, Central, Descriptor, Item, Message, Router, Hand, Node, Found, World, way, node_at, set_node}
+use Rattle.ipcz_world.proofs.Vocabulary.{after_act, can_take, unless, source_for, is_named, link_router, fits, handle, is_hand_of, deliver, Turn}
+use Rattle.ipcz_world.proofs.Vocabulary.{after_hand, turn_lacks_serials, turn_step, advance, routes_after, Lawful, StepKeepsLawful}
 use Rattle.std.specs.Prelude.{◌≡◌, ◌⊎◌, ℕ, Bool, true, false, cond, not, ◌&&◌, nat_eq, nat_lt, if◌then◌else◌, Option, Some, None, is_some}
 use Rattle.std.specs.Prelude.{refl, List, [], ◌∷◌, ◌++◌}
 use Rattle.std.proofs.Common.{arith, ap, sym, ◌∙◌, inl, inr}
 use Rattle.std.proofs.lemmas.Bool.Decides.{nat_tests}
-use Rattle.ipcz_world.proofs.Vocabulary.{Side, LinkId, Central, Descriptor, Item, Message, Router, Hand, Node, Found, World, way, node_at}
-use Rattle.ipcz_world.proofs.Vocabulary.{set_node, after_act, can_take, unless}
 use Rattle.ipcz_base.specs.declared.message.Message.TheVariants as messages
-use Rattle.ipcz_node.specs.Node.{is_named, link_router, add_stray}
-use Rattle.ipcz_node.specs.Hands.{link_asked, side_asked, fits_item, passes_at, fits, handle, is_hand_of, deliver}
+use Rattle.ipcz_node.specs.Node.{add_stray}
+use Rattle.ipcz_node.specs.Hands.{link_asked, side_asked, fits_item, passes_at}
 use Rattle.ipcz_world.specs.declared.mail.Mail.TheVariants as mails
-use Rattle.ipcz_world.specs.declared.step.Step.TheVariants.{Turn}
-use Rattle.ipcz_world.specs.Turns.{message_in_hand, after_hand, hand_lacks_serials, turn_lacks_serials}
-use Rattle.ipcz_world.specs.Steps.{turn_step}
-use Rattle.ipcz_world.specs.Books.{advance}
-use Rattle.ipcz_world.specs.Routes.{routes_after}
+use Rattle.ipcz_world.specs.Turns.{message_in_hand, hand_lacks_serials}
 use Rattle.ipcz_world.specs.Laws.{is_flush}
-use Rattle.ipcz_world.specs.Lawful.{Lawful}
-use Rattle.ipcz_world.specs.WorldLaws.{StepKeepsLawful, HandsFit}
+use Rattle.ipcz_world.specs.WorldLaws.{HandsFit}
 use Rattle.ipcz_world.proofs.frames.Frames.{node-set_node, node-set_mail}
 use Rattle.ipcz_world.proofs.facts.Tests.{and_first}
 

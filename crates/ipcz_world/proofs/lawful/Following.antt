@@ -2,11 +2,11 @@
 use Rattle.std.specs.Prelude.{◌≡◌, not, ◌&&◌, ◌⊎◌, ◌≤◌, ℕ, Bool, true, false, ◌||◌, Some, is_some, refl}
 use Rattle.std.proofs.Common.{arith, ap, sym, ◌∙◌, inl, inr}
 use Rattle.std.proofs.lemmas.Bool.{or_left, or_right}
-use Rattle.ipcz_world.proofs.Vocabulary.{Side, A, B, LinkId, Central, Peripheral, has_link, word_of, Router, is_possible}
-use Rattle.ipcz_world.proofs.Vocabulary.{primary_word, has_primary}
-use Rattle.ipcz_router.specs.Router.{outward_has, inward_has, is_terminal, is_proxy, decays, is_on_central}
+use Rattle.ipcz_world.proofs.Vocabulary.{Side, A, B, LinkId, Central, Peripheral, has_link, word_of, Router, is_possible, primary_word, has_primary}
+use Rattle.ipcz_world.proofs.Vocabulary.{outward_has, is_proxy, decays, is_on_central, is_done}
+use Rattle.ipcz_router.specs.Router.{inward_has, is_terminal}
 use Rattle.ipcz_router.specs.declared.act.RouterAct.TheVariants as acts
-use Rattle.ipcz_router.specs.ActTable.{is_ready, is_leaving, is_done}
+use Rattle.ipcz_router.specs.ActTable.{is_ready, is_leaving}
 use Rattle.ipcz_world.proofs.facts.Lengths.{HasEnd, has_link-tells}
 
 -- a proxy with a spare

@@ -5,26 +5,16 @@ use Rattle.std.proofs.lemmas.Bool.{or_cases, or_left, or_right}
 use Rattle.std.proofs.lemmas.Bool.Decides.{nat_tests}
 use Rattle.std.specs.Cmp.{nat_cmp_total}
 use Rattle.std.specs.FinMap.{get-insert}
-use Rattle.ipcz_world.proofs.Vocabulary.{Side, LinkId, Central, Peripheral, LinkEnd, has_link, word_of, opposite, Router, RouterAct, is_possible, output_of, Node, router_in, with_router, commit}
-use Rattle.ipcz_world.proofs.Vocabulary.{World, Key, node_at, word_at, router_at, Books, Owner, Spare, Linked, set_node, answer_of, after_act, can_take}
-use Rattle.ipcz_router.specs.Router.{decays}
+use Rattle.ipcz_world.proofs.Vocabulary.{Side, LinkId, Central, Peripheral, LinkEnd, has_link, word_of, opposite, Router, RouterAct, is_possible}
+use Rattle.ipcz_world.proofs.Vocabulary.{output_of, Node, router_in, with_router, commit, World, Key, node_at, word_at, router_at, Books, Owner}
+use Rattle.ipcz_world.proofs.Vocabulary.{Spare, Linked, set_node, answer_of, after_act, can_take, decays, is_rest, may_take, apply, leaves_by}
+use Rattle.ipcz_world.proofs.Vocabulary.{on_router, send, commit_router, keep_or_drop, has_unclaimed_word, is_begun_router, touch, router_of, may_act}
+use Rattle.ipcz_world.proofs.Vocabulary.{after_router_act, claim_for_open, Routes, Lawful}
 use Rattle.ipcz_router.specs.LettingGo.{word_end, first_of, edge_end, let_go_end, let_go_spare}
-use Rattle.ipcz_router.specs.ActTable.{is_rest, may_take}
-use Rattle.ipcz_router.specs.ActEffects.{apply, leaves_by}
 use Rattle.ipcz_router.specs.declared.act.RouterAct.TheVariants as acts
 use Rattle.ipcz_router.specs.declared.act.Answer.TheVariants as answers
 use Rattle.ipcz_node.specs.declared.act.Act.TheVariants.{Router as OfRouter}
-use Rattle.ipcz_node.specs.Node.{on_router}
-use Rattle.ipcz_node.specs.Sends.{send}
-use Rattle.ipcz_node.specs.Acts.{commit_router, keep_or_drop}
 use Rattle.ipcz_word.specs.Word.{is_free}
-use Rattle.ipcz_world.specs.World.{has_unclaimed_word}
-use Rattle.ipcz_world.specs.Structure.{is_begun_router}
-use Rattle.ipcz_world.specs.WordAnswers.{touch}
-use Rattle.ipcz_world.specs.Turns.{router_of, may_act, after_router_act}
-use Rattle.ipcz_world.specs.Steps.{claim_for_open}
-use Rattle.ipcz_world.specs.Routes.{Routes}
-use Rattle.ipcz_world.specs.Lawful.{Lawful}
 use Rattle.ipcz_world.specs.HeldEnds.{is_spare, router_holds, IsEndHeld, ByRouter, ByOpen, lets_go, LetGoAreGivenUp, ClaimedAreHeld}
 use Rattle.ipcz_world.proofs.facts.Lengths.{HasEnd, has_link-tells, has_link-some}
 use Rattle.ipcz_world.proofs.facts.Tests.{and_first, and_second, nat_eq-itself}

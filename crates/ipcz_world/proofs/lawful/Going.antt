@@ -6,14 +6,10 @@ use Rattle.std.proofs.lemmas.Bool.Decides.{nat_tests}
 use Rattle.std.proofs.lemmas.Option.{same_Some}
 use Rattle.std.specs.Cmp.{nat_cmp_total}
 use Rattle.std.specs.FinMap.{get-insert, get-remove}
-use Rattle.ipcz_world.proofs.Vocabulary.{Side, Central, Message}
-use Rattle.ipcz_world.proofs.Vocabulary.{place_at, Router, is_terminal}
-use Rattle.ipcz_world.proofs.Vocabulary.{Node, router_in, with_router, outbox}
-use Rattle.ipcz_world.proofs.Vocabulary.{has_primary}
+use Rattle.ipcz_world.proofs.Vocabulary.{Side, Central, Message, place_at, Router, is_terminal, Node, router_in, with_router, outbox, has_primary}
+use Rattle.ipcz_world.proofs.Vocabulary.{without_router, add_router, push_out, tell}
 use Rattle.ipcz_base.proofs.Indexed.{place_at-put_place}
 use Rattle.ipcz_router.specs.declared.sending.Sending.{Sending}
-use Rattle.ipcz_node.specs.Node.{without_router, add_router, push_out}
-use Rattle.ipcz_node.specs.Hands.{tell}
 use Rattle.ipcz_world.proofs.lawful.Following.{Follows, follows-itself, follows-after}
 
 -- a router that wasn't there: a terminal that hasn't tried

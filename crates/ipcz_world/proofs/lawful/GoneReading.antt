@@ -6,33 +6,22 @@ use Rattle.std.proofs.lemmas.Bool.Decides.{nat_tests}
 use Rattle.std.proofs.lemmas.Option.{none-some, same_Some}
 use Rattle.std.specs.Cmp.{nat_cmp_total}
 use Rattle.std.specs.FinMap.{get-remove}
-use Rattle.ipcz_world.proofs.Vocabulary.{End, Item, opposite_end, same_end, current_item, Router, is_terminal, is_possible, output_of, RouterAct, Act, Close, Hand, Reply}
-use Rattle.ipcz_world.proofs.Vocabulary.{Node, router_in, World, Key, node_at, mail_at, way, router_at, can_take, hand_message, answer_of, after_act, commit}
-use Rattle.ipcz_world.proofs.Vocabulary.{Books, read, Records, Inv, At, set_node}
-use Rattle.ipcz_base.specs.declared.item.Item.TheVariants.{Parcel, Mark, Gone}
+use Rattle.ipcz_world.proofs.Vocabulary.{End, Item, opposite_end, same_end, current_item, Router, is_terminal, is_possible, output_of, RouterAct, Act}
+use Rattle.ipcz_world.proofs.Vocabulary.{Close, Hand, Reply, Node, router_in, World, Key, node_at, mail_at, way, router_at, can_take, hand_message}
+use Rattle.ipcz_world.proofs.Vocabulary.{answer_of, after_act, commit, Books, read, Records, Inv, At, set_node, Parcel, Mark, Gone, is_gone_item}
+use Rattle.ipcz_world.proofs.Vocabulary.{is_sink, drop_item, has_gone_next, item_passes, may_take, is_rest, apply, leaves_by, discard_output, Look}
+use Rattle.ipcz_world.proofs.Vocabulary.{Post, Idle, Happened, event_of, on_router, send, commit_router, keep_or_drop, Step, add_put, is_retired}
+use Rattle.ipcz_world.proofs.Vocabulary.{after_turn, advance, StepAny, claim_for_open, turn_event, may_act, router_of, after_router_act, touch}
 use Rattle.ipcz_base.specs.declared.parcel.Parcel as parcels
-use Rattle.ipcz_base.specs.Items.{is_gone_item}
-use Rattle.ipcz_router.specs.Router.{is_sink}
-use Rattle.ipcz_router.specs.Acts.{drop_item, has_gone_next, item_passes}
-use Rattle.ipcz_router.specs.ActTable.{may_take, is_rest}
-use Rattle.ipcz_router.specs.ActEffects.{apply, leaves_by, discard_output}
 use Rattle.ipcz_router.specs.declared.act.RouterAct.TheVariants as acts
-use Rattle.ipcz_node.specs.declared.act.Act.TheVariants.{Look, Post, Router as OfRouter, Idle}
-use Rattle.ipcz_node.specs.declared.happened.Happened.{Happened}
+use Rattle.ipcz_node.specs.declared.act.Act.TheVariants.{Router as OfRouter}
 use Rattle.ipcz_node.specs.declared.happened.Happened.TheVariants as events
-use Rattle.ipcz_node.specs.Events.{event_of}
-use Rattle.ipcz_node.specs.Node.{on_router}
-use Rattle.ipcz_node.specs.Sends.{send}
-use Rattle.ipcz_node.specs.Acts.{commit_router, keep_or_drop}
-use Rattle.ipcz_world.specs.declared.step.Step.{Step}
 use Rattle.ipcz_world.specs.declared.step.Step.TheVariants as steps
 use Rattle.ipcz_world.specs.declared.step.Reply.TheVariants as replies
-use Rattle.ipcz_world.specs.Books.{add_put, add_got, add_gone, has_gone, is_closed, is_retired, after_turn, after_discard, after_retire, next_item, advance}
+use Rattle.ipcz_world.specs.Books.{add_got, add_gone, has_gone, is_closed, after_discard, after_retire, next_item}
 use Rattle.ipcz_world.specs.Owed.{GoneUnread}
 use Rattle.ipcz_world.specs.Plain.{Plain}
-use Rattle.ipcz_world.specs.Steps.{StepAny, AnyAct, claim_for_open}
-use Rattle.ipcz_world.specs.Turns.{turn_event, may_act, router_of, after_router_act}
-use Rattle.ipcz_world.specs.WordAnswers.{touch}
+use Rattle.ipcz_world.specs.Steps.{AnyAct}
 use Rattle.ipcz_world.proofs.acts.CallReplies.{reply-get}
 use Rattle.ipcz_world.proofs.facts.LinkTests.{same_end-tells, opposite_end-twice}
 use Rattle.ipcz_world.proofs.facts.Tests.{nat_eq-is, nat_eq-itself, not_both}

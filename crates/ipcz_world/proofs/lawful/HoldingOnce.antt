@@ -7,10 +7,8 @@ use Rattle.std.proofs.lemmas.Option.{same_Some}
 use Rattle.ipcz_base.specs.Totals.{total_list, total_below}
 use Rattle.ipcz_base.specs.declared.message.Message.TheVariants as messages
 use Rattle.ipcz_world.proofs.Vocabulary.{Side, Central, Message, Router, router_has, World, Key, node_at, router_at, flow, Books, Records, IsUnderWay}
-use Rattle.ipcz_world.proofs.Vocabulary.{Owner, Spare, Opening, Fresh, Linked, under_way, control_weight, of_bypass, same_side}
-use Rattle.ipcz_world.specs.Routes.{Routes}
+use Rattle.ipcz_world.proofs.Vocabulary.{Owner, Spare, Opening, Fresh, Linked, under_way, control_weight, of_bypass, same_side, Routes, Lawful}
 use Rattle.ipcz_world.specs.Laws.{fresh_count, names_link}
-use Rattle.ipcz_world.specs.Lawful.{Lawful}
 use Rattle.ipcz_world.specs.HeldEnds.{is_spare, router_holds, message_holds, IsEndHeld, ByRouter, ByOpen, ByOutbox, ByMailbox, IsOfRouter, IsOfOpen, HeldInOnePlace}
 use Rattle.ipcz_world.proofs.facts.Tests.{and_first, and_second, nat_eq-is, nat_eq-itself}
 use Rattle.ipcz_world.proofs.frames.Sums.{total_list-at}

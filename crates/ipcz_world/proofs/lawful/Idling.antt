@@ -3,18 +3,13 @@ use Rattle.std.specs.Prelude.{◌≡◌, ◌⊎◌, ◌≤◌, ◌<◌, ℕ, zer
 use Rattle.std.specs.Prelude.{Some, None, is_some, refl, List, [], ◌∷◌, length, map}
 use Rattle.std.proofs.Common.{arith, ap, subst, ◌∙◌, sym, inl, inr}
 use Rattle.std.proofs.lemmas.Bool.Decides.{nat_tests}
-use Rattle.ipcz_world.proofs.Vocabulary.{End, Message, place_at, Act, Hand, Node, Found, outbox, World, node_at, mail_at, way}
-use Rattle.ipcz_world.proofs.Vocabulary.{hand_message, Records, Counts}
-use Rattle.ipcz_node.specs.declared.act.Act.TheVariants.{Look, Post}
+use Rattle.ipcz_world.proofs.Vocabulary.{End, Message, place_at, Act, Hand, Node, Found, outbox, World, node_at, mail_at, way, hand_message, Records}
+use Rattle.ipcz_world.proofs.Vocabulary.{Counts, Look, Post, flagged_router, first_number, has_mail_for, router_turn, close_turn, are_empty, is_quiet}
+use Rattle.ipcz_world.proofs.Vocabulary.{Mail, node_limit, numbers_from, is_full, is_clear, seen_at, next_at, is_idle, IsQuiet}
 use Rattle.ipcz_node.specs.declared.act.MailSeen.{MailSeen}
-use Rattle.ipcz_node.specs.Node.{flagged_router}
-use Rattle.ipcz_node.specs.Acts.{first_number, has_mail_for, first_sender, first_destination, router_turn, close_turn, node_turn, next}
-use Rattle.ipcz_node.specs.Acts.{are_empty, is_quiet}
-use Rattle.ipcz_world.specs.declared.mail.Mail.{Mail}
+use Rattle.ipcz_node.specs.Acts.{first_sender, first_destination, node_turn, next}
 use Rattle.ipcz_world.specs.declared.mail.Mail.TheVariants as mails
-use Rattle.ipcz_world.specs.World.{node_limit, numbers_from}
-use Rattle.ipcz_world.specs.Turns.{is_full, is_clear, seen_at, next_at, is_idle}
-use Rattle.ipcz_world.specs.Settling.{IsQuiet, IsBounded}
+use Rattle.ipcz_world.specs.Settling.{IsBounded}
 
 -- a search that finds nothing
 none_first : (test : ℕ → Bool) (from left : ℕ) → first_number test from left ≡ None → (i : ℕ) → from ≤ i → i < from + left → test i ≡ false

@@ -1,9 +1,9 @@
 -- What happens between steps of a world that lasts raises no rank, but for routers that may claim again.
 use Rattle.std.specs.Prelude.{◌≡◌, ◌≤◌, ℕ, ◌+◌, Bool, true, false, not, ◌&&◌, Some, is_none, refl}
 use Rattle.std.proofs.Common.{arith}
-use Rattle.ipcz_world.proofs.Vocabulary.{Router, World, Key, node_at, router_at, set_claimed, set_router, with_router}
+use Rattle.ipcz_world.proofs.Vocabulary.{Router, World, Key, node_at, router_at, set_claimed, set_router, with_router, Rates, router_worth, rank}
 use Rattle.ipcz_router.specs.ActEffects.{run_dry, rewet}
-use Rattle.ipcz_world.specs.Ranks.{Rates, is_unbegun, router_worth, rank}
+use Rattle.ipcz_world.specs.Ranks.{is_unbegun}
 use Rattle.ipcz_world.specs.HeldEnds.{passed_over, grown}
 use Rattle.ipcz_world.specs.Lasting.{DeedsKeepRanks}
 use Rattle.ipcz_world.proofs.lawful.RouterWorths.{worth-most}

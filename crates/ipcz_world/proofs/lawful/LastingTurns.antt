@@ -1,14 +1,9 @@
 -- Turns alone, however many: an end that was let go isn't held after them, and one that is held is, if none of them lets it go.
 use Rattle.std.specs.Prelude.{[], ◌∷◌}
 use Rattle.std.proofs.Common.{arith, sym, subst, inl, inr}
-use Rattle.ipcz_world.proofs.Vocabulary.{World, after_act}
-use Rattle.ipcz_world.specs.declared.step.Step.TheVariants.{Turn}
+use Rattle.ipcz_world.proofs.Vocabulary.{World, after_act, Turn, after_turn, advance, routes_after, routes_after_turn, turn_event, Lawful}
+use Rattle.ipcz_world.proofs.Vocabulary.{StepKeepsLawful}
 use Rattle.ipcz_world.specs.declared.step.Reply.TheVariants as replies
-use Rattle.ipcz_world.specs.Books.{after_turn, advance}
-use Rattle.ipcz_world.specs.Routes.{routes_after, routes_after_turn}
-use Rattle.ipcz_world.specs.Turns.{turn_event}
-use Rattle.ipcz_world.specs.Lawful.{Lawful}
-use Rattle.ipcz_world.specs.WorldLaws.{StepKeepsLawful}
 use Rattle.ipcz_world.specs.HeldEnds.{IsEndHeld, TurnsHeldWereHeld, HeldUntilLetGo, TurnsKeepHeld}
 use Rattle.ipcz_world.proofs.facts.Claimed.{claimed-after_act}
 use Rattle.ipcz_world.proofs.lawful.LettingGo.{held_were_held}

@@ -3,16 +3,13 @@ use Rattle.std.specs.Prelude.{◌≡◌, ◌⊎◌, ◌<◌, ◌≤◌, ℕ, Boo
 use Rattle.std.proofs.Common.{arith, ap, subst, ◌∙◌, sym, inl, inr}
 use Rattle.std.proofs.lemmas.Bool.Decides.{nat_tests}
 use Rattle.std.proofs.lemmas.Option.{none-some, same_Some}
-use Rattle.ipcz_world.proofs.Vocabulary.{Side, A, B, LinkId, Central, Peripheral, LinkEnd, Descriptor, Item, Message, has, opposite}
-use Rattle.ipcz_world.proofs.Vocabulary.{same_side, has_link, Router, router_has, inward_edge, World, Key, router_at, Books, Records}
-use Rattle.ipcz_world.proofs.Vocabulary.{is_begun, is_recorded, inner_link, side_router, side_length, known_from, bypass_of, proxy_side}
-use Rattle.ipcz_world.proofs.Vocabulary.{across_side, IsUnderWay, Standing, view, view_by, router_view, has_decaying, is_attached}
-use Rattle.ipcz_world.proofs.Vocabulary.{sending_queue, fed_queue, next_sent, taking_queue, is_outward, of_bypass, control_weight}
-use Rattle.ipcz_world.proofs.Vocabulary.{inner_of, has_passed, Inv}
+use Rattle.ipcz_world.proofs.Vocabulary.{Side, A, B, LinkId, Central, Peripheral, LinkEnd, Descriptor, Item, Message, has, opposite, same_side}
+use Rattle.ipcz_world.proofs.Vocabulary.{has_link, Router, router_has, inward_edge, World, Key, router_at, Books, Records, is_begun, is_recorded}
+use Rattle.ipcz_world.proofs.Vocabulary.{inner_link, side_router, side_length, known_from, bypass_of, proxy_side, across_side, IsUnderWay, Standing}
+use Rattle.ipcz_world.proofs.Vocabulary.{view, view_by, router_view, has_decaying, is_attached, sending_queue, fed_queue, next_sent, taking_queue}
+use Rattle.ipcz_world.proofs.Vocabulary.{is_outward, of_bypass, control_weight, inner_of, has_passed, Inv, length_by, bypass_length, is_begun_router}
 use Rattle.ipcz_base.specs.declared.message.Message.TheVariants as messages
-use Rattle.ipcz_world.specs.Records.{length_by, bypass_length}
 use Rattle.ipcz_world.proofs.frames.RecordRules.{bypass_of-inner}
-use Rattle.ipcz_world.specs.Structure.{is_begun_router}
 use Rattle.ipcz_world.specs.Laws.{Knows, OutwardTo, OutwardFrom, InwardTo, InwardFrom, Accepting, StoppingIn, StoppingOut, StoppingInner}
 use Rattle.ipcz_world.specs.Laws.{StoppingInnerOut, Ending, LengthLaw}
 use Rattle.ipcz_world.proofs.facts.LinkTests.{same_side-opposite, side_is, IsKnown, known_from-tells}

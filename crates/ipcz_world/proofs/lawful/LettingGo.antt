@@ -4,29 +4,22 @@ use Rattle.std.proofs.Common.{arith, sym, ◌∙◌, ap, subst, inl, inr}
 use Rattle.std.proofs.lemmas.Bool.{or_cases, or_left, or_right}
 use Rattle.std.proofs.lemmas.Bool.Decides.{nat_tests}
 use Rattle.std.proofs.lemmas.Option.{same_Some}
-use Rattle.ipcz_world.proofs.Vocabulary.{Side, LinkId, Central, Peripheral, LinkEnd, Edge, Message, Router, RouterAct, Node, router_in, router_has, inward_edge, opposite, current_item, outbox, commit, place_at, bare_node}
-use Rattle.ipcz_world.proofs.Vocabulary.{World, Key, way, node_at, mail_at, router_at, messages_in, flow, set_node, Books, Records, IsUnderWay, output_of}
-use Rattle.ipcz_world.proofs.Vocabulary.{answer_of, after_act, has_link, Owner, Spare, Opening, Fresh, Linked, side_router, is_outward, is_begun, proxy_side, across_side, bypass_of, HasLinks, same_side}
+use Rattle.ipcz_world.proofs.Vocabulary.{Side, LinkId, Central, Peripheral, LinkEnd, Edge, Message, Router, RouterAct, Node, router_in, router_has}
+use Rattle.ipcz_world.proofs.Vocabulary.{inward_edge, opposite, current_item, outbox, commit, place_at, bare_node, World, Key, way, node_at, mail_at}
+use Rattle.ipcz_world.proofs.Vocabulary.{router_at, messages_in, flow, set_node, Books, Records, IsUnderWay, output_of, answer_of, after_act}
+use Rattle.ipcz_world.proofs.Vocabulary.{has_link, Owner, Spare, Opening, Fresh, Linked, side_router, is_outward, is_begun, proxy_side, across_side}
+use Rattle.ipcz_world.proofs.Vocabulary.{bypass_of, HasLinks, same_side, edge_has, no_edge, outward_has, next_number, apply, leaves_by, Answer}
+use Rattle.ipcz_world.proofs.Vocabulary.{without_router, on_router, commit_router, Unclaimed, Lost, is_lost_owner, Routes, after_router_act, touch}
+use Rattle.ipcz_world.proofs.Vocabulary.{claim_for_open, Lawful}
 use Rattle.ipcz_base.specs.declared.message.Message.TheVariants as messages
-use Rattle.ipcz_edge.specs.Edge.{edge_has, no_edge}
-use Rattle.ipcz_router.specs.Router.{outward_has, inward_has}
-use Rattle.ipcz_router.specs.Calls.{next_number}
-use Rattle.ipcz_router.specs.ActEffects.{apply, leaves_by, finish_out}
+use Rattle.ipcz_router.specs.Router.{inward_has}
+use Rattle.ipcz_router.specs.ActEffects.{finish_out}
 use Rattle.std.specs.Cmp.{nat_cmp_total}
 use Rattle.std.specs.FinMap.{get-remove}
 use Rattle.ipcz_world.proofs.frames.Frames.{node-set_node, mail-set_node}
 use Rattle.ipcz_router.specs.declared.act.RouterAct.TheVariants as acts
-use Rattle.ipcz_router.specs.declared.act.Answer.{Answer}
 use Rattle.ipcz_node.specs.declared.act.Act.TheVariants.{Router as OfRouter}
-use Rattle.ipcz_node.specs.Node.{without_router, on_router}
-use Rattle.ipcz_node.specs.Acts.{commit_router}
-use Rattle.ipcz_world.specs.Records.{Unclaimed, Lost, is_lost_owner}
-use Rattle.ipcz_world.specs.Routes.{Routes}
-use Rattle.ipcz_world.specs.Turns.{after_router_act}
-use Rattle.ipcz_world.specs.WordAnswers.{touch}
-use Rattle.ipcz_world.specs.Steps.{claim_for_open}
 use Rattle.ipcz_world.specs.Laws.{names_link}
-use Rattle.ipcz_world.specs.Lawful.{Lawful}
 use Rattle.ipcz_world.specs.HeldEnds.{is_spare, router_holds, message_holds, IsEndHeld, ByRouter, ByOpen, ByOutbox, ByMailbox, HeldWereHeld, HeldForOpenWereHeld, LostAreNotHeld, lets_go, LetGoAreNotHeld, AcceptedAreHeld}
 use Rattle.ipcz_world.proofs.facts.Tests.{not_both, nat_eq-is, nat_eq-itself, and_first, and_second}
 use Rattle.ipcz_world.proofs.facts.Lengths.{HasEnd, has_link-tells, has_link-some, same_side-tells, same_side-itself}

@@ -13,41 +13,29 @@ use Rattle.std.specs.FinMap.{FinMap, find, get, entries, get-entries, entries_so
 use Rattle.std.specs.FinMap.Entries.{below_all}
 use Rattle.ipcz_base.specs.declared.message.Message.TheVariants as messages
 use Rattle.ipcz_base.specs.Totals.{total_of}
-use Rattle.ipcz_world.proofs.Vocabulary.{End, LinkId, Side, Descriptor, Item, Message, opposite_end, same_end, has_end, ends_in, total}
-use Rattle.ipcz_world.proofs.Vocabulary.{total_list, place_at}
-use Rattle.ipcz_world.proofs.Vocabulary.{Router, Node, Edge, bare_node, inward_edge, is_terminal, outbox, World, node_at, mail_at}
-use Rattle.ipcz_world.proofs.Vocabulary.{way, router_at, Books}
-use Rattle.ipcz_world.proofs.Vocabulary.{is_closed, Terminal, At, IsUnderWay, moves_of, messages_in, flow, at_end}
-use Rattle.ipcz_world.proofs.Vocabulary.{is_nowhere}
-use Rattle.ipcz_edge.specs.Edge.{edge_decays}
-use Rattle.ipcz_router.specs.Router.{is_proxy, is_on_central}
-use Rattle.ipcz_router.specs.Calls.{next_number}
-use Rattle.ipcz_world.specs.declared.mail.Mail.{Mail}
+use Rattle.ipcz_world.proofs.Vocabulary.{End, LinkId, Side, Descriptor, Item, Message, opposite_end, same_end, has_end, ends_in, total, total_list}
+use Rattle.ipcz_world.proofs.Vocabulary.{place_at, Router, Node, Edge, bare_node, inward_edge, is_terminal, outbox, World, node_at, mail_at, way}
+use Rattle.ipcz_world.proofs.Vocabulary.{router_at, Books, is_closed, Terminal, At, IsUnderWay, moves_of, messages_in, flow, at_end, is_nowhere, Key}
+use Rattle.ipcz_world.proofs.Vocabulary.{Weight, Queue, Found, read, in_router, under_way, item_at, edge_decays, is_proxy, is_on_central, next_number}
+use Rattle.ipcz_world.proofs.Vocabulary.{Mail, Nowhere, Moving, Retired, routes_of, move_weight, is_clear, Routes, Lawful, Rates, worth, router_worth}
+use Rattle.ipcz_world.proofs.Vocabulary.{node_worth, rank, higher, highest, Parcel, Mark, Gone, is_gone_item, no_number, is_retired}
 use Rattle.ipcz_world.specs.declared.mail.Mail.TheVariants as mails
-use Rattle.ipcz_world.specs.Records.{Nowhere, Moving, Retired, routes_of}
 use Rattle.ipcz_world.specs.Places as places
 use Rattle.ipcz_world.specs.Places.{just}
-use Rattle.ipcz_world.specs.Bypasses.{move_weight}
 use Rattle.ipcz_world.specs.Flows.{of_end}
-use Rattle.ipcz_world.specs.Turns.{is_clear}
 use Rattle.ipcz_world.specs.Routes as routes
-use Rattle.ipcz_world.specs.Routes.{Routes}
-use Rattle.ipcz_world.specs.Lawful.{Lawful}
-use Rattle.ipcz_world.specs.Ranks.{Rates, worth, may_put, sink_worth, is_unbegun, bypass_worth, router_worth, moves_worth, message_worth}
-use Rattle.ipcz_world.specs.Ranks.{box_worth, node_worth}
-use Rattle.ipcz_world.specs.Ranks.{mail_worth, rank}
+use Rattle.ipcz_world.specs.Ranks.{may_put, sink_worth, is_unbegun, bypass_worth, moves_worth, message_worth}
+use Rattle.ipcz_world.specs.Ranks.{box_worth}
+use Rattle.ipcz_world.specs.Ranks.{mail_worth}
 use Rattle.ipcz_world.specs.SettleBounds.{CarryNone, PlainLimitIsEnough, is_over, plain_rates, plain_limit}
-use Rattle.ipcz_world.specs.SettleLimit.{higher, put_among, put_within, numbers_left, router_limit, node_limit, settle_limit}
-use Rattle.ipcz_world.specs.SettleLimit.{highest, after_gone, last_gone, gone_queued, gone_held, gone_message, gone_mailed, gone_at, gone_most, has_within, put_most}
+use Rattle.ipcz_world.specs.SettleLimit.{put_among, put_within, numbers_left, router_limit, node_limit, settle_limit}
+use Rattle.ipcz_world.specs.SettleLimit.{after_gone, last_gone, gone_queued, gone_held, gone_message, gone_mailed, gone_at, gone_most, has_within, put_most}
 use Rattle.ipcz_world.specs.SettleLimit.{RankIsWithinLimit}
 use Rattle.ipcz_world.specs.SettleLimit.{SettleLimitIsEnough}
 use Rattle.ipcz_world.proofs.facts.LinkTests.{same_end-itself, same_end-tells, opposite_end-twice}
-use Rattle.ipcz_base.specs.declared.item.Item.TheVariants.{Parcel, Mark, Gone}
-use Rattle.ipcz_base.specs.Items.{is_gone_item, same_item}
-use Rattle.ipcz_base.specs.Limits.{last_number, no_number}
-use Rattle.ipcz_world.specs.Books.{is_retired}
+use Rattle.ipcz_base.specs.Items.{same_item}
+use Rattle.ipcz_base.specs.Limits.{last_number}
 use Rattle.ipcz_node.specs.Node.{find_router}
-use Rattle.ipcz_world.proofs.Vocabulary.{Key, Weight, Queue, Found, read, in_router, under_way}
 use Rattle.ipcz_world.proofs.facts.Finding.{found_tells, found_there, find_above}
 use Rattle.ipcz_world.proofs.facts.Reaching.{left, right}
 use Rattle.ipcz_world.proofs.facts.Drained.{gone_stands}
@@ -56,7 +44,6 @@ use Rattle.ipcz_world.proofs.lawful.RouterWorths.{worth-most}
 use Rattle.ipcz_world.proofs.frames.Flowing.{found, total_list-found}
 use Rattle.ipcz_world.proofs.lawful.EachOnce.{just-here, once, only, in_queue-put}
 use Rattle.ipcz_world.proofs.frames.Booking.{out_numbers}
-use Rattle.ipcz_world.proofs.Vocabulary.{item_at}
 use Rattle.ipcz_world.proofs.frames.OfRecords.{source, in_message, in_node, in_places}
 use Rattle.ipcz_world.proofs.frames.Weighing.{in_places-has, in_places-is, in_router-is}
 use Rattle.ipcz_world.proofs.frames.Passing.{passes-tells}

@@ -2,7 +2,9 @@
 use Rattle.std.specs.Prelude.{◌&&◌}
 use Rattle.ipcz_world.proofs.frames.Touching.{either}
 use Rattle.std.proofs.lemmas.Bool.{and_parts}
-use Rattle.ipcz_world.specs.Records.{is_left}
+use Rattle.ipcz_world.proofs.Vocabulary.{Side, A, B, Central, LinkEnd, has, opposite, same_side, Router, inward_edge, World, Key, word_at, router_at}
+use Rattle.ipcz_world.proofs.Vocabulary.{Books, Records, is_linked, is_begun, side_router, proxy_side, across_side, bypass_of, has_primary}
+use Rattle.ipcz_world.proofs.Vocabulary.{IsRecorded, is_outward, Inv, is_left, has_inward_primary}
 use Rattle.ipcz_world.proofs.frames.LeftSides.{not_left}
 use Rattle.std.proofs.lemmas.Bool.Decides.{nat_tests}
 use Rattle.ipcz_world.proofs.frames.Telling.{peer_told, accept_told}
@@ -11,12 +13,8 @@ use Rattle.ipcz_world.proofs.frames.OfRecords.{none_stable}
 use Rattle.std.specs.Prelude.{◌≡◌, ◌≤◌, ℕ, Bool, true, false, not, Some, is_some, refl}
 use Rattle.std.proofs.Common.{arith, ap, subst, ◌∙◌, sym, inl, inr}
 use Rattle.std.proofs.lemmas.Option.{same_Some}
-use Rattle.ipcz_world.proofs.Vocabulary.{Side, A, B, Central, LinkEnd, has, opposite, same_side, Router, inward_edge, World, Key, word_at}
-use Rattle.ipcz_world.proofs.Vocabulary.{router_at, Books, Records, is_linked, is_begun, side_router, proxy_side, across_side, bypass_of}
-use Rattle.ipcz_world.proofs.Vocabulary.{has_primary, IsRecorded, is_outward, Inv}
 use Rattle.ipcz_word.specs.Word.{is_free}
 use Rattle.ipcz_world.proofs.frames.RecordRules.{bypass_of-central, record_rules}
-use Rattle.ipcz_world.specs.Standing.{has_inward_primary}
 use Rattle.ipcz_world.specs.Laws.{There, LinkLaw, IsBypassed, BypassLaw}
 use Rattle.ipcz_world.proofs.facts.LinkTests.{same_side-opposite}
 use Rattle.ipcz_world.proofs.facts.Lengths.{same_side-itself, HasEnd, has_link-tells}

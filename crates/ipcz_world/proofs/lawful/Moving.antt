@@ -5,11 +5,9 @@ use Rattle.std.proofs.Common.{arith, ap, sym, ◌∙◌, subst, inl, inr}
 use Rattle.std.proofs.lemmas.Bool.Decides.{nat_tests}
 use Rattle.std.proofs.lemmas.Option.{same_Some}
 use Rattle.ipcz_world.proofs.facts.Tests.{nat_eq-itself}
-use Rattle.ipcz_world.proofs.Vocabulary.{Message, Node, outbox, World, node_at, mail_at, way, flow, messages_in, IsUnderWay, set_node}
-use Rattle.ipcz_world.proofs.Vocabulary.{set_mail}
+use Rattle.ipcz_world.proofs.Vocabulary.{Message, Node, outbox, World, node_at, mail_at, way, flow, messages_in, IsUnderWay, set_node, set_mail}
+use Rattle.ipcz_world.proofs.Vocabulary.{with_outbox, Mail}
 use Rattle.ipcz_base.proofs.Indexed.{place_at-put_place}
-use Rattle.ipcz_node.specs.Node.{with_outbox}
-use Rattle.ipcz_world.specs.declared.mail.Mail.{Mail}
 use Rattle.ipcz_world.specs.declared.mail.Mail.TheVariants as mails
 use Rattle.ipcz_world.proofs.frames.Frames.{node-set_node, node-set_mail, mail-set_mail, mail-set_node, count-set_node, count-set_mail}
 use Rattle.ipcz_world.proofs.frames.Changing.{flow_is}

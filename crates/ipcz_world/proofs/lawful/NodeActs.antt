@@ -4,34 +4,26 @@ use Rattle.std.specs.Prelude.{is_some, is_none, List, [], ◌∷◌, length, opt
 use Rattle.std.proofs.Common.{arith, inl, inr}
 use Rattle.std.specs.FinMap.{get}
 use Rattle.ipcz_base.specs.Links.{word_of}
-use Rattle.ipcz_world.proofs.Vocabulary.{End, Item, LinkEnd, opposite, opposite_end, ends_in, inward_edge, Router, Node}
-use Rattle.ipcz_world.proofs.Vocabulary.{Found}
-use Rattle.ipcz_world.proofs.Vocabulary.{with_router, terminal_of, current_item, output_of, is_possible, RouterAct, commit}
-use Rattle.ipcz_world.proofs.Vocabulary.{Close}
+use Rattle.ipcz_world.proofs.Vocabulary.{End, Item, LinkEnd, opposite, opposite_end, ends_in, inward_edge, Router, Node, Found, with_router}
+use Rattle.ipcz_world.proofs.Vocabulary.{terminal_of, current_item, output_of, is_possible, RouterAct, commit, Close, is_proxy, is_sink}
+use Rattle.ipcz_world.proofs.Vocabulary.{is_on_central, decays, way_out, way_in, pop_out, send_on, drop_item, has_gone_next, rest, next_number, Gone}
+use Rattle.ipcz_world.proofs.Vocabulary.{without_router, may_take, is_rest, apply, item_output, message_output, discard_output, leaves_by, Answer}
+use Rattle.ipcz_world.proofs.Vocabulary.{on_found, is_terminal_of, send, send_item, close_at_router, commit_router, keep_or_drop, rest_of, Rates}
+use Rattle.ipcz_world.proofs.Vocabulary.{router_worth, node_worth}
 use Rattle.ipcz_base.specs.declared.message.Message.TheVariants as messages
 use Rattle.ipcz_edge.specs.Edge.{can_finish}
-use Rattle.ipcz_router.specs.Router.{is_proxy, is_terminal, is_sink, is_on_central, decays}
-use Rattle.ipcz_router.specs.Acts.{way_out, way_in, pop_out, send_on, drop_item, has_gone_next, rest}
-use Rattle.ipcz_router.specs.Calls.{next_number}
+use Rattle.ipcz_router.specs.Router.{is_terminal}
 use Rattle.ipcz_router.specs.ActEffects.{retire_output}
-use Rattle.ipcz_base.specs.declared.item.Item.TheVariants.{Gone}
-use Rattle.ipcz_node.specs.Node.{without_router}
 use Rattle.ipcz_world.proofs.lawful.Following.{IsAble, able-tells}
-use Rattle.ipcz_router.specs.ActTable.{is_ready, may_take, is_rest}
+use Rattle.ipcz_router.specs.ActTable.{is_ready}
 use Rattle.ipcz_router.specs.Closing.{close_router}
-use Rattle.ipcz_router.specs.ActEffects.{IsAnswerOf, apply, finish_out, finish_in, mark_side, wake_other, claim_word, run_dry, take_lock}
-use Rattle.ipcz_router.specs.ActEffects.{fail_lock, begin_bypass, peer_message, begin_message, flush_message, item_output, message_output}
-use Rattle.ipcz_router.specs.ActEffects.{discard_output, leaves_by}
+use Rattle.ipcz_router.specs.ActEffects.{IsAnswerOf, finish_out, finish_in, mark_side, wake_other, claim_word, run_dry, take_lock}
+use Rattle.ipcz_router.specs.ActEffects.{fail_lock, begin_bypass, peer_message, begin_message, flush_message}
 use Rattle.ipcz_router.specs.declared.act.RouterAct.TheVariants as acts
-use Rattle.ipcz_router.specs.declared.act.Answer.{Answer}
 use Rattle.ipcz_router.specs.declared.act.Answer.TheVariants as answers
-use Rattle.ipcz_node.specs.Node.{on_found, is_terminal_of}
-use Rattle.ipcz_node.specs.Sends.{send, send_item}
-use Rattle.ipcz_node.specs.Calls.{close_at_router}
-use Rattle.ipcz_node.specs.Acts.{commit_router, keep_or_drop, rest_of}
 use Rattle.ipcz_world.proofs.facts.Finding.{found_tells}
 use Rattle.ipcz_world.proofs.facts.Tests.{and_first, and_second}
-use Rattle.ipcz_world.specs.Ranks.{Rates, router_worth, message_worth, node_worth, moving_worth, is_unbegun, spends}
+use Rattle.ipcz_world.specs.Ranks.{message_worth, moving_worth, is_unbegun, spends}
 use Rattle.ipcz_world.proofs.lawful.RouterWorths as routers
 use Rattle.ipcz_world.proofs.lawful.NodeWorths.{node-with, node-without, node-push, node-pending, node-sent, closing-most}
 

@@ -5,19 +5,18 @@ use Rattle.std.proofs.Common.{arith}
 use Rattle.ipcz_base.specs.declared.side.Side.{Side}
 use Rattle.ipcz_base.specs.declared.link_id.LinkId.{LinkId}
 use Rattle.ipcz_base.specs.declared.link_id.LinkId.TheVariants.{Central}
-use Rattle.ipcz_world.proofs.Vocabulary.{Descriptor, Item, Message, LinkEnd, has_link, opposite, inward_edge, Router, Node, Found}
-use Rattle.ipcz_world.proofs.Vocabulary.{with_router}
+use Rattle.ipcz_world.proofs.Vocabulary.{Descriptor, Item, Message, LinkEnd, has_link, opposite, inward_edge, Router, Node, Found, with_router}
+use Rattle.ipcz_world.proofs.Vocabulary.{outward_has, accept, accept_message, accept_bypass, stop_message, stop_proxying, will_stop_message}
+use Rattle.ipcz_world.proofs.Vocabulary.{proxy_will_stop, link_router, is_named, on_found, fits, handle, tell, take_in, deliver, Rates, router_worth}
+use Rattle.ipcz_world.proofs.Vocabulary.{node_worth}
 use Rattle.ipcz_base.specs.declared.message.Message.TheVariants as messages
-use Rattle.ipcz_router.specs.Router.{router_has, outward_has, rouse}
-use Rattle.ipcz_router.specs.Calls.{accept}
-use Rattle.ipcz_router.specs.Bypass.{fits_bypass_peer, bypass_peer, accept_message, is_source, fits_accept_bypass, accept_bypass}
-use Rattle.ipcz_router.specs.Bypass.{stop_message}
-use Rattle.ipcz_router.specs.Bypass.{stop_proxying, will_stop_message, proxy_will_stop}
-use Rattle.ipcz_node.specs.Node.{link_router, is_named, on_found, add_stray}
-use Rattle.ipcz_node.specs.Hands.{fits, passes_at, handle, tell, take_in, deliver, free_hand}
+use Rattle.ipcz_router.specs.Router.{router_has, rouse}
+use Rattle.ipcz_router.specs.Bypass.{fits_bypass_peer, bypass_peer, is_source, fits_accept_bypass}
+use Rattle.ipcz_node.specs.Node.{add_stray}
+use Rattle.ipcz_node.specs.Hands.{passes_at, free_hand}
 use Rattle.ipcz_world.proofs.facts.Finding.{found_tells}
 use Rattle.ipcz_world.proofs.facts.Tests.{and_first}
-use Rattle.ipcz_world.specs.Ranks.{Rates, router_worth, moves_worth, message_worth, node_worth}
+use Rattle.ipcz_world.specs.Ranks.{moves_worth, message_worth}
 use Rattle.ipcz_world.proofs.lawful.RouterWorths.{more-rouse, more-accept, more-bypass_peer, more-accept_bypass, more-stop_proxying}
 use Rattle.ipcz_world.proofs.lawful.RouterWorths.{more-will_stop}
 use Rattle.ipcz_world.proofs.lawful.NodeWorths.{node-with, node-push, node-made}

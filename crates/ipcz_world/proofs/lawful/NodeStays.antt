@@ -8,33 +8,30 @@ use Rattle.std.specs.FinMap.{nat_cmp-IsAntisymmetric, get}
 use Rattle.std.proofs.lemmas.List.{length-append}
 use Rattle.ipcz_base.proofs.Totals.{total-insert, total-remove}
 use Rattle.ipcz_base.specs.declared.message.Message.TheVariants as messages
-use Rattle.ipcz_base.specs.declared.item.Item.TheVariants.{Mark, Gone}
+use Rattle.ipcz_world.proofs.Vocabulary.{End, Item, Message, LinkEnd, ends_in, Router, Node, Found, with_router, terminal_of, has_link, current_item}
+use Rattle.ipcz_world.proofs.Vocabulary.{item_at, is_terminal, inward_edge, output_of, is_possible, RouterAct, commit, Close, moves_of, Mark, Gone}
+use Rattle.ipcz_world.proofs.Vocabulary.{is_proxy, outward_has, way_out, way_in, pop_out, send_on, drop_item, has_gone_next, may_take, is_rest}
+use Rattle.ipcz_world.proofs.Vocabulary.{accept, next_number, accept_message, accept_bypass, stop_message, stop_proxying, will_stop_message}
+use Rattle.ipcz_world.proofs.Vocabulary.{proxy_will_stop, leaves_by, apply, item_output, message_output, discard_output, Answer, link_router}
+use Rattle.ipcz_world.proofs.Vocabulary.{on_found, push_out, without_router, is_terminal_of, send, send_item, close_at_router, commit_router}
+use Rattle.ipcz_world.proofs.Vocabulary.{keep_or_drop, rest_of, fits, handle, tell, take_in, deliver, Rates}
 use Rattle.ipcz_base.specs.declared.side.Side.{Side}
 use Rattle.ipcz_base.specs.declared.link_id.LinkId.{LinkId}
 use Rattle.ipcz_base.specs.declared.link_id.LinkId.TheVariants.{Central}
-use Rattle.ipcz_world.proofs.Vocabulary.{End, Item, Message, LinkEnd, ends_in, Router, Node, Found, with_router, terminal_of}
-use Rattle.ipcz_world.proofs.Vocabulary.{has_link, current_item, item_at, is_terminal, inward_edge, output_of, is_possible, RouterAct, commit, Close, moves_of}
 use Rattle.ipcz_edge.specs.Edge.{Edge}
 use Rattle.ipcz_router.specs.declared.sending.Sending.{Sending}
-use Rattle.ipcz_router.specs.Router.{is_proxy, router_has, outward_has, rouse}
-use Rattle.ipcz_router.specs.Acts.{way_out, way_in, pop_out, send_on, drop_item, has_gone_next}
-use Rattle.ipcz_router.specs.ActTable.{may_take, is_rest}
-use Rattle.ipcz_router.specs.Calls.{accept, next_number}
+use Rattle.ipcz_router.specs.Router.{router_has, rouse}
 use Rattle.ipcz_router.specs.Closing.{close_router}
-use Rattle.ipcz_router.specs.Bypass.{bypass_peer, accept_message, accept_bypass, stop_message, stop_proxying, will_stop_message, proxy_will_stop}
-use Rattle.ipcz_router.specs.ActEffects.{leaves_by, retire_output}
-use Rattle.ipcz_router.specs.ActEffects.{IsAnswerOf, apply, item_output, message_output, discard_output, flush_message, begin_message}
+use Rattle.ipcz_router.specs.Bypass.{bypass_peer}
+use Rattle.ipcz_router.specs.ActEffects.{retire_output}
+use Rattle.ipcz_router.specs.ActEffects.{IsAnswerOf, flush_message, begin_message}
 use Rattle.ipcz_router.specs.declared.act.RouterAct.TheVariants as acts
-use Rattle.ipcz_router.specs.declared.act.Answer.{Answer}
 use Rattle.ipcz_router.specs.declared.act.Answer.TheVariants as answers
-use Rattle.ipcz_node.specs.Node.{link_router, on_found, add_stray, push_out, without_router, is_terminal_of}
-use Rattle.ipcz_node.specs.Sends.{send, send_item, item_message}
-use Rattle.ipcz_node.specs.Calls.{close_at_router}
-use Rattle.ipcz_node.specs.Acts.{commit_router, keep_or_drop, rest_of}
-use Rattle.ipcz_node.specs.Hands.{fits, handle, tell, take_in, deliver, free_hand}
+use Rattle.ipcz_node.specs.Node.{add_stray}
+use Rattle.ipcz_node.specs.Sends.{item_message}
+use Rattle.ipcz_node.specs.Hands.{free_hand}
 use Rattle.ipcz_world.proofs.facts.Finding.{found_tells}
 use Rattle.ipcz_world.proofs.facts.Tests.{and_first, and_second}
-use Rattle.ipcz_world.specs.Ranks.{Rates}
 use Rattle.ipcz_world.specs.PutBounds.{router_stays, node_stays}
 use Rattle.ipcz_world.proofs.lawful.RouterStays as routers
 

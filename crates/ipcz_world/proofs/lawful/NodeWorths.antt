@@ -7,20 +7,19 @@ use Rattle.std.specs.Ordering.{nat_cmp}
 use Rattle.std.specs.Cmp.{nat_cmp_total}
 use Rattle.std.specs.FinMap.{nat_cmp-IsAntisymmetric, get}
 use Rattle.std.proofs.lemmas.List.{length-append}
-use Rattle.ipcz_world.proofs.Vocabulary.{End, Descriptor, Item, Message, LinkEnd, opposite_end, ends_in}
-use Rattle.ipcz_world.proofs.Vocabulary.{Router, Node, Found, with_router, from_descriptor, outbox, terminal_of}
+use Rattle.ipcz_world.proofs.Vocabulary.{End, Descriptor, Item, Message, LinkEnd, opposite_end, ends_in, Router, Node, Found, with_router}
+use Rattle.ipcz_world.proofs.Vocabulary.{from_descriptor, outbox, terminal_of, descriptor_of, without_router, with_outbox, push_out, add_router}
+use Rattle.ipcz_world.proofs.Vocabulary.{is_terminal_of, Transfer, move_found, move_ends, send_item, make_terminals, Rates, router_worth, node_worth}
 use Rattle.ipcz_base.proofs.Totals.{total-insert, total-insert_new, total-remove}
 use Rattle.ipcz_router.specs.Router.{proxy_link}
-use Rattle.ipcz_router.specs.Calls.{extend, descriptor_of}
-use Rattle.ipcz_node.specs.Node.{without_router, with_outbox, push_out, add_router, is_terminal_of}
-use Rattle.ipcz_node.specs.Sends.{Transfer, next_link, move_router, move_found, move_end, move_ends, send_item}
+use Rattle.ipcz_router.specs.Calls.{extend}
+use Rattle.ipcz_node.specs.Sends.{next_link, move_router, move_end}
 use Rattle.ipcz_node.specs.Sends.{item_message}
-use Rattle.ipcz_node.specs.Hands.{make_terminals}
 use Rattle.ipcz_world.proofs.frames.Totalling.{total_list-append, total_list-put_place}
 use Rattle.ipcz_world.proofs.facts.Finding.{found_tells}
 use Rattle.ipcz_world.proofs.facts.Tests.{and_second}
 use Rattle.ipcz_world.proofs.facts.LinkTests.{same_end-tells}
-use Rattle.ipcz_world.specs.Ranks.{Rates, worth_left, router_worth, moves_worth, message_worth, box_worth, node_worth, moving_worth}
+use Rattle.ipcz_world.specs.Ranks.{worth_left, moves_worth, message_worth, box_worth, moving_worth}
 use Rattle.ipcz_world.proofs.lawful.RouterWorths.{more-extend, worth-moved}
 
 -- a router is another

@@ -4,43 +4,34 @@ use Rattle.std.specs.Prelude.{List, [], ◌∷◌, ◌++◌, refl}
 use Rattle.std.proofs.Common.{arith, sym, ◌∙◌, ap, subst, inl, inr}
 use Rattle.std.proofs.lemmas.Bool.Decides.{nat_tests}
 use Rattle.std.proofs.lemmas.Option.{same_Some}
-use Rattle.ipcz_world.proofs.Vocabulary.{Side, A, B, End, LinkId, Central, Peripheral, LinkEnd, Descriptor, Item, Message, place_at}
-use Rattle.ipcz_world.proofs.Vocabulary.{ends_in, opposite, Edge, Router, is_terminal, inward_edge, from_descriptor, bypass_peer}
-use Rattle.ipcz_world.proofs.Vocabulary.{output_of, RouterAct, Close, Node, Found, router_in, with_router, bare_node, terminal_of, commit}
-use Rattle.ipcz_world.proofs.Vocabulary.{World, Key, node_at, router_at, answer_of, Books, Records, is_linked, is_recorded, bypass_of}
-use Rattle.ipcz_world.proofs.Vocabulary.{is_begun, side_end, IsRecorded, is_outward, Inv}
+use Rattle.ipcz_world.proofs.Vocabulary.{Side, A, B, End, LinkId, Central, Peripheral, LinkEnd, Descriptor, Item, Message, place_at, ends_in}
+use Rattle.ipcz_world.proofs.Vocabulary.{opposite, Edge, Router, is_terminal, inward_edge, from_descriptor, bypass_peer, output_of, RouterAct, Close}
+use Rattle.ipcz_world.proofs.Vocabulary.{Node, Found, router_in, with_router, bare_node, terminal_of, commit, World, Key, node_at, router_at}
+use Rattle.ipcz_world.proofs.Vocabulary.{answer_of, Books, Records, is_linked, is_recorded, bypass_of, is_begun, side_end, IsRecorded, is_outward}
+use Rattle.ipcz_world.proofs.Vocabulary.{Inv, same_end, same_side, has_link, Terminal, At, is_nowhere, total_list, is_retired, move_weight, Nowhere}
+use Rattle.ipcz_world.proofs.Vocabulary.{Moving, Retired, has_role, end_at, edge_decays, accept_message, accept_bypass, stop_proxying}
+use Rattle.ipcz_world.proofs.Vocabulary.{proxy_will_stop, stop_message, will_stop_message, way_out, way_in, apply, leaves_by, item_output}
+use Rattle.ipcz_world.proofs.Vocabulary.{message_output, discard_output, Answer, Applied, add_router, add_end, link_router, on_found, on_router}
+use Rattle.ipcz_world.proofs.Vocabulary.{put_node, put_at_router, get_node, get_at_router, close_end, close_at_router, move_ends, send_item, send}
+use Rattle.ipcz_world.proofs.Vocabulary.{deliver, handle, fits, tell, take_in, make_terminals, commit_router, keep_or_drop, new_world, numbers_from}
+use Rattle.ipcz_world.proofs.Vocabulary.{flushed}
 use Rattle.ipcz_world.proofs.facts.Lengths.{has_link-some, side_is}
 use Rattle.ipcz_world.proofs.facts.LinkTests.{same_end-tells}
 use Rattle.ipcz_world.proofs.facts.Tests.{not_both, and_second}
 use Rattle.ipcz_world.proofs.frames.Flowing.{found}
-use Rattle.ipcz_world.proofs.Vocabulary.{same_end, same_side, has_link, Terminal, At, is_nowhere, total_list}
-use Rattle.ipcz_world.specs.Books.{is_closed, is_retired}
-use Rattle.ipcz_world.specs.Bypasses.{move_weight}
+use Rattle.ipcz_world.specs.Books.{is_closed}
 use Rattle.ipcz_world.specs.Flows.{IsUnderWay, of_end, moves_of}
-use Rattle.ipcz_world.specs.Records.{Nowhere, Moving, Retired}
-use Rattle.ipcz_world.specs.Structure.{has_role}
 use Rattle.ipcz_base.specs.declared.parcel.Parcel as parcels
 use Rattle.ipcz_base.specs.declared.message.Message.TheVariants as messages
-use Rattle.ipcz_base.specs.Ends.{end_at}
-use Rattle.ipcz_edge.specs.Edge.{choose, is_short_of, edge_decays}
+use Rattle.ipcz_edge.specs.Edge.{choose, is_short_of}
 use Rattle.ipcz_router.specs.declared.sending.Sending.{Sending}
-use Rattle.ipcz_router.specs.Bypass.{accept_message, accept_bypass, stop_proxying, proxy_will_stop, stop_message}
-use Rattle.ipcz_router.specs.Bypass.{will_stop_message}
-use Rattle.ipcz_router.specs.Acts.{way_out, way_in}
-use Rattle.ipcz_router.specs.ActEffects.{apply, leaves_by, item_output, message_output, discard_output, retire_output}
+use Rattle.ipcz_router.specs.ActEffects.{retire_output}
 use Rattle.ipcz_router.specs.declared.act.RouterAct.TheVariants as acts
-use Rattle.ipcz_router.specs.declared.act.Answer.{Answer}
-use Rattle.ipcz_router.specs.declared.act.Applied.{Applied}
 use Rattle.ipcz_router.specs.declared.act.Applied.TheVariants as sends
 use Rattle.ipcz_node.specs.declared.act.Act.TheVariants.{Router as OfRouter}
-use Rattle.ipcz_node.specs.Node.{add_router, add_end, link_router, on_found}
-use Rattle.ipcz_node.specs.Node.{on_router}
 use Rattle.ipcz_node.specs.FirstPairs.{add_pairs, first_pairs, new_node}
-use Rattle.ipcz_node.specs.Calls.{put_node, put_at_router, get_node, get_at_router, close_end, close_at_router}
-use Rattle.ipcz_node.specs.Sends.{move_ends, post_item, send_item, send}
-use Rattle.ipcz_node.specs.Hands.{deliver, handle, fits, tell, take_in, make_terminals}
-use Rattle.ipcz_node.specs.Acts.{commit_router, keep_or_drop}
-use Rattle.ipcz_world.specs.World.{new_world, new_nodes, numbers_from}
+use Rattle.ipcz_node.specs.Sends.{post_item}
+use Rattle.ipcz_world.specs.World.{new_nodes}
 use Rattle.ipcz_world.specs.Owed.{IsTerminalOn, IsDirectPair}
 use Rattle.ipcz_world.proofs.frames.Frames.{node-set_node, node-set_word, node-set_claimed, node-set_mail, count-set_node, count-set_word}
 use Rattle.ipcz_world.proofs.frames.Frames.{count-set_claimed, count-set_mail}
@@ -48,7 +39,6 @@ use Rattle.ipcz_world.proofs.acts.Moved.{passes_tells}
 use Rattle.ipcz_world.proofs.runs.NodeSteps.{IsKept}
 use Rattle.ipcz_world.proofs.lawful.Quiet.{key_of}
 use Rattle.ipcz_world.proofs.facts.Tests.{some_is}
-use Rattle.ipcz_node.specs.Hands.{flushed}
 
 -- the world has one node, and no serial of a peripheral link was taken
 pub record IsAlone (w : World) : Type 0 where

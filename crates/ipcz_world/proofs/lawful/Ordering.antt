@@ -1,10 +1,9 @@
 -- If parcels carry ends in an order of their pairs, there are rates that fit.
 use Rattle.std.specs.Prelude.{◌≡◌, ◌≤◌, ◌<◌, ℕ, zero, suc, ◌+◌, ◌*◌, ◌-◌, not, Some, List, [], ◌∷◌, length, slice_get, refl}
 use Rattle.std.proofs.Common.{arith, subst, sym}
-use Rattle.ipcz_world.proofs.Vocabulary.{End, ends_in, is_closed}
+use Rattle.ipcz_world.proofs.Vocabulary.{End, ends_in, is_closed, is_retired}
 use Rattle.ipcz_world.specs.Ranks.{moving_worth, price_below, ordered_rates, OrderedAreRated}
 use Rattle.std.proofs.lemmas.Option.{slice_get_within}
-use Rattle.ipcz_world.specs.Books.{is_retired}
 use Rattle.ipcz_world.proofs.lawful.RouterWorths.{worth-most}
 
 times-more : (p q m : ℕ) → p ≤ q → p * m ≤ q * m

@@ -2,8 +2,8 @@
 use Rattle.std.specs.Prelude.{◌≡◌, ◌≤◌, ◌<◌, ℕ, ◌+◌, Bool, true, false, not, ◌&&◌, nat_eq, Some, drop, slice_get, refl}
 use Rattle.std.proofs.Common.{arith, ap, ◌∙◌, sym}
 use Rattle.std.proofs.lemmas.Bool.{and_from}
-use Rattle.ipcz_world.proofs.Vocabulary.{End, Item, opposite_end, ends_in, current_item, Router, World, Key, router_at}
-use Rattle.ipcz_world.proofs.Vocabulary.{Books, read, Records, Weight, in_router, at_end, Conserved}
+use Rattle.ipcz_world.proofs.Vocabulary.{End, Item, opposite_end, ends_in, current_item, Router, World, Key, router_at, Books, read, Records, Weight}
+use Rattle.ipcz_world.proofs.Vocabulary.{in_router, at_end, Conserved, Inv, At, is_possible, Rates, worth, is_done, is_sink, is_retired, Retired}
 use Rattle.ipcz_base.specs.Items.{same_item}
 use Rattle.ipcz_world.proofs.frames.OfRecords.{in_places}
 use Rattle.ipcz_world.proofs.frames.Weights.{in_out_queue, in_in_queue}
@@ -11,15 +11,11 @@ use Rattle.ipcz_world.proofs.frames.Booking.{flag, more_here, in_router-within}
 use Rattle.ipcz_world.proofs.acts.Reading.{from_number-found, slice_get-drop}
 use Rattle.ipcz_world.proofs.facts.Tests.{nat_eq-itself, and_first, and_second, nat_eq-is}
 use Rattle.ipcz_world.proofs.facts.SameItems.{same_item-itself, same_item-tells}
-use Rattle.ipcz_world.specs.Ranks.{Rates, worth, moving_worth, IsRated, ActsLowerTheRank}
-use Rattle.ipcz_router.specs.ActTable.{is_done}
-use Rattle.ipcz_router.specs.Router.{is_terminal, is_sink}
-use Rattle.ipcz_world.proofs.Vocabulary.{Inv, At, is_possible}
+use Rattle.ipcz_world.specs.Ranks.{moving_worth, IsRated, ActsLowerTheRank}
+use Rattle.ipcz_router.specs.Router.{is_terminal}
 use Rattle.ipcz_world.proofs.lawful.Departures.{peer_unretired}
 use Rattle.ipcz_router.specs.declared.act.RouterAct.TheVariants as acts
 use Rattle.ipcz_world.proofs.facts.Reaching.{is_reach}
-use Rattle.ipcz_world.specs.Books.{is_retired}
-use Rattle.ipcz_world.specs.Records.{Retired}
 use Rattle.ipcz_world.proofs.lawful.NodeActs.{CanPay}
 use Rattle.ipcz_world.proofs.lawful.WorldRanks.{rank-acted}
 

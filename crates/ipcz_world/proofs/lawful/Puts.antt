@@ -6,23 +6,17 @@ use Rattle.std.proofs.lemmas.Bool.Decides.{nat_tests}
 use Rattle.std.proofs.lemmas.Option.{same_Some, slice_get_within}
 use Rattle.std.specs.FinMap.{get}
 use Rattle.ipcz_world.proofs.Vocabulary.{End, Item, Refusal, has_end, ends_in, same_end, Router, Node, Found, Edge, terminal_of, with_router}
-use Rattle.ipcz_world.proofs.Vocabulary.{is_terminal, World, Key, node_at, router_at, set_node, set_router, same_key, Books, read, opposite_end, At, unless, total, bare_node, router_in}
-use Rattle.ipcz_base.specs.declared.profile.Profile.{Profile}
-use Rattle.ipcz_base.specs.declared.profile.Profile.TheVariants.{Printed, Wide}
-use Rattle.ipcz_base.specs.declared.item.Item.TheVariants.{Parcel}
+use Rattle.ipcz_world.proofs.Vocabulary.{is_terminal, World, Key, node_at, router_at, set_node, set_router, same_key, Books, read, opposite_end, At}
+use Rattle.ipcz_world.proofs.Vocabulary.{unless, total, bare_node, router_in, Profile, Printed, Wide, Parcel, on_found, is_terminal_of, put_refusal}
+use Rattle.ipcz_world.proofs.Vocabulary.{put_at_router, add_put, advance, Routes, routes_after, Step, Effect, Lawful, StepKeepsLawful, is_retired}
+use Rattle.ipcz_world.proofs.Vocabulary.{Rates, worth, router_worth, rank}
 use Rattle.ipcz_router.specs.Calls.{put_item}
-use Rattle.ipcz_node.specs.Node.{on_found, is_terminal_of}
-use Rattle.ipcz_node.specs.Calls.{put_refusal, refusal_at, put_number, put_at_router}
+use Rattle.ipcz_node.specs.Calls.{refusal_at, put_number}
 use Rattle.ipcz_world.specs.declared.step.Step.TheVariants as steps
 use Rattle.ipcz_world.specs.declared.step.Reply.TheVariants as replies
-use Rattle.ipcz_world.specs.Books.{add_put, advance}
-use Rattle.ipcz_world.specs.Routes.{Routes, routes_after}
-use Rattle.ipcz_world.specs.declared.step.Step.{Step}
-use Rattle.ipcz_world.specs.Steps.{Effect, put_step}
-use Rattle.ipcz_world.specs.Lawful.{Lawful}
-use Rattle.ipcz_world.specs.WorldLaws.{StepKeepsLawful, QuietHasNoProxy}
-use Rattle.ipcz_world.specs.Books.{is_retired}
-use Rattle.ipcz_world.specs.Ranks.{Rates, worth, may_put, router_worth, rank, TurnsKeepRates}
+use Rattle.ipcz_world.specs.Steps.{put_step}
+use Rattle.ipcz_world.specs.WorldLaws.{QuietHasNoProxy}
+use Rattle.ipcz_world.specs.Ranks.{may_put, TurnsKeepRates}
 use Rattle.ipcz_world.specs.SettleBounds.{CarryNone, is_over, plain_rates}
 use Rattle.ipcz_world.specs.PutBounds.{stays, pending_closes, PlainPut, plain_parcel, after_put, IsTakenPut, ArePuts, ends_beside}
 use Rattle.ipcz_world.specs.PutBounds.{proxy_share, proxy_shares, PutsAreBounded, DirectPutsAreBounded}

@@ -1,11 +1,10 @@
 -- In a quiet world each item that a pair without proxies has put and not read stands in the in queue of its receiving terminal.
-use Rattle.ipcz_world.specs.Records.{Retired}
-use Rattle.ipcz_base.specs.declared.item.Item.TheVariants.{Gone}
-use Rattle.ipcz_world.proofs.Vocabulary.{Weight, in_router, at_end, End, Item, Message, Refusal, opposite_end, same_end, place_at, total}
-use Rattle.ipcz_world.proofs.Vocabulary.{total_below, total_list, Edge, item_at, current_item, Router, is_terminal, is_possible}
-use Rattle.ipcz_world.proofs.Vocabulary.{RouterAct, Node, Found, terminal_of, Reply, World, Key, node_at, mail_at, way, router_at}
-use Rattle.ipcz_world.proofs.Vocabulary.{messages_in, flow, set_node, unless, Books, read, is_closed, Records, Terminal, At, IsUnderWay}
-use Rattle.ipcz_world.proofs.Vocabulary.{under_way, Inv}
+use Rattle.ipcz_world.proofs.Vocabulary.{Weight, in_router, at_end, End, Item, Message, Refusal, opposite_end, same_end, place_at, total, total_below}
+use Rattle.ipcz_world.proofs.Vocabulary.{total_list, Edge, item_at, current_item, Router, is_terminal, is_possible, RouterAct, Node, Found}
+use Rattle.ipcz_world.proofs.Vocabulary.{terminal_of, Reply, World, Key, node_at, mail_at, way, router_at, messages_in, flow, set_node, unless, Books}
+use Rattle.ipcz_world.proofs.Vocabulary.{read, is_closed, Records, Terminal, At, IsUnderWay, under_way, Inv, Retired, Gone, Parcel, Mark, edge_decays}
+use Rattle.ipcz_world.proofs.Vocabulary.{reach, holds_end, get_node, get_refusal, is_quiet, are_empty, Mail, is_clear, Nowhere, Moving, routes_of}
+use Rattle.ipcz_world.proofs.Vocabulary.{IsQuiet, AreFlagged}
 use Rattle.ipcz_world.specs.Places.{in_node as in_node', just}
 use Rattle.std.specs.Prelude.{◌≡◌, ◌≤◌, ◌<◌, ℕ, zero, suc, ◌+◌, Bool, true, false, cond, ◌&&◌, nat_eq, nat_lt, T, if◌then◌else◌, Option}
 use Rattle.std.specs.Prelude.{Some, None, is_some, List, [], ◌∷◌, ◌++◌, length, take, map, slice_get, refl}
@@ -16,28 +15,22 @@ use Rattle.std.specs.Ordering.{nat_cmp, eq_by_cmp, is_eq}
 use Rattle.std.specs.Cmp.{nat_cmp_total, tied_itself}
 use Rattle.std.specs.FinMap.{FinMap, get, entries, entries_sorted, find, get-entries, is_sorted}
 use Rattle.std.specs.FinMap.Entries.{below_all}
-use Rattle.ipcz_base.specs.declared.item.Item.TheVariants.{Parcel, Mark}
 use Rattle.ipcz_base.specs.declared.refusal.Refusal.TheVariants as refusals
 use Rattle.ipcz_base.specs.Totals.{total_of}
-use Rattle.ipcz_edge.specs.Edge.{edge_decays, is_short_of, choose}
-use Rattle.ipcz_seq.specs.Queue.{IsReach, reach}
+use Rattle.ipcz_edge.specs.Edge.{is_short_of, choose}
+use Rattle.ipcz_seq.specs.Queue.{IsReach}
 use Rattle.ipcz_router.specs.Calls.{item_refusal}
 use Rattle.ipcz_router.specs.declared.act.RouterAct.TheVariants as acts
-use Rattle.ipcz_node.specs.Node.{find_router, holds_end}
-use Rattle.ipcz_node.specs.Calls.{get_node, get_refusal, refusal_at}
-use Rattle.ipcz_node.specs.Acts.{is_quiet, are_empty}
+use Rattle.ipcz_node.specs.Node.{find_router}
+use Rattle.ipcz_node.specs.Calls.{refusal_at}
 use Rattle.ipcz_node.proofs.Mailing.{empty_box}
-use Rattle.ipcz_world.specs.declared.mail.Mail.{Mail}
 use Rattle.ipcz_world.specs.declared.mail.Mail.TheVariants as mails
 use Rattle.ipcz_world.specs.declared.step.Reply.TheVariants as replies
-use Rattle.ipcz_world.specs.Turns.{is_clear}
 use Rattle.ipcz_world.specs.Steps.{get_reply, got_reply}
-use Rattle.ipcz_world.specs.Records.{Nowhere, Moving, routes_of}
 use Rattle.ipcz_world.proofs.frames.OfRecords.{in_node, in_message, holds_times}
 use Rattle.ipcz_base.specs.Items.{same_item}
 use Rattle.ipcz_world.specs.WorldLaws.{QuietDelivers}
-use Rattle.ipcz_world.specs.Settling.{IsQuiet}
-use Rattle.ipcz_world.specs.Owed.{AreFlagged, IsDirectPair}
+use Rattle.ipcz_world.specs.Owed.{IsDirectPair}
 use Rattle.ipcz_world.proofs.frames.Flowing.{found}
 use Rattle.ipcz_world.proofs.frames.Changing.{flow_is}
 use Rattle.ipcz_world.proofs.frames.Weighing.{in_places-is, in_router-is}

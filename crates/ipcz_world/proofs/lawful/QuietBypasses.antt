@@ -3,13 +3,9 @@ use Rattle.std.specs.Prelude.{◌≡◌, ◌≤◌, ℕ, Bool, true, false, nat_
 use Rattle.std.specs.Prelude.{[], refl}
 use Rattle.std.proofs.Common.{arith, ap, subst, ◌∙◌}
 use Rattle.std.proofs.lemmas.Bool.Decides.{nat_tests}
-use Rattle.ipcz_world.proofs.Vocabulary.{Side, LinkId, Central, Peripheral, LinkEnd, opposite}
-use Rattle.ipcz_world.proofs.Vocabulary.{Router, World, Key, router_at, Books, Records, is_begun, is_recorded, flow}
-use Rattle.ipcz_world.proofs.Vocabulary.{side_router, side_node, bypass_of}
-use Rattle.ipcz_world.proofs.Vocabulary.{control_weight, of_bypass}
-use Rattle.ipcz_world.proofs.Vocabulary.{Inv}
-use Rattle.ipcz_world.specs.Flows.{is_made_by}
-use Rattle.ipcz_world.specs.Settling.{IsQuiet}
+use Rattle.ipcz_world.proofs.Vocabulary.{Side, LinkId, Central, Peripheral, LinkEnd, opposite, Router, World, Key, router_at, Books, Records}
+use Rattle.ipcz_world.proofs.Vocabulary.{is_begun, is_recorded, flow, side_router, side_node, bypass_of, control_weight, of_bypass, Inv, is_made_by}
+use Rattle.ipcz_world.proofs.Vocabulary.{IsQuiet}
 use Rattle.ipcz_world.proofs.frames.Awaited.{awaited_made}
 use Rattle.ipcz_world.proofs.frames.Flowing.{found}
 use Rattle.ipcz_world.proofs.frames.Opened.{opened}

@@ -7,27 +7,20 @@ use Rattle.std.proofs.lemmas.Bool.Decides.{nat_tests}
 use Rattle.std.proofs.lemmas.Bool.{or_left}
 use Rattle.std.proofs.lemmas.Option.{none-some, same_Some}
 use Rattle.ipcz_world.proofs.facts.Tests.{not_both}
-use Rattle.ipcz_world.proofs.Vocabulary.{Side, A, B, End, LinkId, Central, Peripheral, LinkEnd, Item, opposite, opposite_end, same_end}
-use Rattle.ipcz_world.proofs.Vocabulary.{Edge, Queue, item_at, current_item, Router, is_terminal, is_possible, inward_edge, World, Key}
-use Rattle.ipcz_world.proofs.Vocabulary.{node_at, router_at}
-use Rattle.ipcz_world.proofs.Vocabulary.{Books, read, Records, side_length, proxy_side, across_side, inner_link, inner_of, under_way}
-use Rattle.ipcz_world.proofs.Vocabulary.{total, total_list}
-use Rattle.ipcz_world.proofs.Vocabulary.{Standing, view, is_attached, has_primary, Inv, Weight, in_router, at_end, has_link}
-use Rattle.ipcz_world.proofs.Vocabulary.{standing_router}
+use Rattle.ipcz_world.proofs.Vocabulary.{Side, A, B, End, LinkId, Central, Peripheral, LinkEnd, Item, opposite, opposite_end, same_end, Edge, Queue}
+use Rattle.ipcz_world.proofs.Vocabulary.{item_at, current_item, Router, is_terminal, is_possible, inward_edge, World, Key, node_at, router_at, Books}
+use Rattle.ipcz_world.proofs.Vocabulary.{read, Records, side_length, proxy_side, across_side, inner_link, inner_of, under_way, total, total_list}
+use Rattle.ipcz_world.proofs.Vocabulary.{Standing, view, is_attached, has_primary, Inv, Weight, in_router, at_end, has_link, standing_router}
+use Rattle.ipcz_world.proofs.Vocabulary.{is_nowhere, reach, is_proxy, decays, is_on_central, way_out, way_in, AreFlagged, IsRanked, routes_of}
+use Rattle.ipcz_world.proofs.Vocabulary.{IsQuiet, has_inward_primary, is_begun_router, has_role, link_in, is_done, is_retired, Nowhere, Moving}
+use Rattle.ipcz_world.proofs.Vocabulary.{Retired, move_weight}
 use Rattle.ipcz_world.proofs.lawful.Following.{on-central}
 use Rattle.ipcz_base.specs.Items.{same_item}
 use Rattle.ipcz_edge.specs.Edge.{is_short_of, choose, can_finish, has_come_to}
-use Rattle.ipcz_seq.specs.Queue.{reach}
-use Rattle.ipcz_router.specs.Router.{is_proxy, decays, is_on_central}
-use Rattle.ipcz_router.specs.Acts.{way_out, way_in}
 use Rattle.ipcz_router.specs.declared.act.RouterAct.{RouterAct}
 use Rattle.ipcz_router.specs.declared.act.RouterAct.TheVariants as acts
-use Rattle.ipcz_world.specs.Owed.{AreFlagged, IsRanked, GoneUnread}
+use Rattle.ipcz_world.specs.Owed.{GoneUnread}
 use Rattle.ipcz_world.specs.Places.{just}
-use Rattle.ipcz_world.specs.Records.{routes_of}
-use Rattle.ipcz_world.specs.Settling.{IsQuiet}
-use Rattle.ipcz_world.specs.Standing.{has_inward_primary}
-use Rattle.ipcz_world.specs.Structure.{is_begun_router, has_role, link_in}
 use Rattle.ipcz_world.proofs.frames.BegunLengths.{length-proxy, length-inward}
 use Rattle.ipcz_world.proofs.facts.Lengths.{HasEnd, has_link-tells, opposite-twice, known_from-yes}
 use Rattle.ipcz_world.proofs.facts.LinkTests.{opposite_end-twice, same_end-tells}
@@ -43,12 +36,9 @@ use Rattle.ipcz_world.proofs.lawful.QuietBypasses.{settled}
 use Rattle.ipcz_world.proofs.lawful.QuietRoutes.{IsLacked, inward_lacks, outward_lacks, outward_given, HasOuter, HasAcross, outer_router}
 use Rattle.ipcz_world.proofs.lawful.QuietRoutes.{HasBegun, begun_tells, StandsOver, across_stands, inner_stands, begun_out_lacks}
 use Rattle.ipcz_world.proofs.lawful.QuietRoutes.{begun_in_lacks, not_begun, standing_end, HasTerminal, inward_terminal}
-use Rattle.ipcz_router.specs.ActTable.{is_done}
-use Rattle.ipcz_world.specs.Books.{is_closed, is_retired}
-use Rattle.ipcz_world.specs.Records.{Terminal, Nowhere, At, Moving, Retired}
-use Rattle.ipcz_world.specs.Bypasses.{move_weight}
+use Rattle.ipcz_world.specs.Books.{is_closed}
+use Rattle.ipcz_world.specs.Records.{Terminal, At}
 use Rattle.ipcz_world.specs.Flows.{of_end, moves_of}
-use Rattle.ipcz_world.proofs.Vocabulary.{is_nowhere}
 use Rattle.ipcz_world.proofs.acts.Moved.{passes_tells}
 use Rattle.std.proofs.lemmas.Bool.{and_parts}
 use Rattle.ipcz_world.proofs.frames.Bypassed as bypassed

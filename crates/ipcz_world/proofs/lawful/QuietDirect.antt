@@ -7,30 +7,23 @@ use Rattle.std.specs.FinMap.{entries, find, get-entries, len-entries}
 use Rattle.std.proofs.Common.{arith, ap, subst, ◌∙◌, sym, inl, inr}
 use Rattle.std.proofs.lemmas.Option.{none-some, same_Some}
 use Rattle.ipcz_world.proofs.facts.Tests.{not_both}
-use Rattle.ipcz_world.proofs.Vocabulary.{Side, A, B, End, Central, Peripheral, LinkEnd, Item, opposite, opposite_end, same_end}
-use Rattle.ipcz_world.proofs.Vocabulary.{Router, is_terminal, is_possible, World, Key, node_at, router_at, word_at, has}
-use Rattle.ipcz_world.proofs.Vocabulary.{Books, Records, is_linked, under_way, total, total_list}
-use Rattle.ipcz_world.proofs.Vocabulary.{has_primary, word_of, Inv, Weight, is_recorded, in_router, at_end}
-use Rattle.ipcz_world.proofs.Vocabulary.{Terminal, At, side_end, is_nowhere}
-use Rattle.ipcz_base.specs.Ends.{end_at}
+use Rattle.ipcz_world.proofs.Vocabulary.{Side, A, B, End, Central, Peripheral, LinkEnd, Item, opposite, opposite_end, same_end, Router, is_terminal}
+use Rattle.ipcz_world.proofs.Vocabulary.{is_possible, World, Key, node_at, router_at, word_at, has, Books, Records, is_linked, under_way, total}
+use Rattle.ipcz_world.proofs.Vocabulary.{total_list, has_primary, word_of, Inv, Weight, is_recorded, in_router, at_end, Terminal, At, side_end}
+use Rattle.ipcz_world.proofs.Vocabulary.{is_nowhere, end_at, is_proxy, decays, is_on_central, move_weight, AreFlagged, IsRanked, Parcel, Mark, Gone}
+use Rattle.ipcz_world.proofs.Vocabulary.{is_mark, is_done, has_mark, is_retired, Nowhere, Moving, Retired, IsQuiet}
 use Rattle.ipcz_base.specs.declared.message.Message.TheVariants as messages
 use Rattle.ipcz_world.proofs.lawful.Following.{on-central}
 use Rattle.ipcz_word.specs.Word.{is_free}
-use Rattle.ipcz_router.specs.Router.{is_proxy, decays, is_on_central}
 use Rattle.ipcz_router.specs.declared.act.RouterAct.TheVariants as acts
-use Rattle.ipcz_world.specs.Bypasses.{move_weight}
 use Rattle.ipcz_world.specs.Flows.{of_end, moves_of}
-use Rattle.ipcz_world.specs.Owed.{GoneUnread, AreFlagged, HaveWakers, HasWaker, IsRanked, IsWet, IsTerminalOn, IsDirectPair, IsDirect}
+use Rattle.ipcz_world.specs.Owed.{GoneUnread, HaveWakers, HasWaker, IsWet, IsTerminalOn, IsDirectPair, IsDirect}
 use Rattle.ipcz_world.specs.Laws.{LinkLaw}
 use Rattle.ipcz_world.specs.Places.{unread_weight}
-use Rattle.ipcz_base.specs.declared.item.Item.TheVariants.{Parcel, Mark, Gone}
-use Rattle.ipcz_base.specs.Items.{is_mark}
 use Rattle.ipcz_seq.specs.Queue.{Queue, item_at, is_drained}
-use Rattle.ipcz_router.specs.ActTable.{is_ready, is_leaving, is_done}
-use Rattle.ipcz_world.specs.Books.{has_mark, is_closed, is_retired}
-use Rattle.ipcz_world.specs.Records.{Nowhere, Moving, Retired}
-use Rattle.ipcz_world.specs.Settling.{IsQuiet}
-use Rattle.ipcz_world.specs.World.{remove_router}
+use Rattle.ipcz_router.specs.ActTable.{is_ready, is_leaving}
+use Rattle.ipcz_world.specs.Books.{is_closed}
+use Rattle.ipcz_world.proofs.facts.Updates.{remove_router}
 use Rattle.ipcz_world.proofs.facts.Lengths.{side_is, has_link-tells}
 use Rattle.ipcz_world.proofs.facts.LinkTests.{opposite_end-twice, same_end-tells, same_end-itself}
 use Rattle.ipcz_world.proofs.facts.Tests.{some_is, and_second}

@@ -5,15 +5,11 @@ use Rattle.std.specs.FinMap.{get, insert, get-insert}
 use Rattle.std.proofs.Common.{arith, ap, subst, ◌∙◌, sym}
 use Rattle.std.proofs.lemmas.Bool.Decides.{nat_tests}
 use Rattle.std.proofs.lemmas.Option.{none-some, same_Some}
-use Rattle.ipcz_world.proofs.Vocabulary.{End, Refusal, Router, Node, Found, terminal_of, with_router, World, node_at, mail_at, set_node}
-use Rattle.ipcz_world.proofs.Vocabulary.{unless}
+use Rattle.ipcz_world.proofs.Vocabulary.{End, Refusal, Router, Node, Found, terminal_of, with_router, World, node_at, mail_at, set_node, unless}
+use Rattle.ipcz_world.proofs.Vocabulary.{on_found, flagged_router, get_at_router, get_node, get_refusal, is_quiet, Effect, refuse, IsQuiet}
 use Rattle.ipcz_base.specs.declared.refusal.Refusal.TheVariants.{Stranger}
 use Rattle.ipcz_router.specs.Calls.{take_item}
-use Rattle.ipcz_node.specs.Node.{on_found, flagged_router}
-use Rattle.ipcz_node.specs.Calls.{get_at_router, get_node, get_refusal}
-use Rattle.ipcz_node.specs.Acts.{is_quiet}
-use Rattle.ipcz_world.specs.Steps.{Effect, get_reply, refuse}
-use Rattle.ipcz_world.specs.Settling.{IsQuiet}
+use Rattle.ipcz_world.specs.Steps.{get_reply}
 use Rattle.ipcz_world.specs.WorldLaws.{GetsStayQuiet}
 use Rattle.ipcz_world.proofs.facts.Finding.{IsTerminalOf, found_tells, found_there, terminal_tells}
 use Rattle.ipcz_world.proofs.frames.Frames.{node-set_node}

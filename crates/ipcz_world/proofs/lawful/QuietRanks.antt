@@ -10,27 +10,14 @@ use Rattle.std.specs.Cmp.{nat_cmp_total, tied_itself}
 use Rattle.std.specs.FinMap.{FinMap, get, find, entries, entries_sorted, get-entries, is_sorted}
 use Rattle.std.specs.FinMap.Entries.{below_all}
 use Rattle.ipcz_base.specs.Totals.{total_of}
-use Rattle.ipcz_world.proofs.Vocabulary.{A, B, End, Side, Message, opposite, opposite_end, same_end, same_side, total, total_list, place_at, Router, Node, Edge}
-use Rattle.ipcz_world.proofs.Vocabulary.{is_terminal, is_possible, inward_edge, bare_node, World, Key, node_at, mail_at, router_at}
-use Rattle.ipcz_world.proofs.Vocabulary.{Books, Item, is_closed}
-use Rattle.ipcz_base.specs.Items.{is_mark, is_gone_item}
-use Rattle.ipcz_base.specs.declared.item.Item.TheVariants.{Parcel, Mark, Gone}
-use Rattle.ipcz_edge.specs.Edge.{edge_decays}
-use Rattle.ipcz_seq.specs.Queue.{reach}
-use Rattle.ipcz_router.specs.Router.{is_proxy, is_on_central, decays}
-use Rattle.ipcz_router.specs.Calls.{next_number}
+use Rattle.ipcz_world.proofs.Vocabulary.{A, B, End, Side, Message, opposite, opposite_end, same_end, same_side, total, total_list, place_at, Router}
+use Rattle.ipcz_world.proofs.Vocabulary.{Node, Edge, is_terminal, is_possible, inward_edge, bare_node, World, Key, node_at, mail_at, router_at, Books}
+use Rattle.ipcz_world.proofs.Vocabulary.{Item, is_closed, is_mark, is_gone_item, Parcel, Mark, Gone, edge_decays, reach, is_proxy, is_on_central}
+use Rattle.ipcz_world.proofs.Vocabulary.{decays, next_number, flagged_router, is_quiet, are_empty, Mail, add_put, has_mark, Routes, is_clear, IsQuiet}
+use Rattle.ipcz_world.proofs.Vocabulary.{Lawful, is_begun_router, Rates, worth, router_worth, node_worth, rank}
 use Rattle.ipcz_router.specs.declared.act.RouterAct.TheVariants as acts
-use Rattle.ipcz_node.specs.Node.{flagged_router}
-use Rattle.ipcz_node.specs.Acts.{is_quiet, are_empty}
-use Rattle.ipcz_world.specs.declared.mail.Mail.{Mail}
 use Rattle.ipcz_world.specs.declared.mail.Mail.TheVariants as mails
-use Rattle.ipcz_world.specs.Books.{add_put, has_mark}
-use Rattle.ipcz_world.specs.Routes.{Routes}
-use Rattle.ipcz_world.specs.Turns.{is_clear}
-use Rattle.ipcz_world.specs.Settling.{IsQuiet}
-use Rattle.ipcz_world.specs.Lawful.{Lawful}
-use Rattle.ipcz_world.specs.Structure.{is_begun_router}
-use Rattle.ipcz_world.specs.Ranks.{Rates, worth, worth_left, is_unbegun, bypass_worth, sink_worth, router_worth, box_worth, node_worth, mail_worth, rank}
+use Rattle.ipcz_world.specs.Ranks.{worth_left, is_unbegun, bypass_worth, sink_worth, box_worth, mail_worth}
 use Rattle.ipcz_world.specs.PutBounds.{router_stays, node_stays, stays, pending_closes, PlainPut, plain_parcel, after_put, ArePuts, puts_into, proxy_share}
 use Rattle.ipcz_world.specs.PutBounds.{proxy_shares}
 use Rattle.ipcz_world.proofs.facts.Finding.{find_above, found_there}

@@ -6,22 +6,15 @@ use Rattle.std.proofs.lemmas.Bool.Decides.{nat_tests}
 use Rattle.std.proofs.lemmas.Bool.{or_left, or_right}
 use Rattle.std.proofs.lemmas.Option.{none-some}
 use Rattle.ipcz_world.proofs.facts.Tests.{or_second}
-use Rattle.ipcz_world.proofs.Vocabulary.{Side, A, B, End, LinkId, Central, Peripheral, LinkEnd, Item, opposite, opposite_end, has_link}
-use Rattle.ipcz_world.proofs.Vocabulary.{Queue, item_at, Router, is_terminal, inward_edge, World, Key, router_at, Books, Records}
-use Rattle.ipcz_world.proofs.Vocabulary.{is_begun, is_recorded, is_possible}
-use Rattle.ipcz_world.proofs.Vocabulary.{side_router, side_end, side_length, bypass_of, proxy_side, across_side, is_linked, inner_of}
-use Rattle.ipcz_world.proofs.Vocabulary.{Standing, view, view_by, router_view, is_attached, sending_queue, fed_queue}
-use Rattle.ipcz_world.proofs.Vocabulary.{next_sent, taking_queue, has_passed, has_primary, has_decaying, is_outward, is_gone, Inv}
-use Rattle.ipcz_world.proofs.Vocabulary.{IsRecorded}
-use Rattle.ipcz_base.specs.Ends.{end_at}
-use Rattle.ipcz_router.specs.Router.{outward_has, is_proxy}
+use Rattle.ipcz_world.proofs.Vocabulary.{Side, A, B, End, LinkId, Central, Peripheral, LinkEnd, Item, opposite, opposite_end, has_link, Queue}
+use Rattle.ipcz_world.proofs.Vocabulary.{item_at, Router, is_terminal, inward_edge, World, Key, router_at, Books, Records, is_begun, is_recorded}
+use Rattle.ipcz_world.proofs.Vocabulary.{is_possible, side_router, side_end, side_length, bypass_of, proxy_side, across_side, is_linked, inner_of}
+use Rattle.ipcz_world.proofs.Vocabulary.{Standing, view, view_by, router_view, is_attached, sending_queue, fed_queue, next_sent, taking_queue}
+use Rattle.ipcz_world.proofs.Vocabulary.{has_passed, has_primary, has_decaying, is_outward, is_gone, Inv, IsRecorded, end_at, outward_has, is_proxy}
+use Rattle.ipcz_world.proofs.Vocabulary.{is_retired, AreFlagged, IsRanked, Retired, is_left, IsQuiet, has_inward_primary, is_begun_router, has_role}
+use Rattle.ipcz_world.proofs.Vocabulary.{link_in}
 use Rattle.ipcz_router.specs.declared.act.RouterAct.TheVariants as acts
-use Rattle.ipcz_world.specs.Books.{is_retired}
-use Rattle.ipcz_world.specs.Owed.{AreFlagged, IsRanked}
-use Rattle.ipcz_world.specs.Records.{At, Retired, is_left}
-use Rattle.ipcz_world.specs.Settling.{IsQuiet}
-use Rattle.ipcz_world.specs.Standing.{has_inward_primary}
-use Rattle.ipcz_world.specs.Structure.{is_begun_router, has_role, link_in}
+use Rattle.ipcz_world.specs.Records.{At}
 use Rattle.ipcz_world.proofs.frames.BegunLengths.{length-proxy, length-inward}
 use Rattle.ipcz_world.proofs.facts.Lengths.{HasEnd, has_link-tells, has_link-some, opposite-twice, length-live, length-none}
 use Rattle.ipcz_world.proofs.facts.Lengths.{has_passed-none, has_passed-some}

@@ -3,23 +3,19 @@ use Rattle.std.specs.Prelude.{◌≡◌, ◌≤◌, ◌<◌, ℕ, zero, suc, ◌
 use Rattle.std.specs.Prelude.{◌∷◌, ◌++◌, length, slice_get, refl}
 use Rattle.std.proofs.Common.{arith, ap, subst, ◌∙◌, sym, inl, inr}
 use Rattle.std.proofs.lemmas.Option.{slice_get_within}
-use Rattle.ipcz_world.proofs.Vocabulary.{Side, A, B, opposite, End, Item, opposite_end, same_end, ends_in, World, Books, read, is_closed}
-use Rattle.ipcz_base.specs.declared.item.Item.TheVariants.{Mark, Gone}
-use Rattle.ipcz_node.specs.declared.happened.Happened.{Happened}
+use Rattle.ipcz_world.proofs.Vocabulary.{Side, A, B, opposite, End, Item, opposite_end, same_end, ends_in, World, Books, read, is_closed, Mark, Gone}
+use Rattle.ipcz_world.proofs.Vocabulary.{Happened, Turn, has_mark, is_retired, add_put, after_turn, advance, Routes, routes_after, Lawful}
+use Rattle.ipcz_world.proofs.Vocabulary.{StepKeepsLawful, is_gone_item, Rates, worth}
 use Rattle.ipcz_node.specs.declared.happened.Happened.TheVariants as events
-use Rattle.ipcz_world.specs.declared.step.Step.TheVariants.{Turn}
 use Rattle.ipcz_world.specs.declared.step.Reply.{Reply}
 use Rattle.ipcz_world.specs.declared.step.Reply.TheVariants as replies
-use Rattle.ipcz_world.specs.Books.{has_mark, has_gone, is_retired, add_put, add_gone, after_turn, advance}
+use Rattle.ipcz_world.specs.Books.{has_gone, add_gone}
 use Rattle.ipcz_world.specs.Plain.{Plain, PlainTurn}
-use Rattle.ipcz_world.specs.Routes.{Routes, routes_after}
-use Rattle.ipcz_world.specs.Lawful.{Lawful}
-use Rattle.ipcz_world.specs.WorldLaws.{StepKeepsLawful, RepliesPlainly}
+use Rattle.ipcz_world.specs.WorldLaws.{RepliesPlainly}
 use Rattle.ipcz_world.proofs.frames.Flowing.{slice_get-last}
 use Rattle.ipcz_world.proofs.frames.Booking.{length-more, has_mark-more}
-use Rattle.ipcz_base.specs.Items.{is_gone_item}
 use Rattle.ipcz_world.proofs.facts.LinkTests.{same_end-itself, same_end-tells, opposite_end-twice}
-use Rattle.ipcz_world.specs.Ranks.{Rates, worth, may_put, moving_worth, IsRated, TurnsKeepRates}
+use Rattle.ipcz_world.specs.Ranks.{may_put, moving_worth, IsRated, TurnsKeepRates}
 use Rattle.ipcz_world.proofs.facts.Tests.{not_both}
 use Rattle.ipcz_world.proofs.lawful.QuietDirect.{mark_at}
 use Rattle.ipcz_world.proofs.facts.Drained.{gone_found, gone_stands}

@@ -1,11 +1,10 @@
 -- A router that has tried is remembered: if the other router could try for the lock, it is flagged.
 use Rattle.std.specs.Prelude.{◌≡◌, ℕ, true, Option, Some, None, is_some, refl}
 use Rattle.std.proofs.Common.{arith, ap, ◌∙◌, inl, inr}
-use Rattle.ipcz_world.proofs.Vocabulary.{Side, LinkId, Central, Peripheral, LinkEnd, Router, World, Key, router_at, Books, Records}
-use Rattle.ipcz_world.proofs.Vocabulary.{Inv, has_primary, has_link, word_of}
-use Rattle.ipcz_router.specs.Router.{is_on_central}
+use Rattle.ipcz_world.proofs.Vocabulary.{Side, LinkId, Central, Peripheral, LinkEnd, Router, World, Key, router_at, Books, Records, Inv, has_primary}
+use Rattle.ipcz_world.proofs.Vocabulary.{has_link, word_of, is_on_central, AreFlagged, FlagsAgree}
 use Rattle.ipcz_router.specs.declared.act.RouterAct.TheVariants.{Lock}
-use Rattle.ipcz_world.specs.Owed.{AreFlagged, FlagsAgree, HaveWakers, HasWaker, HasWakerBy}
+use Rattle.ipcz_world.specs.Owed.{HaveWakers, HasWaker, HasWakerBy}
 use Rattle.ipcz_world.proofs.facts.Lengths.{has_link-some}
 
 -- a router on a central link has a word and a side

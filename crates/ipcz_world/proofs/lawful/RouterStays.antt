@@ -5,14 +5,13 @@ use Rattle.ipcz_base.specs.declared.item.Item.{Item}
 use Rattle.ipcz_base.specs.Ends.{opposite_end}
 use Rattle.ipcz_edge.specs.Edge.{Edge, choose}
 use Rattle.ipcz_seq.specs.Queue.{current_item, item_at, push_at}
-use Rattle.ipcz_router.specs.Router.{Router, is_terminal, is_proxy}
-use Rattle.ipcz_router.specs.Acts.{pop_out, pop_in, drop_item, way_in}
-use Rattle.ipcz_router.specs.Calls.{accept, next_number}
-use Rattle.ipcz_router.specs.Bypass.{stop_proxying}
+use Rattle.ipcz_world.proofs.Vocabulary.{is_proxy, pop_out, drop_item, way_in, accept, next_number, stop_proxying, Rates, router_worth}
+use Rattle.ipcz_router.specs.Router.{Router, is_terminal}
+use Rattle.ipcz_router.specs.Acts.{pop_in}
 use Rattle.ipcz_router.specs.ActEffects.{finish_in, begin_bypass}
 use Rattle.ipcz_world.proofs.facts.Reaching.{is_reach, reach-pop}
 use Rattle.ipcz_world.proofs.frames.Booking.{reach-push}
-use Rattle.ipcz_world.specs.Ranks.{Rates, worth_left, router_worth}
+use Rattle.ipcz_world.specs.Ranks.{worth_left}
 use Rattle.ipcz_world.specs.PutBounds.{router_stays}
 
 -- it is no more than its numbers are worth

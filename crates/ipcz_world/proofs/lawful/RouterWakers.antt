@@ -5,25 +5,21 @@ use Rattle.std.proofs.Common.{arith, ap, sym, ◌∙◌, subst, inl, inr}
 use Rattle.std.proofs.lemmas.Bool.Decides.{nat_tests}
 use Rattle.std.proofs.lemmas.Option.{same_Some, none-some}
 use Rattle.ipcz_world.proofs.facts.Tests.{nat_eq-is, nat_eq-itself}
-use Rattle.ipcz_world.proofs.Vocabulary.{Side, Central, LinkEnd, Message, opposite, Router, is_possible, primary_word, word_of}
-use Rattle.ipcz_world.proofs.Vocabulary.{World, Key, node_at, word_at, mail_at, router_at, Books, Records, Inv, IsUnderWay, Word}
-use Rattle.ipcz_world.proofs.Vocabulary.{RouterAct, Node, outbox, commit, router_in, answer_of, after_act, set_node, set_word}
-use Rattle.ipcz_world.proofs.Vocabulary.{set_claimed, way, messages_in}
-use Rattle.ipcz_world.proofs.Vocabulary.{set_router, side_node, IsRecorded}
+use Rattle.ipcz_world.proofs.Vocabulary.{Side, Central, LinkEnd, Message, opposite, Router, is_possible, primary_word, word_of, World, Key, node_at}
+use Rattle.ipcz_world.proofs.Vocabulary.{word_at, mail_at, router_at, Books, Records, Inv, IsUnderWay, Word, RouterAct, Node, outbox, commit}
+use Rattle.ipcz_world.proofs.Vocabulary.{router_in, answer_of, after_act, set_node, set_word, set_claimed, way, messages_in, set_router, side_node}
+use Rattle.ipcz_world.proofs.Vocabulary.{IsRecorded, Plan, Locks, Waits, Refuses, plan_of, is_rest, may_take, push_out, after_router_act, source_of}
+use Rattle.ipcz_world.proofs.Vocabulary.{touch, touch_word, FlagsAgree, IsRanked, leaves_by, has_unclaimed_word}
 use Rattle.ipcz_base.specs.declared.message.Message.TheVariants as messages
 use Rattle.ipcz_base.proofs.Indexed.{place_at-put_place}
-use Rattle.ipcz_word.specs.Word.{is_held, mark, lock, wait, unlock, Plan, Locks, Waits, Refuses, plan_of}
-use Rattle.ipcz_router.specs.ActTable.{is_rest, may_take}
+use Rattle.ipcz_word.specs.Word.{is_held, mark, lock, wait, unlock}
 use Rattle.ipcz_router.specs.ActEffects.{mark_side, wake_other, take_lock, fail_lock, drop_lock}
 use Rattle.ipcz_router.specs.declared.act.RouterAct.TheVariants as acts
 use Rattle.ipcz_node.specs.declared.act.Act.TheVariants.{Router as OfRouter}
-use Rattle.ipcz_node.specs.Node.{push_out}
-use Rattle.ipcz_world.specs.World.{push_message}
-use Rattle.ipcz_world.specs.Turns.{after_router_act}
-use Rattle.ipcz_router.specs.Router.{source_of}
-use Rattle.ipcz_world.specs.WordAnswers.{touch, touch_word, claim_next}
-use Rattle.ipcz_world.specs.Acts.{wake_act}
-use Rattle.ipcz_world.specs.Owed.{FlagsAgree, HasFlush, HaveWakers, IsRanked}
+use Rattle.ipcz_world.proofs.facts.Updates.{push_message}
+use Rattle.ipcz_world.specs.WordAnswers.{claim_next}
+use Rattle.ipcz_world.proofs.facts.Updates.{wake_act}
+use Rattle.ipcz_world.specs.Owed.{HasFlush, HaveWakers}
 use Rattle.ipcz_world.proofs.acts.Marking.{acted-mark}
 use Rattle.ipcz_world.proofs.acts.ActedWords.{acted-lock, acted-unlock}
 use Rattle.ipcz_world.proofs.acts.Updating.{acted-wake}
@@ -34,7 +30,6 @@ use Rattle.ipcz_world.proofs.frames.Frames.{word-set_node, word-set_word, word-s
 use Rattle.ipcz_world.proofs.frames.Frames.{count-set_node, count-set_word}
 use Rattle.ipcz_world.proofs.lawful.LinkLaws.{link_law}
 use Rattle.ipcz_world.proofs.lawful.Departures.{leaving_held}
-use Rattle.ipcz_router.specs.ActEffects.{leaves_by}
 use Rattle.ipcz_world.proofs.lawful.Following.{able-tells}
 use Rattle.ipcz_world.proofs.lawful.Going.{IsOff, Changes, goes-by}
 use Rattle.ipcz_world.proofs.lawful.Acting.{is_wordy, is_begin, act-changes}
@@ -42,9 +37,8 @@ use Rattle.ipcz_world.proofs.lawful.Moving.{Stays, Never, stays-node}
 use Rattle.ipcz_world.proofs.lawful.Tracking.{Came, came-tracked, tracks-node, KeepsFlush, HaveWakersOn, wakers-tracked, ranked-tracked, held-is}
 use Rattle.ipcz_world.proofs.lawful.WordWakers.{IsOnWord, wakers-mark, wakers-locked, wakers-waits, wakers-refused, wakers-unlock}
 use Rattle.ipcz_world.proofs.lawful.WordWakers.{wakers-wake}
-use Rattle.ipcz_world.specs.World.{has_unclaimed_word}
 use Rattle.ipcz_world.specs.WordAnswers.{tells_waiting, woken}
-use Rattle.ipcz_world.specs.Acts.{tells_wake}
+use Rattle.ipcz_world.proofs.facts.Updates.{tells_wake}
 
 node-touch_word : (w : World) (s : Side) (source : Option ℕ) (a : RouterAct) (o : Option ℕ) (j : ℕ) → node_at
     (touch_word w s source a o) j ≡ node_at w j

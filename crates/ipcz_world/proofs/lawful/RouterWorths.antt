@@ -9,15 +9,17 @@ use Rattle.ipcz_base.specs.declared.descriptor.Descriptor.{Descriptor}
 use Rattle.ipcz_base.specs.declared.item.Item.{Item}
 use Rattle.ipcz_base.specs.Ends.{opposite_end}
 use Rattle.ipcz_base.specs.Links.{word_of}
-use Rattle.ipcz_edge.specs.Edge.{Edge, edge_decays}
-use Rattle.ipcz_router.specs.Router.{Router, is_proxy, is_terminal, is_on_central, inward_edge, rouse, from_descriptor}
-use Rattle.ipcz_router.specs.Acts.{pop_out, pop_in, send_on, drop_item, rest}
-use Rattle.ipcz_router.specs.Bypass.{bypass_peer, accept_bypass, stop_proxying, proxy_will_stop}
-use Rattle.ipcz_router.specs.Calls.{accept, extend}
+use Rattle.ipcz_world.proofs.Vocabulary.{edge_decays, is_proxy, is_on_central, pop_out, send_on, drop_item, rest, accept_bypass, stop_proxying}
+use Rattle.ipcz_world.proofs.Vocabulary.{proxy_will_stop, accept, Rates, worth, router_worth}
+use Rattle.ipcz_edge.specs.Edge.{Edge}
+use Rattle.ipcz_router.specs.Router.{Router, is_terminal, inward_edge, rouse, from_descriptor}
+use Rattle.ipcz_router.specs.Acts.{pop_in}
+use Rattle.ipcz_router.specs.Bypass.{bypass_peer}
+use Rattle.ipcz_router.specs.Calls.{extend}
 use Rattle.ipcz_router.specs.Closing.{close_router}
 use Rattle.ipcz_router.specs.ActEffects.{finish_out, finish_in, mark_side, wake_other, claim_word, run_dry, take_lock, fail_lock}
 use Rattle.ipcz_router.specs.ActEffects.{begin_bypass, drop_lock}
-use Rattle.ipcz_world.specs.Ranks.{Rates, worth, worth_left, router_worth, is_unbegun}
+use Rattle.ipcz_world.specs.Ranks.{worth_left, is_unbegun}
 
 pub worth-most : (n : ℕ) (b : Bool) → worth n b ≤ n
 worth-most n true = omega arith

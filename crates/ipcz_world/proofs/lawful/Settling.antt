@@ -2,36 +2,29 @@
 use Rattle.std.specs.Prelude.{◌≡◌, ◌⊎◌, ◌≤◌, ◌<◌, ℕ, ◌+◌, ◌*◌, Bool, true, false, cond, ◌&&◌, ◌||◌, nat_eq, nat_lt, Option, Some, None, List, [], ◌∷◌, length, refl}
 use Rattle.std.proofs.Common.{arith, ap, subst, ◌∙◌, sym, inl, inr}
 use Rattle.std.proofs.lemmas.Bool.Decides.{nat_tests}
-use Rattle.ipcz_world.proofs.Vocabulary.{End, Router, Node, Found, router_in, RouterAct, Act, Hand, World, node_at, router_at, Books}
-use Rattle.ipcz_world.proofs.Vocabulary.{read, opposite_end, is_terminal}
-use Rattle.ipcz_world.proofs.Vocabulary.{after_act, answer_of, unless, commit, output_of}
-use Rattle.ipcz_router.specs.ActEffects.{apply, drop_lock, leaves_by}
+use Rattle.ipcz_world.proofs.Vocabulary.{End, Router, Node, Found, router_in, RouterAct, Act, Hand, World, node_at, router_at, Books, read}
+use Rattle.ipcz_world.proofs.Vocabulary.{opposite_end, is_terminal, after_act, answer_of, unless, commit, output_of, apply, leaves_by, Answer, Look}
+use Rattle.ipcz_world.proofs.Vocabulary.{Post, Happened, on_router, flagged_router, send, commit_router, keep_or_drop, router_turn, close_turn}
+use Rattle.ipcz_world.proofs.Vocabulary.{advance, Routes, routes_after, touch, next_at, seen_at, after_router_act, turn_event, turn_lacks_serials}
+use Rattle.ipcz_world.proofs.Vocabulary.{Effect, refuse, turn_step, next_node, Lawful, StepKeepsLawful, Rates, worth, router_worth, node_worth, rank}
+use Rattle.ipcz_world.proofs.Vocabulary.{is_retired}
+use Rattle.ipcz_router.specs.ActEffects.{drop_lock}
 use Rattle.ipcz_router.specs.declared.act.RouterAct.TheVariants as acts
-use Rattle.ipcz_router.specs.declared.act.Answer.{Answer}
-use Rattle.ipcz_node.specs.declared.act.Act.TheVariants.{Look, Post, Router as OfRouter}
-use Rattle.ipcz_node.specs.declared.happened.Happened.{Happened}
-use Rattle.ipcz_node.specs.Node.{on_router, flagged_router}
-use Rattle.ipcz_node.specs.Sends.{send}
-use Rattle.ipcz_node.specs.Acts.{commit_router, keep_or_drop, router_turn, close_turn, node_turn, next, first_sender, first_destination}
+use Rattle.ipcz_node.specs.declared.act.Act.TheVariants.{Router as OfRouter}
+use Rattle.ipcz_node.specs.Acts.{node_turn, next, first_sender, first_destination}
 use Rattle.ipcz_node.specs.Acts.{stand_in}
 use Rattle.ipcz_world.specs.declared.step.Step.TheVariants as steps
 use Rattle.ipcz_world.specs.declared.step.Reply.TheVariants as replies
-use Rattle.ipcz_world.specs.Books.{advance}
-use Rattle.ipcz_world.specs.Routes.{Routes, routes_after}
-use Rattle.ipcz_world.specs.WordAnswers.{touch}
-use Rattle.ipcz_world.specs.Turns.{next_at, seen_at, after_router_act, turn_event, turn_lacks_serials}
-use Rattle.ipcz_world.specs.Steps.{FirstAct, ActGives, Effect, refuse, turn_step}
+use Rattle.ipcz_world.specs.Steps.{FirstAct, ActGives}
 use Rattle.ipcz_base.specs.declared.refusal.Refusal.TheVariants.{NumbersEnd, OutOfMemory}
 use Rattle.ipcz_world.specs.declared.step.Settled.{Settled}
 use Rattle.ipcz_world.specs.declared.step.Settled.TheVariants as ends
-use Rattle.ipcz_world.specs.Settling.{AreVisits, HasAct, IsSettle, next_node}
-use Rattle.ipcz_world.specs.Lawful.{Lawful}
-use Rattle.ipcz_world.specs.WorldLaws.{StepKeepsLawful, FirstIsPossible, QuietIsDirect, ClosedPairsAreGone, QuietHasNoProxy}
-use Rattle.ipcz_world.specs.Ranks.{Rates, worth, router_worth, is_unbegun, node_worth, rank, IsRated, is_unlock, uses_up, moving_worth}
+use Rattle.ipcz_world.specs.Settling.{AreVisits, HasAct, IsSettle}
+use Rattle.ipcz_world.specs.WorldLaws.{FirstIsPossible, QuietIsDirect, ClosedPairsAreGone, QuietHasNoProxy}
+use Rattle.ipcz_world.specs.Ranks.{is_unbegun, IsRated, is_unlock, uses_up, moving_worth}
 use Rattle.ipcz_world.specs.Ranks.{TurnsKeepRates}
 use Rattle.ipcz_world.specs.SettleBounds.{VisitsAreBounded, UnsettledIsBounded, PlainAreRated, PlainLimitIsEnough}
 use Rattle.ipcz_world.specs.SettleBounds.{FitsMost, unlocks_taken, SettledIsDirect, is_over, plain_rates}
-use Rattle.ipcz_world.specs.Books.{is_retired}
 use Rattle.ipcz_world.specs.Ranks.{may_put}
 use Rattle.std.proofs.lemmas.Option.{slice_get_within}
 use Rattle.ipcz_world.proofs.facts.Tests.{nat_eq-is, and_second, not_both}

@@ -1,11 +1,9 @@
 -- The words that a node names are claimed, so they are words of the world, and each of its nodes is sound.
-use Rattle.ipcz_world.specs.Records.{Lost}
+use Rattle.ipcz_world.proofs.Vocabulary.{Router, primary_word, World, Key, node_at, router_at, Records, Owner, Spare, Opening, Fresh, Linked}
+use Rattle.ipcz_world.proofs.Vocabulary.{is_linked, is_unclaimed, Books, Inv, Lost, Unclaimed}
 use Rattle.std.specs.Prelude.{◌≡◌, ◌<◌, ℕ, true, false, Some, refl}
 use Rattle.std.proofs.Common.{arith, ap}
 use Rattle.std.proofs.lemmas.Bool.Decides.{nat_tests}
-use Rattle.ipcz_world.proofs.Vocabulary.{Router, primary_word, World, Key, node_at, router_at, Records, Owner, Spare, Opening, Fresh}
-use Rattle.ipcz_world.proofs.Vocabulary.{Linked, is_linked, is_unclaimed, Books, Inv}
-use Rattle.ipcz_world.specs.Records.{Unclaimed}
 use Rattle.ipcz_world.specs.Soundness.{IsSound}
 use Rattle.ipcz_world.proofs.acts.Flags.{on-word}
 

@@ -7,11 +7,10 @@ use Rattle.std.specs.Ordering.{nat_cmp}
 use Rattle.std.specs.Cmp.{nat_cmp_total}
 use Rattle.std.specs.FinMap.{get-insert, get-empty}
 use Rattle.ipcz_world.proofs.facts.Tests.{not_both}
-use Rattle.ipcz_world.proofs.Vocabulary.{Side, A, B, place_at, Router, Node, router_in, bare_node, Key, node_at, router_at}
-use Rattle.ipcz_world.proofs.Vocabulary.{Peripheral}
-use Rattle.ipcz_node.specs.Node.{add_end, new_end}
+use Rattle.ipcz_world.proofs.Vocabulary.{Side, A, B, place_at, Router, Node, router_in, bare_node, Key, node_at, router_at, Peripheral, add_end}
+use Rattle.ipcz_world.proofs.Vocabulary.{new_end, new_world, numbers_from}
 use Rattle.ipcz_node.specs.FirstPairs.{add_pairs, first_pairs, new_node}
-use Rattle.ipcz_world.specs.World.{new_world, new_nodes, numbers_from}
+use Rattle.ipcz_world.specs.World.{new_nodes}
 use Rattle.ipcz_world.proofs.lawful.Going.{IsNew}
 use Rattle.ipcz_world.proofs.lawful.Tracking.{terminal-bare}
 use Rattle.ipcz_world.proofs.lawful.StepWakers.{IsOwing}

@@ -4,39 +4,27 @@ use Rattle.std.specs.Prelude.{List, [], ◌∷◌, length, refl}
 use Rattle.std.proofs.Common.{arith, ap, subst, sym}
 use Rattle.std.specs.Ordering.{nat_cmp}
 use Rattle.ipcz_base.proofs.Totals.{total-empty}
-use Rattle.ipcz_world.proofs.Vocabulary.{End, Item, Message, total_list, ends_in, Router, Node, bare_node, RouterAct, Act, Close, Hand}
-use Rattle.ipcz_world.proofs.Vocabulary.{router_in, commit, World, node_at, mail_at, way, router_at, Books, item_at, is_terminal, answer_of}
-use Rattle.ipcz_world.proofs.Vocabulary.{set_node, set_word, set_claimed, set_mail, after_act, can_take, hand_message, messages_in, output_of, primary_word}
-use Rattle.ipcz_world.proofs.Vocabulary.{place_at, with_router}
-use Rattle.ipcz_router.specs.Router.{source_of}
-use Rattle.ipcz_router.specs.Acts.{drop_item, has_gone_next}
+use Rattle.ipcz_world.proofs.Vocabulary.{End, Item, Message, total_list, ends_in, Router, Node, bare_node, RouterAct, Act, Close, Hand, router_in}
+use Rattle.ipcz_world.proofs.Vocabulary.{commit, World, node_at, mail_at, way, router_at, Books, item_at, is_terminal, answer_of, set_node, set_word}
+use Rattle.ipcz_world.proofs.Vocabulary.{set_claimed, set_mail, after_act, can_take, hand_message, messages_in, output_of, primary_word, place_at}
+use Rattle.ipcz_world.proofs.Vocabulary.{with_router, source_of, drop_item, has_gone_next, Gone, may_take, is_rest, apply, leaves_by, discard_output}
+use Rattle.ipcz_world.proofs.Vocabulary.{next_number, Answer, Look, Post, Idle, on_router, without_router, send, deliver, commit_router, keep_or_drop}
+use Rattle.ipcz_world.proofs.Vocabulary.{post_of, Mail, Turn, after_turn, advance, Routes, routes_after, routes_after_turn, source_for, touch}
+use Rattle.ipcz_world.proofs.Vocabulary.{touch_word, after_router_act, after_hand, after_look, after_post, full_message, may_act, turn_event, Lawful}
+use Rattle.ipcz_world.proofs.Vocabulary.{StepKeepsLawful, Rates, worth, router_worth, node_worth, rank}
 use Rattle.ipcz_base.specs.Ends.{opposite_end}
-use Rattle.ipcz_base.specs.declared.item.Item.TheVariants.{Gone}
 use Rattle.ipcz_base.specs.declared.link_end.LinkEnd.{LinkEnd}
-use Rattle.ipcz_router.specs.ActTable.{is_possible, may_take, is_rest}
-use Rattle.ipcz_router.specs.ActEffects.{apply, leaves_by, discard_output, retire_output}
-use Rattle.ipcz_router.specs.Calls.{next_number}
+use Rattle.ipcz_router.specs.ActTable.{is_possible}
+use Rattle.ipcz_router.specs.ActEffects.{retire_output}
 use Rattle.ipcz_router.specs.declared.act.RouterAct.TheVariants as acts
-use Rattle.ipcz_router.specs.declared.act.Answer.{Answer}
 use Rattle.ipcz_router.specs.declared.act.Answer.TheVariants as answers
 use Rattle.ipcz_seq.specs.Queue.{current_item}
-use Rattle.ipcz_node.specs.declared.act.Act.TheVariants.{Look, Post, Router as OfRouter, Idle}
-use Rattle.ipcz_node.specs.Node.{on_router, without_router}
-use Rattle.ipcz_node.specs.Sends.{send}
-use Rattle.ipcz_node.specs.Hands.{deliver}
-use Rattle.ipcz_node.specs.Acts.{commit_router, keep_or_drop, post_of}
-use Rattle.ipcz_world.specs.declared.mail.Mail.{Mail}
+use Rattle.ipcz_node.specs.declared.act.Act.TheVariants.{Router as OfRouter}
 use Rattle.ipcz_world.specs.declared.mail.Mail.TheVariants as mails
-use Rattle.ipcz_world.specs.declared.step.Step.TheVariants.{Turn}
 use Rattle.ipcz_world.specs.declared.step.Reply.TheVariants as replies
-use Rattle.ipcz_world.specs.Books.{after_turn, advance}
-use Rattle.ipcz_world.specs.Routes.{Routes, routes_after, routes_after_turn}
-use Rattle.ipcz_world.specs.WordAnswers.{source_for, touch, touch_word}
-use Rattle.ipcz_world.specs.Turns.{after_router_act, after_hand, after_look, after_post, full_message, may_act, turn_event, is_first_pending}
-use Rattle.ipcz_world.specs.Lawful.{Lawful}
-use Rattle.ipcz_world.specs.WorldLaws.{StepKeepsLawful}
+use Rattle.ipcz_world.specs.Turns.{is_first_pending}
 use Rattle.ipcz_world.specs.SettleBounds.{CarryNone, plain_rates}
-use Rattle.ipcz_world.specs.Ranks.{Rates, worth, moving_worth, router_worth, node_worth, rank, IsRated, IsTaken, AreTurns, is_unlock, uses_up, times_used, unlock_count}
+use Rattle.ipcz_world.specs.Ranks.{moving_worth, IsRated, IsTaken, AreTurns, is_unlock, uses_up, times_used, unlock_count}
 use Rattle.ipcz_world.specs.Ranks.{TurnsKeepRates}
 use Rattle.ipcz_world.specs.PutBounds.{router_stays, node_stays, stays, pending_closes, is_discard, discard_count, is_retire, retire_count, StayingIsUnused}
 use Rattle.ipcz_world.proofs.facts.Tests.{and_second}

@@ -4,30 +4,25 @@ use Rattle.std.proofs.Common.{sym, ◌∙◌, ap, subst, inl, inr}
 use Rattle.std.proofs.lemmas.Bool.{or_cases, or_left, or_right}
 use Rattle.std.proofs.lemmas.Option.{same_Some}
 use Rattle.ipcz_base.proofs.Indexed.{place_at-put_place}
-use Rattle.ipcz_world.proofs.Vocabulary.{Side, LinkId, Central, Peripheral, Message, Router, RouterAct, Act, Close, Hand, Node, Word, Refusal, router_in, router_has, inward_edge, has_link, is_outward, outbox, open_word}
-use Rattle.ipcz_world.proofs.Vocabulary.{World, Key, way, node_at, mail_at, router_at, messages_in, set_node, set_word, set_claimed, set_mail}
-use Rattle.ipcz_world.proofs.Vocabulary.{answer_of, after_act, can_take, hand_message, unless, Books, Reply, commit, primary_word}
-use Rattle.ipcz_base.specs.declared.profile.Profile.TheVariants.{Printed, Wide}
+use Rattle.ipcz_world.proofs.Vocabulary.{Side, LinkId, Central, Peripheral, Message, Router, RouterAct, Act, Close, Hand, Node, Word, Refusal}
+use Rattle.ipcz_world.proofs.Vocabulary.{router_in, router_has, inward_edge, has_link, is_outward, outbox, open_word, World, Key, way, node_at}
+use Rattle.ipcz_world.proofs.Vocabulary.{mail_at, router_at, messages_in, set_node, set_word, set_claimed, set_mail, answer_of, after_act, can_take}
+use Rattle.ipcz_world.proofs.Vocabulary.{hand_message, unless, Books, Reply, commit, primary_word, Printed, Wide, outward_has, source_of, Look, Post}
+use Rattle.ipcz_world.proofs.Vocabulary.{Idle, on_router, with_outbox, is_named, open_node, serials_refusal, put_refusal, get_refusal, close_refusal}
+use Rattle.ipcz_world.proofs.Vocabulary.{deliver, handle, fits, commit_router, rest_of, first_of, post_of, Mail, Step, has_unclaimed_word, touch}
+use Rattle.ipcz_world.proofs.Vocabulary.{touch_word, source_for, after_hand, after_look, after_post, after_router_act, full_message, router_of}
+use Rattle.ipcz_world.proofs.Vocabulary.{may_act, is_clear, Effect, GivesOrNoMemory, refuse, at_node, open_with, open_on, open_step, close_step}
+use Rattle.ipcz_world.proofs.Vocabulary.{claim_for_open, StepAny, Routes, Lawful}
 use Rattle.ipcz_base.specs.declared.refusal.Refusal.TheVariants as refusals
 use Rattle.ipcz_base.specs.declared.message.Message.TheVariants as messages
-use Rattle.ipcz_router.specs.Router.{outward_has, inward_has, source_of}
+use Rattle.ipcz_router.specs.Router.{inward_has}
 use Rattle.ipcz_router.specs.declared.act.RouterAct.TheVariants as acts
-use Rattle.ipcz_node.specs.declared.act.Act.TheVariants.{Look, Post, Router as OfRouter, Idle}
-use Rattle.ipcz_node.specs.Node.{on_router, with_outbox, is_named, add_stray}
-use Rattle.ipcz_node.specs.Calls.{open_node, serials_refusal, put_refusal, get_refusal, close_refusal}
-use Rattle.ipcz_node.specs.Hands.{deliver, handle, fits, link_asked, side_asked}
-use Rattle.ipcz_node.specs.Acts.{commit_router, rest_of, first_of, post_of}
-use Rattle.ipcz_world.specs.declared.mail.Mail.{Mail}
+use Rattle.ipcz_node.specs.declared.act.Act.TheVariants.{Router as OfRouter}
+use Rattle.ipcz_node.specs.Node.{add_stray}
+use Rattle.ipcz_node.specs.Hands.{link_asked, side_asked}
 use Rattle.ipcz_world.specs.declared.mail.Mail.TheVariants as mails
-use Rattle.ipcz_world.specs.declared.step.Step.{Step}
 use Rattle.ipcz_world.specs.declared.step.Step.TheVariants as steps
-use Rattle.ipcz_world.specs.World.{has_unclaimed_word}
-use Rattle.ipcz_world.specs.WordAnswers.{touch, touch_word, source_for}
-use Rattle.ipcz_world.specs.Turns.{after_hand, after_look, after_post, after_router_act, full_message, router_of, may_act, is_clear}
-use Rattle.ipcz_world.specs.Steps.{Effect, GivesOrNoMemory, refuse, at_node, open_with, open_on, open_step, close_step, claim_for_open, StepAny}
-use Rattle.ipcz_world.specs.Routes.{Routes}
 use Rattle.ipcz_world.specs.Laws.{is_flush}
-use Rattle.ipcz_world.specs.Lawful.{Lawful}
 use Rattle.ipcz_world.specs.WorldLaws.{HandsFit}
 use Rattle.ipcz_world.specs.HeldEnds.{is_spare, router_holds, message_holds, IsEndHeld, ByRouter, ByOpen, ByOutbox, ByMailbox, lets_go, LetsGo, HeldUntilLetGo, OpeningKeepsHeld, is_turn, CallsKeepHeld}
 use Rattle.ipcz_world.proofs.facts.Tests.{and_first, and_second, nat_eq-is, nat_eq-itself}

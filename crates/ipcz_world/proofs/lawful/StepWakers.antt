@@ -8,33 +8,23 @@ use Rattle.std.proofs.lemmas.Option.{same_Some}
 use Rattle.std.specs.Cmp.{nat_cmp_total}
 use Rattle.std.specs.FinMap.{get-insert}
 use Rattle.ipcz_world.proofs.facts.Tests.{false-true, nat_eq-is, not_both}
-use Rattle.ipcz_world.proofs.Vocabulary.{Side, End, LinkId, Central, Message, Refusal, Router, open_word, Found}
-use Rattle.ipcz_world.proofs.Vocabulary.{World, Key, node_at, word_at, mail_at, router_at, Books, Records, Inv, has_primary, IsUnderWay}
-use Rattle.ipcz_world.proofs.Vocabulary.{proxy_side}
-use Rattle.ipcz_world.proofs.Vocabulary.{Act, Hand, Close, Node, outbox, commit, router_in, after_act, can_take, hand_message, set_node}
-use Rattle.ipcz_world.proofs.Vocabulary.{set_word}
-use Rattle.ipcz_world.proofs.Vocabulary.{set_claimed, set_mail, way, is_linked, is_begun, router_has, unless, Reply, with_router}
+use Rattle.ipcz_world.proofs.Vocabulary.{Side, End, LinkId, Central, Message, Refusal, Router, open_word, Found, World, Key, node_at, word_at}
+use Rattle.ipcz_world.proofs.Vocabulary.{mail_at, router_at, Books, Records, Inv, has_primary, IsUnderWay, proxy_side, Act, Hand, Close, Node, outbox}
+use Rattle.ipcz_world.proofs.Vocabulary.{commit, router_in, after_act, can_take, hand_message, set_node, set_word, set_claimed, set_mail, way}
+use Rattle.ipcz_world.proofs.Vocabulary.{is_linked, is_begun, router_has, unless, Reply, with_router, Answer, Plain, Look, Post, Idle, link_router}
+use Rattle.ipcz_world.proofs.Vocabulary.{on_found, with_outbox, put_node, put_refusal, get_node, get_refusal, close_node, close_refusal, open_node}
+use Rattle.ipcz_world.proofs.Vocabulary.{serials_refusal, deliver, handle, fits, is_hand_of, source_for, Mail, Printed, Wide, Step, after_hand}
+use Rattle.ipcz_world.proofs.Vocabulary.{may_act, turn_lacks_serials, is_full, is_clear, Effect, GivesOrNoMemory, refuse, at_node, open_with, open_on}
+use Rattle.ipcz_world.proofs.Vocabulary.{open_step, close_step, claim_for_open, StepAny, FlagsAgree, IsRanked, has_unclaimed_word, flushed}
 use Rattle.ipcz_base.specs.declared.parcel.Parcel as parcels
 use Rattle.ipcz_base.specs.declared.message.Message.TheVariants as messages
 use Rattle.ipcz_base.specs.declared.refusal.Refusal.TheVariants as refusals
 use Rattle.ipcz_word.specs.Word.{is_held}
 use Rattle.ipcz_router.specs.Router.{rouse}
-use Rattle.ipcz_router.specs.declared.act.Answer.{Answer}
-use Rattle.ipcz_router.specs.declared.act.Answer.TheVariants.{Plain}
-use Rattle.ipcz_node.specs.declared.act.Act.TheVariants.{Look, Post, Router as OfRouter, Idle}
-use Rattle.ipcz_node.specs.Node.{link_router, on_found, with_outbox}
-use Rattle.ipcz_node.specs.Calls.{put_node, put_refusal, get_node, get_refusal, close_node, close_refusal, open_node, serials_refusal}
-use Rattle.ipcz_node.specs.Hands.{deliver, handle, fits, is_hand_of}
-use Rattle.ipcz_world.specs.WordAnswers.{source_for}
-use Rattle.ipcz_world.specs.declared.mail.Mail.{Mail}
+use Rattle.ipcz_node.specs.declared.act.Act.TheVariants.{Router as OfRouter}
 use Rattle.ipcz_world.specs.declared.mail.Mail.TheVariants as mails
-use Rattle.ipcz_base.specs.declared.profile.Profile.TheVariants.{Printed, Wide}
-use Rattle.ipcz_world.specs.declared.step.Step.{Step}
 use Rattle.ipcz_world.specs.declared.step.Step.TheVariants as steps
-use Rattle.ipcz_world.specs.Turns.{after_hand, may_act, turn_lacks_serials, is_full, is_clear}
-use Rattle.ipcz_world.specs.Steps.{Effect, GivesOrNoMemory, refuse, at_node, open_with, open_on, open_step, close_step, claim_for_open}
-use Rattle.ipcz_world.specs.Steps.{StepAny}
-use Rattle.ipcz_world.specs.Owed.{FlagsAgree, HaveWakers, IsRanked}
+use Rattle.ipcz_world.specs.Owed.{HaveWakers}
 use Rattle.ipcz_world.proofs.acts.Mailing.{acted-look, acted-post}
 use Rattle.ipcz_world.proofs.facts.Finding.{found_tells, found_there}
 use Rattle.ipcz_world.proofs.facts.Lengths.{same_side-itself}
@@ -53,8 +43,6 @@ use Rattle.ipcz_world.proofs.lawful.Moving.{Stays, Never, Handed, stays-node, st
 use Rattle.ipcz_world.proofs.lawful.Tracking.{Tracks, tracks-node, tracks-same, KeepsFlush, HaveWakersOn, wakers-tracked, ranked-tracked}
 use Rattle.ipcz_world.proofs.lawful.Tracking.{held-is, Came, came-tracked}
 use Rattle.ipcz_world.proofs.lawful.RouterWakers.{wakers-router, ranked-router, came-router}
-use Rattle.ipcz_world.specs.World.{has_unclaimed_word}
-use Rattle.ipcz_node.specs.Hands.{flushed}
 use Rattle.ipcz_world.proofs.frames.Having.{has_at}
 
 -- who has tried has a waker, and ranks rise

@@ -4,12 +4,12 @@ use Rattle.std.specs.Prelude.{refl}
 use Rattle.std.proofs.Common.{arith, ap, sym, ◌∙◌, subst, inl, inr}
 use Rattle.std.proofs.lemmas.Bool.Decides.{nat_tests}
 use Rattle.ipcz_world.proofs.facts.Tests.{false-true, or_second}
-use Rattle.ipcz_world.proofs.Vocabulary.{Side, A, B, LinkId, Central, Peripheral, LinkEnd, has, opposite, Router, is_terminal}
-use Rattle.ipcz_world.proofs.Vocabulary.{Node, router_in, World, Key, node_at, word_at, router_at}
-use Rattle.ipcz_world.proofs.Vocabulary.{Books, Records, Inv, has_primary, is_recorded, Word, has_link}
+use Rattle.ipcz_world.proofs.Vocabulary.{Side, A, B, LinkId, Central, Peripheral, LinkEnd, has, opposite, Router, is_terminal, Node, router_in, World}
+use Rattle.ipcz_world.proofs.Vocabulary.{Key, node_at, word_at, router_at, Books, Records, Inv, has_primary, is_recorded, Word, has_link, outward_has}
+use Rattle.ipcz_world.proofs.Vocabulary.{FlagsAgree, IsRanked}
 use Rattle.ipcz_word.specs.Word.{is_held}
-use Rattle.ipcz_router.specs.Router.{outward_has, inward_has}
-use Rattle.ipcz_world.specs.Owed.{FlagsAgree, HasFlush, HasWaker, IsRanked}
+use Rattle.ipcz_router.specs.Router.{inward_has}
+use Rattle.ipcz_world.specs.Owed.{HasFlush, HasWaker}
 use Rattle.ipcz_world.specs.Laws.{LinkLaw}
 use Rattle.ipcz_world.proofs.lawful.LinkLaws.{link_law}
 use Rattle.ipcz_world.proofs.facts.Lengths.{HasEnd, has_link-tells}

@@ -1,31 +1,18 @@
 -- Turns alone: how many of them use something up, and that a world in which none can is quiet.
-use Rattle.ipcz_router.specs.ActEffects.{leaves_by}
+use Rattle.ipcz_world.proofs.Vocabulary.{Router, Node, router_in, RouterAct, Act, Close, Hand, commit, World, node_at, router_at, Books, after_act}
+use Rattle.ipcz_world.proofs.Vocabulary.{can_take, answer_of, unless, output_of, leaves_by, rest, apply, Answer, Look, Post, Idle, on_router, send}
+use Rattle.ipcz_world.proofs.Vocabulary.{commit_router, keep_or_drop, Turn, after_turn, advance, Routes, routes_after, routes_after_turn, touch}
+use Rattle.ipcz_world.proofs.Vocabulary.{after_router_act, may_act, turn_event, StepAny, Lawful, StepKeepsLawful, Rates, worth, node_worth, rank}
 use Rattle.std.specs.Prelude.{◌≡◌, ◌≤◌, ℕ, ◌+◌, ◌*◌, Bool, true, false, nat_lt, Option, Some, None, []}
 use Rattle.std.specs.Prelude.{◌∷◌, refl}
 use Rattle.std.proofs.Common.{arith, ap, inl}
 use Rattle.std.proofs.lemmas.Bool.Decides.{nat_tests}
 use Rattle.std.specs.FinMap.{get}
-use Rattle.ipcz_world.proofs.Vocabulary.{Router, Node, router_in, RouterAct, Act, Close, Hand, commit, World, node_at}
-use Rattle.ipcz_world.proofs.Vocabulary.{router_at, Books}
-use Rattle.ipcz_world.proofs.Vocabulary.{after_act, can_take, answer_of, unless, output_of}
-use Rattle.ipcz_router.specs.Acts.{rest}
-use Rattle.ipcz_router.specs.ActEffects.{apply, drop_lock}
+use Rattle.ipcz_router.specs.ActEffects.{drop_lock}
 use Rattle.ipcz_router.specs.declared.act.RouterAct.TheVariants as acts
-use Rattle.ipcz_router.specs.declared.act.Answer.{Answer}
-use Rattle.ipcz_node.specs.declared.act.Act.TheVariants.{Look, Post, Router as OfRouter, Idle}
-use Rattle.ipcz_node.specs.Node.{on_router}
-use Rattle.ipcz_node.specs.Sends.{send}
-use Rattle.ipcz_node.specs.Acts.{commit_router, keep_or_drop}
-use Rattle.ipcz_world.specs.declared.step.Step.TheVariants.{Turn}
+use Rattle.ipcz_node.specs.declared.act.Act.TheVariants.{Router as OfRouter}
 use Rattle.ipcz_world.specs.declared.step.Reply.TheVariants as replies
-use Rattle.ipcz_world.specs.Books.{after_turn, advance}
-use Rattle.ipcz_world.specs.Routes.{Routes, routes_after, routes_after_turn}
-use Rattle.ipcz_world.specs.WordAnswers.{touch}
-use Rattle.ipcz_world.specs.Turns.{after_router_act, may_act, turn_event}
-use Rattle.ipcz_world.specs.Steps.{StepAny}
-use Rattle.ipcz_world.specs.Lawful.{Lawful}
-use Rattle.ipcz_world.specs.WorldLaws.{StepKeepsLawful}
-use Rattle.ipcz_world.specs.Ranks.{Rates, worth, node_worth, rank, IsRated, IsTaken}
+use Rattle.ipcz_world.specs.Ranks.{IsRated, IsTaken}
 use Rattle.ipcz_world.specs.Ranks.{is_unlock, spends}
 use Rattle.ipcz_world.specs.Ranks.{spends_at, uses_up, TurnsKeepRates, TurnsAreBounded}
 use Rattle.ipcz_world.proofs.lawful.RouterWorths.{more-unlock, most-rest}

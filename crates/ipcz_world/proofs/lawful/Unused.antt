@@ -1,14 +1,11 @@
 -- The first act of a node that isn't idle uses something up: so a world in which no act does is quiet.
 use Rattle.std.specs.Prelude.{◌≡◌, ◌⊎◌, ◌<◌, ℕ, Bool, true, false, ◌&&◌, if◌then◌else◌, Option, Some, None, List, [], ◌∷◌, refl}
 use Rattle.std.proofs.Common.{ap, ◌∙◌, inl, inr}
-use Rattle.ipcz_world.proofs.Vocabulary.{End, Router, is_possible, RouterAct, Act, Hand, Found, World, node_at}
-use Rattle.ipcz_world.proofs.Vocabulary.{router_at}
+use Rattle.ipcz_world.proofs.Vocabulary.{End, Router, is_possible, RouterAct, Act, Hand, Found, World, node_at, router_at, Look, Post, flagged_router}
+use Rattle.ipcz_world.proofs.Vocabulary.{router_turn, close_turn, next_at, seen_at, is_idle}
 use Rattle.ipcz_router.specs.ActTable.{table, first_possible, next_act}
 use Rattle.ipcz_router.specs.declared.act.RouterAct.TheVariants as acts
-use Rattle.ipcz_node.specs.declared.act.Act.TheVariants.{Look, Post}
-use Rattle.ipcz_node.specs.Node.{flagged_router}
-use Rattle.ipcz_node.specs.Acts.{router_turn, close_turn, node_turn, next, first_sender, first_destination}
-use Rattle.ipcz_world.specs.Turns.{next_at, seen_at, is_idle}
+use Rattle.ipcz_node.specs.Acts.{node_turn, next, first_sender, first_destination}
 use Rattle.ipcz_world.proofs.facts.Finding.{found_tells}
 use Rattle.ipcz_world.proofs.facts.Tests.{and_first, and_second}
 use Rattle.ipcz_world.proofs.lawful.Idling.{quiet_from_idle}

@@ -3,16 +3,12 @@ use Rattle.std.specs.Prelude.{◌≡◌, ◌<◌, ℕ, Bool, true, false, cond, 
 use Rattle.std.proofs.Common.{arith, ap, ◌∙◌, sym, subst}
 use Rattle.std.proofs.lemmas.Bool.Decides.{nat_tests}
 use Rattle.ipcz_base.proofs.Indexed.{place_at-put_place}
-use Rattle.ipcz_world.proofs.Vocabulary.{Message, Router, Node, outbox, RouterAct, Act, Close, Hand, commit, World, node_at, mail_at, way}
-use Rattle.ipcz_world.proofs.Vocabulary.{set_node, set_mail, after_act, can_take, hand_message}
+use Rattle.ipcz_world.proofs.Vocabulary.{Message, Router, Node, outbox, RouterAct, Act, Close, Hand, commit, World, node_at, mail_at, way, set_node}
+use Rattle.ipcz_world.proofs.Vocabulary.{set_mail, after_act, can_take, hand_message, Look, Post, Idle, deliver, post_of, first_of, rest_of, Mail}
+use Rattle.ipcz_world.proofs.Vocabulary.{source_for, touch, full_message, is_clear, after_hand, after_look, after_post, after_router_act}
 use Rattle.ipcz_router.specs.declared.act.Answer.TheVariants as answers
-use Rattle.ipcz_node.specs.declared.act.Act.TheVariants.{Look, Post, Router as OfRouter, Idle}
-use Rattle.ipcz_node.specs.Hands.{deliver}
-use Rattle.ipcz_node.specs.Acts.{post_of, first_of, rest_of}
-use Rattle.ipcz_world.specs.declared.mail.Mail.{Mail}
+use Rattle.ipcz_node.specs.declared.act.Act.TheVariants.{Router as OfRouter}
 use Rattle.ipcz_world.specs.declared.mail.Mail.TheVariants as mails
-use Rattle.ipcz_world.specs.WordAnswers.{source_for, touch}
-use Rattle.ipcz_world.specs.Turns.{full_message, is_clear, after_hand, after_look, after_post, after_router_act}
 use Rattle.ipcz_world.specs.Ranks.{IsTaken}
 use Rattle.ipcz_world.proofs.facts.Tests.{and_first, and_second, nat_eq-itself, nat_eq-is}
 use Rattle.ipcz_world.proofs.frames.Frames.{node-set_node, node-set_mail, mail-set_node, mail-set_mail}

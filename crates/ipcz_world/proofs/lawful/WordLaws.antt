@@ -1,13 +1,10 @@
 -- The law of words, from the invariant.
-use Rattle.ipcz_world.specs.Records.{is_left}
+use Rattle.ipcz_world.proofs.Vocabulary.{Records, Owner, Spare, Opening, Fresh, Linked, is_linked, is_begun, is_recorded, side_router, side_end}
+use Rattle.ipcz_world.proofs.Vocabulary.{across_side, Side, A, B, LinkId, Central, Peripheral, Message, has, same_link, World, Key, word_at, flow}
+use Rattle.ipcz_world.proofs.Vocabulary.{Books, IsUnderWay, under_way, has_primary, of_bypass, control_weight, Inv, is_left, Lost, routes_of}
+use Rattle.ipcz_world.proofs.Vocabulary.{Unclaimed}
 use Rattle.ipcz_world.proofs.frames.Touching.{either}
 use Rattle.ipcz_world.proofs.facts.Tests.{and_second}
-use Rattle.ipcz_world.specs.Records.{Lost}
-use Rattle.ipcz_world.proofs.Vocabulary.{Records, Owner, Spare, Opening, Fresh, Linked, is_linked, is_begun, is_recorded, side_router}
-use Rattle.ipcz_world.proofs.Vocabulary.{side_end, across_side, Side, A, B, LinkId, Central, Peripheral, Message, has, same_link}
-use Rattle.ipcz_world.proofs.Vocabulary.{World, Key, word_at, flow, Books}
-use Rattle.ipcz_world.proofs.Vocabulary.{IsUnderWay, under_way, has_primary, of_bypass, control_weight, Inv}
-use Rattle.ipcz_world.specs.Records.{routes_of, Unclaimed}
 use Rattle.std.specs.Prelude.{◌≡◌, ◌⊎◌, ◌&&◌, ℕ, Bool, true, false, cond, nat_eq, Option, Some, None, refl}
 use Rattle.std.proofs.Common.{arith, ap, subst, ◌∙◌, sym, inl, inr}
 use Rattle.std.proofs.lemmas.Bool.Decides.{nat_tests}

@@ -2,26 +2,23 @@
 use Rattle.std.specs.Prelude.{◌≡◌, ◌⊎◌, ◌&&◌, ℕ, Bool, true, false, ◌||◌, not, cond, if◌then◌else◌, Option, Some, None, is_some, refl}
 use Rattle.std.proofs.Common.{arith, ap, sym, ◌∙◌, subst, inl, inr}
 use Rattle.std.proofs.lemmas.Option.{same_Some, none-some}
-use Rattle.ipcz_world.proofs.Vocabulary.{Side, A, B, LinkId, Central, Peripheral, LinkEnd, has, opposite, Router, is_possible}
-use Rattle.ipcz_world.proofs.Vocabulary.{primary_word, word_of}
-use Rattle.ipcz_world.proofs.Vocabulary.{World, Key, word_at, router_at, Books, Records, Inv, has_primary, Word, has_link, side_node}
-use Rattle.ipcz_world.proofs.Vocabulary.{IsRecorded, side_end, same_key, side_router}
+use Rattle.ipcz_world.proofs.Vocabulary.{Side, A, B, LinkId, Central, Peripheral, LinkEnd, has, opposite, Router, is_possible, primary_word, word_of}
+use Rattle.ipcz_world.proofs.Vocabulary.{World, Key, word_at, router_at, Books, Records, Inv, has_primary, Word, has_link, side_node, IsRecorded}
+use Rattle.ipcz_world.proofs.Vocabulary.{side_end, same_key, side_router, Plan, Locks, Waits, Refuses, plan_of, FlagsAgree, key_at, is_done, is_proxy}
+use Rattle.ipcz_world.proofs.Vocabulary.{decays, is_on_central}
 use Rattle.ipcz_base.specs.declared.message.Message.TheVariants as messages
-use Rattle.ipcz_word.specs.Word.{is_held, mark, lock, wait, Plan, Locks, Waits, Refuses, plan_of}
+use Rattle.ipcz_word.specs.Word.{is_held, mark, lock, wait}
 use Rattle.ipcz_word.specs.SideSets.{has-with_here, has-without_apart}
 use Rattle.ipcz_word.specs.SideSets.{opposite_opposite, not_opposite}
 use Rattle.ipcz_router.specs.ActEffects.{mark_side, wake_other, take_lock, fail_lock, drop_lock}
 use Rattle.ipcz_router.specs.declared.act.RouterAct.TheVariants as acts
-use Rattle.ipcz_world.specs.Owed.{FlagsAgree, HasFlush, PrimaryPasses, HasWaker, HaveWakers}
+use Rattle.ipcz_world.specs.Owed.{HasFlush, PrimaryPasses, HasWaker, HaveWakers}
 use Rattle.ipcz_world.specs.Laws.{LinkLaw}
-use Rattle.ipcz_world.specs.Records.{key_at}
 use Rattle.ipcz_world.proofs.lawful.LinkLaws.{link_law, on_tells}
 use Rattle.ipcz_world.proofs.facts.Lengths.{HasEnd, has_link-tells, side_is, has_link-some}
 use Rattle.ipcz_world.proofs.frames.Frames.{same_key_tells}
 use Rattle.ipcz_world.proofs.lawful.Following.{IsAble, able-tells, able-is}
 use Rattle.ipcz_world.proofs.lawful.Following.{IsReadyProxy}
-use Rattle.ipcz_router.specs.ActTable.{is_done}
-use Rattle.ipcz_router.specs.Router.{is_proxy, decays, is_on_central}
 use Rattle.ipcz_world.proofs.lawful.Moving.{Stays, Never}
 use Rattle.ipcz_world.proofs.lawful.Tracking.{HaveWakersOn}
 use Rattle.ipcz_world.specs.WordAnswers.{tells_waiting, woken}

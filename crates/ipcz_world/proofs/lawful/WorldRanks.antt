@@ -4,33 +4,27 @@ use Rattle.std.specs.Prelude.{Option, Some, None}
 use Rattle.std.specs.Prelude.{is_some, List, [], ◌∷◌, length, replicate, refl}
 use Rattle.std.proofs.Common.{arith, ap, subst, ◌∙◌, sym}
 use Rattle.std.specs.Ordering.{nat_cmp}
-use Rattle.ipcz_world.proofs.Vocabulary.{End, Message, Side, Word, total_list, Router, Node}
-use Rattle.ipcz_world.proofs.Vocabulary.{bare_node, outbox}
-use Rattle.ipcz_world.proofs.Vocabulary.{router_in, RouterAct, Act, Close, Hand, commit, primary_word, World, node_at}
-use Rattle.ipcz_world.proofs.Vocabulary.{mail_at, way}
-use Rattle.ipcz_world.proofs.Vocabulary.{router_at, set_node, set_word, word_at, set_claimed, set_mail, answer_of, after_act, can_take}
-use Rattle.ipcz_world.proofs.Vocabulary.{hand_message}
+use Rattle.ipcz_world.proofs.Vocabulary.{End, Message, Side, Word, total_list, Router, Node, bare_node, outbox, router_in, RouterAct, Act, Close}
+use Rattle.ipcz_world.proofs.Vocabulary.{Hand, commit, primary_word, World, node_at, mail_at, way, router_at, set_node, set_word, word_at}
+use Rattle.ipcz_world.proofs.Vocabulary.{set_claimed, set_mail, answer_of, after_act, can_take, hand_message, source_of, is_proxy, decays}
+use Rattle.ipcz_world.proofs.Vocabulary.{is_on_central, may_take, is_rest, is_done, Answer, Look, Post, Idle, with_outbox, on_router, deliver}
+use Rattle.ipcz_world.proofs.Vocabulary.{commit_router, post_of, first_of, rest_of, Mail, source_for, touch, touch_word, link_answer, word_answer}
+use Rattle.ipcz_world.proofs.Vocabulary.{Plan, Locks, Waits, Refuses, plan_of, after_router_act, after_hand, after_look, after_post, full_message}
+use Rattle.ipcz_world.proofs.Vocabulary.{may_act, is_full, is_clear, Rates, router_worth, node_worth, rank}
 use Rattle.ipcz_base.proofs.Totals.{total-empty}
-use Rattle.ipcz_router.specs.Router.{source_of, is_proxy, decays, is_on_central}
-use Rattle.ipcz_router.specs.ActTable.{may_take, is_possible, is_rest, is_done}
+use Rattle.ipcz_router.specs.ActTable.{is_possible}
 use Rattle.ipcz_world.proofs.lawful.Following.{able-tells}
 use Rattle.ipcz_router.specs.ActEffects.{IsAnswerOf}
 use Rattle.ipcz_router.specs.declared.act.RouterAct.TheVariants as acts
-use Rattle.ipcz_router.specs.declared.act.Answer.{Answer}
 use Rattle.ipcz_router.specs.declared.act.Answer.TheVariants as answers
-use Rattle.ipcz_node.specs.declared.act.Act.TheVariants.{Look, Post, Router as OfRouter, Idle}
-use Rattle.ipcz_node.specs.Node.{with_outbox, on_router, outbox_count}
-use Rattle.ipcz_node.specs.Hands.{deliver}
-use Rattle.ipcz_node.specs.Acts.{commit_router, post_of, first_of, rest_of}
-use Rattle.ipcz_world.specs.declared.mail.Mail.{Mail}
+use Rattle.ipcz_node.specs.declared.act.Act.TheVariants.{Router as OfRouter}
+use Rattle.ipcz_node.specs.Node.{outbox_count}
 use Rattle.ipcz_world.specs.declared.mail.Mail.TheVariants as mails
-use Rattle.ipcz_world.specs.WordAnswers.{source_for, touch, touch_word, link_answer, word_answer, try_answer}
-use Rattle.ipcz_word.specs.Word.{Plan, Locks, Waits, Refuses, plan_of}
-use Rattle.ipcz_world.specs.Turns.{after_router_act, after_hand, after_look, after_post, full_message, may_act, is_full, is_clear}
+use Rattle.ipcz_world.specs.WordAnswers.{try_answer}
 use Rattle.ipcz_world.specs.Turns.{is_first_pending}
 use Rattle.ipcz_world.proofs.frames.Totalling.{total_list-put_place}
 use Rattle.ipcz_world.proofs.facts.Tests.{and_first, and_second}
-use Rattle.ipcz_world.specs.Ranks.{Rates, router_worth, message_worth, box_worth, node_worth, mail_worth, rank}
+use Rattle.ipcz_world.specs.Ranks.{message_worth, box_worth, mail_worth}
 use Rattle.ipcz_world.specs.Ranks.{spends_at, uses_up}
 use Rattle.ipcz_world.proofs.lawful.NodeWorths.{node-outbox}
 use Rattle.ipcz_world.proofs.lawful.NodeHands.{node-delivered}

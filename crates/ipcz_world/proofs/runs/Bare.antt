@@ -1,16 +1,14 @@
 -- A world without routers, words, messages and books is lawful.
 use Rattle.std.specs.Prelude.{false}
-use Rattle.ipcz_world.specs.Whereabouts.{RetiredEnds, Gones}
+use Rattle.ipcz_world.proofs.Vocabulary.{Weight, in_router, at_end, names_end, times, Side, End, LinkId, Central, Peripheral, Descriptor, Message}
+use Rattle.ipcz_world.proofs.Vocabulary.{opposite_end, has_end, has, place_at, total, total_list, Router, Word, empty_word, outbox, Empty, World, Key}
+use Rattle.ipcz_world.proofs.Vocabulary.{node_at, word_at, mail_at, router_at, way, flow, messages_in, hand_message, Records, Owner, Spare, Opening}
+use Rattle.ipcz_world.proofs.Vocabulary.{Fresh, Terminal, At, is_linked, is_unclaimed, is_recorded, inner_link, is_nowhere, IsUnderWay, under_way}
+use Rattle.ipcz_world.proofs.Vocabulary.{of_end, moves_of, Counts, Ordered, Shape, Links, Positions, Stands, Words, Spares, BypassRecords, Stages}
+use Rattle.ipcz_world.proofs.Vocabulary.{Told, of_bypass, control_weight, Terminals, EndPlaces, BooksKept, Conserved, HeldOnce, times_held, Items}
+use Rattle.ipcz_world.proofs.Vocabulary.{Order, ProxyNumbers, FreshNumbers, Inv, RetiredEnds, Gones, LiveLinks, no_books, Unclaimed, Nowhere, Retired}
+use Rattle.ipcz_world.proofs.Vocabulary.{is_left, Moves, move_weight}
 use Rattle.ipcz_world.proofs.frames.LiveLinks.{first_begun}
-use Rattle.ipcz_world.specs.Bypasses.{LiveLinks}
-use Rattle.ipcz_world.proofs.Vocabulary.{Weight, in_router, at_end, names_end, times, Side, End, LinkId, Central, Peripheral, Descriptor}
-use Rattle.ipcz_world.proofs.Vocabulary.{Message, opposite_end, has_end, has, place_at, total, total_list, Router, Word, empty_word}
-use Rattle.ipcz_world.proofs.Vocabulary.{outbox, Empty, World, Key, node_at, word_at, mail_at, router_at, way, flow, messages_in}
-use Rattle.ipcz_world.proofs.Vocabulary.{hand_message, Records, Owner, Spare, Opening, Fresh, Terminal, At, is_linked, is_unclaimed}
-use Rattle.ipcz_world.proofs.Vocabulary.{is_recorded, inner_link, is_nowhere, IsUnderWay, under_way, of_end, moves_of, Counts, Ordered}
-use Rattle.ipcz_world.proofs.Vocabulary.{Shape, Links, Positions, Stands, Words, Spares, BypassRecords, Stages, Told, of_bypass}
-use Rattle.ipcz_world.proofs.Vocabulary.{control_weight, Terminals, EndPlaces, BooksKept, Conserved, HeldOnce, times_held, Items, Order}
-use Rattle.ipcz_world.proofs.Vocabulary.{ProxyNumbers, FreshNumbers, Inv}
 use Rattle.ipcz_world.specs.Places.{in_node as in_node', in_places as in_places'}
 use Rattle.std.specs.Prelude.{◌≡◌, ◌<◌, ◌+◌, ℕ, Bool, true, cond, nat_le, Some, None, is_some, refl, List, [], ◌++◌, slice_get}
 use Rattle.std.specs.Ordering.{nat_cmp}
@@ -19,10 +17,7 @@ use Rattle.std.proofs.Common.{arith, ap, ◌∙◌, sym}
 use Rattle.std.proofs.lemmas.Bool.Decides.{nat_tests}
 use Rattle.std.proofs.lemmas.Option.{none-some}
 use Rattle.ipcz_base.proofs.Totals.{total-empty}
-use Rattle.ipcz_world.specs.Books.{no_books}
-use Rattle.ipcz_world.specs.Records.{Unclaimed, Nowhere, Retired, is_left}
 use Rattle.ipcz_world.proofs.frames.OfRecords.{in_message, in_places, holds, held_times, none_holder}
-use Rattle.ipcz_world.specs.Bypasses.{Moves, move_weight}
 use Rattle.std.specs.FinSet as sets
 use Rattle.ipcz_base.specs.Orders.{end_cmp}
 use Rattle.ipcz_world.proofs.frames.Booking.{flag}

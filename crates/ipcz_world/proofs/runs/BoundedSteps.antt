@@ -1,34 +1,26 @@
 -- Each step keeps a world bounded: nothing comes to lie beyond its nodes.
-use Rattle.ipcz_world.specs.WordAnswers.{source_for}
-use Rattle.ipcz_router.specs.Router.{source_of}
+use Rattle.ipcz_world.proofs.Vocabulary.{End, Side, Message, Refusal, Word, empty_word, open_word, Router, primary_word, RouterAct, Act, Hand, Close}
+use Rattle.ipcz_world.proofs.Vocabulary.{Node, bare_node, terminal_of, router_in, outbox, commit, place_at, Reply, World, node_at, mail_at, way}
+use Rattle.ipcz_world.proofs.Vocabulary.{router_at, set_node, set_word, set_claimed, set_mail, answer_of, can_take, after_act, unless, Books, Records}
+use Rattle.ipcz_world.proofs.Vocabulary.{Inv, source_for, source_of, Answer, Look, Post, Idle, on_router, with_outbox, put_at_router, put_node}
+use Rattle.ipcz_world.proofs.Vocabulary.{put_refusal, get_at_router, get_node, get_refusal, close_at_router, close_end, close_refusal, open_node}
+use Rattle.ipcz_world.proofs.Vocabulary.{serials_refusal, deliver, commit_router, post_of, rest_of, Mail, Printed, Wide, Step, touch_word, touch}
+use Rattle.ipcz_world.proofs.Vocabulary.{full_message, router_of, turn_lacks_serials, after_router_act, after_hand, after_look, after_post, Effect}
+use Rattle.ipcz_world.proofs.Vocabulary.{refuse, at_node, open_with, open_on, claim_for_open, has_unclaimed_word}
 use Rattle.std.specs.Prelude.{◌≡◌, ◌≤◌, ◌<◌, ℕ, suc, ◌+◌, ◌*◌, ◌-◌, Bool, true, false, cond, nat_eq, nat_lt, if◌then◌else◌, Option, Some}
 use Rattle.std.specs.Prelude.{None, refl, [], ◌∷◌}
 use Rattle.std.proofs.Common.{arith, ap, subst, ◌∙◌, sym, inl, inr}
 use Rattle.std.proofs.lemmas.Bool.Decides.{nat_tests}
-use Rattle.ipcz_world.proofs.Vocabulary.{End, Side, Message, Refusal, Word, empty_word, open_word, Router, primary_word, RouterAct, Act}
-use Rattle.ipcz_world.proofs.Vocabulary.{Hand, Close, Node, bare_node, terminal_of, router_in, outbox, commit, place_at, Reply, World}
-use Rattle.ipcz_world.proofs.Vocabulary.{node_at, mail_at, way, router_at, set_node, set_word, set_claimed, set_mail, answer_of, can_take}
-use Rattle.ipcz_world.proofs.Vocabulary.{after_act, unless, Books, Records, Inv}
 use Rattle.ipcz_base.specs.declared.parcel.Parcel as parcels
 use Rattle.ipcz_base.specs.declared.refusal.Refusal.TheVariants as refusals
 use Rattle.ipcz_router.specs.declared.act.RouterAct.TheVariants as acts
-use Rattle.ipcz_router.specs.declared.act.Answer.{Answer}
-use Rattle.ipcz_node.specs.declared.act.Act.TheVariants.{Look, Post, Router as OfRouter, Idle}
-use Rattle.ipcz_node.specs.Node.{on_router, with_outbox, without_ends}
-use Rattle.ipcz_node.specs.Calls.{put_at_router, put_node, put_refusal, get_at_router, get_node, get_refusal, close_at_router, close_end}
-use Rattle.ipcz_node.specs.Calls.{close_refusal, open_node, serials_refusal}
-use Rattle.ipcz_node.specs.Hands.{deliver}
-use Rattle.ipcz_node.specs.Acts.{commit_router, post_of, rest_of}
-use Rattle.ipcz_world.specs.declared.mail.Mail.{Mail}
+use Rattle.ipcz_node.specs.declared.act.Act.TheVariants.{Router as OfRouter}
+use Rattle.ipcz_node.specs.Node.{without_ends}
 use Rattle.ipcz_world.specs.declared.mail.Mail.TheVariants as mails
 use Rattle.ipcz_base.proofs.Indexed.{length-put_place}
-use Rattle.ipcz_base.specs.declared.profile.Profile.TheVariants.{Printed, Wide}
-use Rattle.ipcz_world.specs.declared.step.Step.{Step}
 use Rattle.ipcz_world.specs.declared.step.Step.TheVariants as steps
-use Rattle.ipcz_world.specs.WordAnswers.{touch_word, touch}
-use Rattle.ipcz_world.specs.Turns.{message_in_hand, full_message, router_of, turn_lacks_serials, after_router_act, after_hand}
-use Rattle.ipcz_world.specs.Turns.{after_look, after_post}
-use Rattle.ipcz_world.specs.Steps.{Effect, refuse, at_node, open_with, open_on, claim_for_open, Scheduler, StepBy}
+use Rattle.ipcz_world.specs.Turns.{message_in_hand}
+use Rattle.ipcz_world.specs.Steps.{Scheduler, StepBy}
 use Rattle.ipcz_world.proofs.frames.Frames.{node-set_node, mail-set_mail, count-set_node, count-set_claimed, size-set_node}
 use Rattle.ipcz_world.proofs.frames.Frames.{size-set_claimed}
 use Rattle.ipcz_world.proofs.facts.NodeCount.{count-touch}
@@ -37,7 +29,6 @@ use Rattle.ipcz_world.proofs.lawful.Soundness.{primary_below, opening_below}
 use Rattle.ipcz_world.proofs.runs.Bounds.{IsBoxed, boxed-with, boxed-found, boxed-router, boxed-deliver}
 use Rattle.ipcz_world.proofs.runs.NodeSteps.{hand-is}
 use Rattle.ipcz_world.proofs.facts.Tests.{and_first}
-use Rattle.ipcz_world.specs.World.{has_unclaimed_word}
 
 pub bounded-set_node : (w : World) (n : ℕ) (x : Node) → n < w.count → IsBounded w → IsBoxed w.count x → IsBounded (set_node w n x)
 unfolding set_node mail_at

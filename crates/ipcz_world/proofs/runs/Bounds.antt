@@ -1,33 +1,29 @@
 -- Nothing comes to lie beyond the world's nodes: each step keeps a world bounded.
-use Rattle.ipcz_router.specs.ActEffects.{leaves_by, retire_output}
-use Rattle.ipcz_router.specs.Calls.{next_number}
+use Rattle.ipcz_world.proofs.Vocabulary.{Side, LinkId, Central, LinkEnd, Descriptor, Item, Message, place_at, word_of, opposite, current_item, Router}
+use Rattle.ipcz_world.proofs.Vocabulary.{inward_edge, router_has, from_descriptor, bypass_peer, output_of, RouterAct, Node, Found, outbox}
+use Rattle.ipcz_world.proofs.Vocabulary.{with_router, World, Key, node_at, router_at, Records, Books, IsRecorded, Inv, leaves_by, next_number}
+use Rattle.ipcz_world.proofs.Vocabulary.{edge_decays, outward_has, way_out, way_in, accept, accept_message, stop_message, will_stop_message, apply}
+use Rattle.ipcz_world.proofs.Vocabulary.{item_output, message_output, discard_output, Answer, Applied, with_outbox, on_found, link_router, add_router}
+use Rattle.ipcz_world.proofs.Vocabulary.{is_named, moved_ends, send_item, send, make_terminals, tell, fits, handle, deliver, keep_or_drop}
+use Rattle.ipcz_world.proofs.Vocabulary.{commit_router}
+use Rattle.ipcz_router.specs.ActEffects.{retire_output}
 use Rattle.std.specs.Prelude.{◌≡◌, ◌≤◌, ◌<◌, ℕ, Bool, true, false, cond, not, ◌&&◌, nat_eq, nat_lt, if◌then◌else◌, Option, Some, None}
 use Rattle.std.specs.Prelude.{option_map, refl, List, [], ◌∷◌}
 use Rattle.std.proofs.Common.{arith, ap, subst, ◌∙◌, sym}
 use Rattle.std.proofs.lemmas.Bool.Decides.{nat_tests}
 use Rattle.std.proofs.lemmas.Option.{same_Some}
-use Rattle.ipcz_world.proofs.Vocabulary.{Side, LinkId, Central, LinkEnd, Descriptor, Item, Message, place_at, word_of, opposite}
-use Rattle.ipcz_world.proofs.Vocabulary.{current_item, Router, inward_edge, router_has, from_descriptor, bypass_peer, output_of}
-use Rattle.ipcz_world.proofs.Vocabulary.{RouterAct, Node, Found, outbox, with_router, World, Key, node_at, router_at, Records, Books}
-use Rattle.ipcz_world.proofs.Vocabulary.{IsRecorded, Inv}
 use Rattle.ipcz_base.specs.declared.message.Message.TheVariants as messages
 use Rattle.ipcz_base.proofs.Indexed.{place_at-put_place}
 use Rattle.ipcz_edge.specs.declared.edge.Edge.{Edge}
-use Rattle.ipcz_edge.specs.Edge.{edge_decays, is_short_of, choose}
-use Rattle.ipcz_router.specs.Router.{outward_has}
-use Rattle.ipcz_router.specs.Acts.{way_out, way_in}
-use Rattle.ipcz_router.specs.Calls.{accept}
+use Rattle.ipcz_edge.specs.Edge.{is_short_of, choose}
 use Rattle.ipcz_router.specs.declared.sending.Sending.{Sending}
-use Rattle.ipcz_router.specs.Bypass.{fits_bypass_peer, accept_message, stop_message, will_stop_message}
-use Rattle.ipcz_router.specs.ActEffects.{apply, peer_message, begin_message, flush_message, item_output, message_output, discard_output}
+use Rattle.ipcz_router.specs.Bypass.{fits_bypass_peer}
+use Rattle.ipcz_router.specs.ActEffects.{peer_message, begin_message, flush_message}
 use Rattle.ipcz_router.specs.declared.act.RouterAct.TheVariants as acts
-use Rattle.ipcz_router.specs.declared.act.Answer.{Answer}
-use Rattle.ipcz_router.specs.declared.act.Applied.{Applied}
 use Rattle.ipcz_router.specs.declared.act.Applied.TheVariants as outputs
-use Rattle.ipcz_node.specs.Node.{with_outbox, on_found, link_router, add_router, add_stray, is_named}
-use Rattle.ipcz_node.specs.Sends.{moved_ends, transfer_of, send_item, send}
-use Rattle.ipcz_node.specs.Hands.{make_terminals, tell, passes_at, fits, handle, deliver}
-use Rattle.ipcz_node.specs.Acts.{keep_or_drop, commit_router}
+use Rattle.ipcz_node.specs.Node.{add_stray}
+use Rattle.ipcz_node.specs.Sends.{transfer_of}
+use Rattle.ipcz_node.specs.Hands.{passes_at}
 use Rattle.ipcz_world.proofs.facts.Finding.{found_tells}
 use Rattle.ipcz_world.proofs.acts.Puts.{router_found}
 use Rattle.ipcz_world.proofs.acts.SendingMoves.{boxes_kept}

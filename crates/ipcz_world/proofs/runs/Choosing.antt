@@ -4,20 +4,19 @@ use Rattle.std.specs.Prelude.{◌≡◌, ◌<◌, ℕ, zero, suc, ◌+◌, Bool,
 use Rattle.std.specs.Prelude.{List, [], ◌∷◌, map, refl}
 use Rattle.std.proofs.Common.{arith, ap, subst, ◌∙◌, sym, inl, inr}
 use Rattle.std.proofs.lemmas.Bool.Decides.{nat_tests}
-use Rattle.ipcz_world.proofs.Vocabulary.{End, place_at, Router, is_possible, Act, Hand, Node, Found, World, node_at, mail_at, way}
-use Rattle.ipcz_world.proofs.Vocabulary.{router_at, can_take, Books, Records, Inv}
-use Rattle.ipcz_router.specs.ActTable.{next_act, is_rest}
+use Rattle.ipcz_world.proofs.Vocabulary.{End, place_at, Router, is_possible, Act, Hand, Node, Found, World, node_at, mail_at, way, router_at}
+use Rattle.ipcz_world.proofs.Vocabulary.{can_take, Books, Records, Inv, is_rest, first_number, has_mail_for, router_turn, close_turn, Look, Post}
+use Rattle.ipcz_world.proofs.Vocabulary.{is_hand_of, node_limit, numbers_from, is_full, is_clear, seen_at, next_at, may_act, is_idle}
+use Rattle.ipcz_router.specs.ActTable.{next_act}
 use Rattle.ipcz_router.specs.declared.act.RouterAct.TheVariants as acts
-use Rattle.ipcz_node.specs.Acts.{stand_in, first_number, has_mail_for, router_turn, close_turn, node_turn, next}
-use Rattle.ipcz_node.specs.declared.act.Act.TheVariants.{Look, Post, Router as OfRouter}
+use Rattle.ipcz_node.specs.Acts.{stand_in, node_turn, next}
+use Rattle.ipcz_node.specs.declared.act.Act.TheVariants.{Router as OfRouter}
 use Rattle.ipcz_node.specs.declared.act.MailSeen.{MailSeen}
 use Rattle.ipcz_node.specs.Node.{find_router}
-use Rattle.ipcz_node.specs.Hands.{is_hand_of}
 use Rattle.ipcz_node.proofs.Turns.{first_number-tells}
 use Rattle.ipcz_node.proofs.Choosing.{next_may}
 use Rattle.ipcz_world.specs.declared.step.Step.TheVariants as steps
-use Rattle.ipcz_world.specs.World.{node_limit, numbers_from}
-use Rattle.ipcz_world.specs.Turns.{is_full, is_clear, seen_at, next_at, may_act, is_first_pending, is_idle}
+use Rattle.ipcz_world.specs.Turns.{is_first_pending}
 use Rattle.ipcz_world.specs.Steps.{FirstAct}
 use Rattle.ipcz_world.specs.WorldLaws.{FirstIsPossible}
 use Rattle.ipcz_world.proofs.facts.LinkTests.{same_end-itself}

@@ -1,19 +1,16 @@
 -- A router that is told that no word is left, or that it may claim again: the world stays lawful.
 use Rattle.std.specs.Prelude.{◌≡◌, ◌⊎◌, ◌<◌, ℕ, Bool, true, false, cond, Some, None, is_none, unwrap_or, length, slice_get, refl}
 use Rattle.std.proofs.Common.{arith, ap, subst, ◌∙◌, sym, inl, inr}
-use Rattle.ipcz_world.proofs.Vocabulary.{Side, Central, Peripheral, Router, RouterAct, World, Key, node_at, word_at, router_at, set_router, Books, Inv, opposite, is_terminal, has}
-use Rattle.ipcz_world.proofs.Vocabulary.{is_possible, can_take, has_primary, has_link, with_router, A, B, End, Edge, Word, Queue, Item, same_key, opposite_end}
+use Rattle.ipcz_world.proofs.Vocabulary.{Side, Central, Peripheral, Router, RouterAct, World, Key, node_at, word_at, router_at, set_router, Books}
+use Rattle.ipcz_world.proofs.Vocabulary.{Inv, opposite, is_terminal, has, is_possible, can_take, has_primary, has_link, with_router, A, B, End, Edge}
+use Rattle.ipcz_world.proofs.Vocabulary.{Word, Queue, Item, same_key, opposite_end, edge_has, no_edge, is_retired, is_rest, may_take, Routes, may_act}
+use Rattle.ipcz_world.proofs.Vocabulary.{AreFlagged, FlagsAgree, IsRanked, Lawful}
 use Rattle.std.proofs.lemmas.Option.{same_Some}
-use Rattle.ipcz_edge.specs.Edge.{edge_has, no_edge}
-use Rattle.ipcz_world.specs.Books.{is_retired}
 use Rattle.ipcz_router.specs.ActEffects.{run_dry, rewet}
-use Rattle.ipcz_router.specs.ActTable.{is_ready, is_rest, may_take}
+use Rattle.ipcz_router.specs.ActTable.{is_ready}
 use Rattle.ipcz_router.specs.declared.act.RouterAct.TheVariants as acts
-use Rattle.ipcz_world.specs.Routes.{Routes}
-use Rattle.ipcz_world.specs.Turns.{may_act}
-use Rattle.ipcz_world.specs.Owed.{AreFlagged, FlagsAgree, PrimaryPasses, WaitsForOther, HasWaker, HaveWakers, IsRanked, GoneUnread}
+use Rattle.ipcz_world.specs.Owed.{PrimaryPasses, WaitsForOther, HasWaker, HaveWakers, GoneUnread}
 use Rattle.ipcz_world.specs.Settling.{IsBounded}
-use Rattle.ipcz_world.specs.Lawful.{Lawful}
 use Rattle.ipcz_world.specs.HeldEnds.{DryKeepsLawful, WetKeepsLawful}
 use Rattle.ipcz_world.proofs.frames.Frames.{one_or_before, OneOrBefore, same_key_tells, word-set_node}
 use Rattle.ipcz_world.proofs.frames.OneRouter.{SameButRouter, set-router, words-set_router}

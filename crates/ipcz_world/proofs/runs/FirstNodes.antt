@@ -6,16 +6,12 @@ use Rattle.std.specs.Cmp.{nat_cmp_total}
 use Rattle.std.specs.FinMap.{get, get-empty, get-insert, nat_cmp-IsAntisymmetric}
 use Rattle.std.proofs.Common.{arith, ap, ◌∙◌, sym}
 use Rattle.std.proofs.lemmas.Bool.Decides.{nat_tests}
-use Rattle.ipcz_world.proofs.Vocabulary.{Side, A, B, End, Message, place_at, total, total_below, Router, empty_word, open_word, Node}
-use Rattle.ipcz_world.proofs.Vocabulary.{bare_node, outbox, Empty, World, Key, Records, Spare, Opening, Fresh, Linked, is_linked}
-use Rattle.ipcz_world.proofs.Vocabulary.{is_unclaimed, is_nowhere, Weight, in_router, Inv}
-use Rattle.ipcz_base.specs.Ends.{end_at}
+use Rattle.ipcz_world.proofs.Vocabulary.{Side, A, B, End, Message, place_at, total, total_below, Router, empty_word, open_word, Node, bare_node}
+use Rattle.ipcz_world.proofs.Vocabulary.{outbox, Empty, World, Key, Records, Spare, Opening, Fresh, Linked, is_linked, is_unclaimed, is_nowhere}
+use Rattle.ipcz_world.proofs.Vocabulary.{Weight, in_router, Inv, end_at, add_end, new_end, numbers_from, no_books, Unclaimed}
 use Rattle.ipcz_base.proofs.Totals.{total-empty, total-insert_new}
-use Rattle.ipcz_node.specs.Node.{outbox_count, add_end, new_end}
+use Rattle.ipcz_node.specs.Node.{outbox_count}
 use Rattle.ipcz_node.specs.FirstPairs.{add_pairs}
-use Rattle.ipcz_world.specs.World.{numbers_from}
-use Rattle.ipcz_world.specs.Books.{no_books}
-use Rattle.ipcz_world.specs.Records.{Unclaimed}
 use Rattle.ipcz_world.proofs.acts.OpenedNodes.{fresh_weight}
 
 -- a node with its end of one pair more

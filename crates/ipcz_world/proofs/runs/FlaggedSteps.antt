@@ -1,14 +1,11 @@
 -- In every world that steps lead to, a router with a possible act is flagged.
 use Rattle.std.specs.Prelude.{◌≡◌, ◌<◌, ℕ, zero, suc, Bool, true, false, cond, nat_eq, List, [], ◌∷◌}
 use Rattle.std.proofs.Common.{sym, subst}
-use Rattle.ipcz_world.proofs.Vocabulary.{place_at, Word, Act, Node, bare_node, Reply, World, node_at, router_at, set_node, set_word}
-use Rattle.ipcz_world.proofs.Vocabulary.{set_claimed, set_mail, answer_of, after_act, can_take, Books, Records, Inv}
-use Rattle.ipcz_world.specs.declared.mail.Mail.{Mail}
-use Rattle.ipcz_world.specs.declared.step.Step.{Step}
-use Rattle.ipcz_world.specs.World.{new_world, new_nodes, numbers_from}
+use Rattle.ipcz_world.proofs.Vocabulary.{place_at, Word, Act, Node, bare_node, Reply, World, node_at, router_at, set_node, set_word, set_claimed}
+use Rattle.ipcz_world.proofs.Vocabulary.{set_mail, answer_of, after_act, can_take, Books, Records, Inv, Mail, Step, new_world, numbers_from, StepAny}
+use Rattle.ipcz_world.proofs.Vocabulary.{claim_for_open, AreFlagged}
+use Rattle.ipcz_world.specs.World.{new_nodes}
 use Rattle.ipcz_world.proofs.frames.Frames.{node-set_node, node-set_word, node-set_claimed, node-set_mail}
-use Rattle.ipcz_world.specs.Steps.{StepAny, claim_for_open}
-use Rattle.ipcz_world.specs.Owed.{AreFlagged}
 use Rattle.ipcz_world.proofs.runs.Flagging.{AreAwake, awake-router, awake-pending, awake-put, awake-get, awake-close_node, awake-open}
 use Rattle.ipcz_world.proofs.runs.Flagging.{awake-new, awake-bare, awake-deliver}
 use Rattle.ipcz_world.proofs.runs.NodeSteps.{IsKept, kept-acted, kept-claim_for_open, kept-step}

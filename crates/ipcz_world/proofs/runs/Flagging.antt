@@ -1,6 +1,13 @@
 -- A router with a possible act is flagged: at a node this stays so, whatever the node does.
 use Rattle.std.specs.List.{AllByRecursion}
-use Rattle.ipcz_router.specs.ActEffects.{leaves_by}
+use Rattle.ipcz_world.proofs.Vocabulary.{Side, A, B, End, LinkId, Central, Peripheral, LinkEnd, Descriptor, Item, Message, is_central, word_of, Edge}
+use Rattle.ipcz_world.proofs.Vocabulary.{current_item, Router, is_terminal, inward_edge, from_descriptor, bypass_peer, is_possible, output_of}
+use Rattle.ipcz_world.proofs.Vocabulary.{RouterAct, Close, Node, Found, router_in, with_router, bare_node, terminal_of, commit, moves_of, leaves_by}
+use Rattle.ipcz_world.proofs.Vocabulary.{Parcel, outward_has, accept, accept_message, accept_bypass, stop_proxying, proxy_will_stop, stop_message}
+use Rattle.ipcz_world.proofs.Vocabulary.{will_stop_message, is_rest, may_take, apply, rest, Answer, Applied, without_router, add_router, add_end}
+use Rattle.ipcz_world.proofs.Vocabulary.{new_end, link_router, on_found, on_router, put_node, get_node, get_refusal, close_end, close_node, open_node}
+use Rattle.ipcz_world.proofs.Vocabulary.{put_at_router, get_at_router, Transfer, move_found, move_ends, moved_ends, send_item, send, deliver, handle}
+use Rattle.ipcz_world.proofs.Vocabulary.{fits, tell, take_in, make_terminals, commit_router, keep_or_drop, flushed}
 use Rattle.std.specs.Prelude.{◌≡◌, ℕ, suc, ◌+◌, Bool, true, false, cond, nat_eq, if◌then◌else◌, Option, Some, None, is_some, List, []}
 use Rattle.std.specs.Prelude.{◌∷◌, ◌++◌, slice_get, refl}
 use Rattle.std.proofs.Common.{arith, sym, ◌∙◌, ap, subst}
@@ -9,41 +16,22 @@ use Rattle.std.proofs.lemmas.Option.{same_Some}
 use Rattle.std.specs.Ordering.{nat_cmp}
 use Rattle.std.specs.Cmp.{nat_cmp_total}
 use Rattle.std.specs.FinMap.{get-insert, get-remove, get-empty}
-use Rattle.ipcz_world.proofs.Vocabulary.{Side, A, B, End, LinkId, Central, Peripheral, LinkEnd, Descriptor, Item, Message, is_central}
-use Rattle.ipcz_world.proofs.Vocabulary.{word_of, Edge, current_item, Router, is_terminal, inward_edge, from_descriptor, bypass_peer}
-use Rattle.ipcz_world.proofs.Vocabulary.{is_possible, output_of, RouterAct, Close, Node, Found, router_in, with_router, bare_node}
-use Rattle.ipcz_world.proofs.Vocabulary.{terminal_of, commit, moves_of}
 use Rattle.ipcz_base.specs.declared.parcel.Parcel as parcels
-use Rattle.ipcz_base.specs.declared.item.Item.TheVariants.{Parcel}
 use Rattle.ipcz_base.specs.declared.message.Message.TheVariants as messages
 use Rattle.ipcz_edge.specs.Edge.{choose, can_finish}
-use Rattle.ipcz_router.specs.Router.{outward_has, new_terminal, moved_link}
-use Rattle.ipcz_router.specs.Calls.{accept}
+use Rattle.ipcz_router.specs.Router.{new_terminal, moved_link}
 use Rattle.ipcz_router.specs.Closing.{close_router}
 use Rattle.ipcz_router.specs.Calls.{take_item, put_item, item_refusal}
 use Rattle.ipcz_router.specs.declared.sending.Sending.{Sending}
-use Rattle.ipcz_router.specs.Bypass.{accept_message, accept_bypass, stop_proxying, proxy_will_stop, stop_message}
-use Rattle.ipcz_router.specs.Bypass.{will_stop_message}
-use Rattle.ipcz_router.specs.ActTable.{table, first_possible, next_act, is_rest, may_take}
-use Rattle.ipcz_router.specs.ActEffects.{apply}
-use Rattle.ipcz_router.specs.Acts.{rest}
+use Rattle.ipcz_router.specs.ActTable.{table, first_possible, next_act}
 use Rattle.ipcz_router.specs.declared.act.RouterAct.TheVariants as acts
-use Rattle.ipcz_router.specs.declared.act.Answer.{Answer}
 use Rattle.ipcz_router.specs.declared.act.Answer.TheVariants as answers
-use Rattle.ipcz_router.specs.declared.act.Applied.{Applied}
 use Rattle.ipcz_router.specs.declared.act.Applied.TheVariants as sends
 use Rattle.ipcz_node.specs.declared.act.Act.TheVariants.{Router as OfRouter}
-use Rattle.ipcz_node.specs.Node.{without_router, add_router, add_end, new_end}
-use Rattle.ipcz_node.specs.Node.{link_router, on_found, on_router}
 use Rattle.ipcz_node.specs.FirstPairs.{add_pairs, first_pairs, new_node}
-use Rattle.ipcz_node.specs.Calls.{put_node, get_node, get_refusal, close_end, close_node, open_node, put_at_router, get_at_router}
 use Rattle.ipcz_node.specs.Calls.{refusal_at}
-use Rattle.ipcz_node.specs.Sends.{Transfer, move_found, move_ends, moved_ends, send_item, send}
-use Rattle.ipcz_node.specs.Hands.{deliver, handle, fits, tell, take_in, make_terminals}
-use Rattle.ipcz_node.specs.Acts.{commit_router, keep_or_drop}
 use Rattle.ipcz_world.proofs.facts.Finding.{found_tells}
 use Rattle.ipcz_world.proofs.facts.Reaching.{reach-pop}
-use Rattle.ipcz_node.specs.Hands.{flushed}
 
 -- a router that could act is flagged
 abbrev pub IsAwake : Router → Type 0

@@ -1,5 +1,13 @@
 -- What the flags of a router have to do with each other, in every world that steps lead to.
-use Rattle.ipcz_router.specs.ActEffects.{leaves_by}
+use Rattle.ipcz_world.proofs.Vocabulary.{Side, A, B, End, Central, Descriptor, Item, Message, place_at, Router, inward_edge, primary_word}
+use Rattle.ipcz_world.proofs.Vocabulary.{from_descriptor, bypass_peer, is_possible, output_of, RouterAct, Close, Node, Found, router_in, with_router}
+use Rattle.ipcz_world.proofs.Vocabulary.{bare_node, terminal_of, commit, Reply, World, Key, node_at, word_at, router_at, answer_of, Books, Records}
+use Rattle.ipcz_world.proofs.Vocabulary.{Inv, leaves_by, Parcel, Plan, Locks, Waits, Refuses, plan_of, source_of, outward_has, accept, accept_message}
+use Rattle.ipcz_world.proofs.Vocabulary.{accept_bypass, stop_proxying, proxy_will_stop, stop_message, will_stop_message, is_rest, may_take, apply}
+use Rattle.ipcz_world.proofs.Vocabulary.{Answer, Applied, without_router, add_router, add_end, new_end, link_router, on_found, on_router, put_node}
+use Rattle.ipcz_world.proofs.Vocabulary.{put_at_router, get_node, get_at_router, close_end, Transfer, move_found, move_ends, moved_ends, send_item}
+use Rattle.ipcz_world.proofs.Vocabulary.{send, deliver, handle, fits, tell, take_in, make_terminals, commit_router, keep_or_drop, Step, new_world}
+use Rattle.ipcz_world.proofs.Vocabulary.{numbers_from, word_answer, link_answer, StepAny, claim_for_open, FlagsAgree, has_unclaimed_word, flushed}
 use Rattle.std.specs.Prelude.{◌≡◌, ℕ, zero, suc, ◌+◌, Bool, true, false, cond, nat_eq, if◌then◌else◌, Option, Some, None, List, []}
 use Rattle.std.specs.Prelude.{◌∷◌, ◌++◌, refl}
 use Rattle.std.proofs.Common.{arith, sym, ◌∙◌, subst}
@@ -8,46 +16,22 @@ use Rattle.std.proofs.lemmas.Option.{same_Some}
 use Rattle.std.specs.Ordering.{nat_cmp}
 use Rattle.std.specs.Cmp.{nat_cmp_total}
 use Rattle.std.specs.FinMap.{get-insert, get-remove, get-empty}
-use Rattle.ipcz_world.proofs.Vocabulary.{Side, A, B, End, Central, Descriptor, Item, Message, place_at, Router, inward_edge, primary_word}
-use Rattle.ipcz_world.proofs.Vocabulary.{from_descriptor, bypass_peer, is_possible, output_of, RouterAct, Close, Node, Found, router_in}
-use Rattle.ipcz_world.proofs.Vocabulary.{with_router, bare_node, terminal_of, commit, Reply, World, Key, node_at, word_at, router_at}
-use Rattle.ipcz_world.proofs.Vocabulary.{answer_of, Books, Records, Inv}
 use Rattle.ipcz_base.specs.declared.parcel.Parcel as parcels
-use Rattle.ipcz_base.specs.declared.item.Item.TheVariants.{Parcel}
 use Rattle.ipcz_base.specs.declared.message.Message.TheVariants as messages
-use Rattle.ipcz_word.specs.Word.{Plan, Locks, Waits, Refuses, plan_of}
-use Rattle.ipcz_router.specs.Router.{source_of, outward_has, rouse}
-use Rattle.ipcz_router.specs.Calls.{accept}
+use Rattle.ipcz_router.specs.Router.{rouse}
 use Rattle.ipcz_router.specs.Closing.{close_router}
 use Rattle.ipcz_router.specs.Calls.{take_item, put_item}
 use Rattle.ipcz_router.specs.declared.sending.Sending.{Sending}
-use Rattle.ipcz_router.specs.Bypass.{accept_message, accept_bypass, stop_proxying, proxy_will_stop, stop_message}
-use Rattle.ipcz_router.specs.Bypass.{will_stop_message}
-use Rattle.ipcz_router.specs.ActTable.{is_rest, may_take}
-use Rattle.ipcz_router.specs.ActEffects.{apply}
 use Rattle.ipcz_router.specs.declared.act.RouterAct.TheVariants as acts
-use Rattle.ipcz_router.specs.declared.act.Answer.{Answer}
 use Rattle.ipcz_router.specs.declared.act.Answer.TheVariants as answers
-use Rattle.ipcz_router.specs.declared.act.Applied.{Applied}
 use Rattle.ipcz_router.specs.declared.act.Applied.TheVariants as sends
 use Rattle.ipcz_node.specs.declared.act.Act.TheVariants.{Router as OfRouter}
-use Rattle.ipcz_node.specs.Node.{without_router, add_router, add_end, new_end}
-use Rattle.ipcz_node.specs.Node.{link_router, on_found, on_router}
 use Rattle.ipcz_node.specs.FirstPairs.{add_pairs, first_pairs, new_node}
-use Rattle.ipcz_node.specs.Calls.{put_node, put_at_router, get_node, get_at_router, close_end}
-use Rattle.ipcz_node.specs.Sends.{Transfer, move_found, move_ends, moved_ends, send_item, send}
-use Rattle.ipcz_node.specs.Hands.{deliver, handle, fits, tell, take_in, make_terminals}
-use Rattle.ipcz_node.specs.Acts.{commit_router, keep_or_drop}
-use Rattle.ipcz_world.specs.declared.step.Step.{Step}
-use Rattle.ipcz_world.specs.World.{new_world, new_nodes, numbers_from}
+use Rattle.ipcz_world.specs.World.{new_nodes}
 use Rattle.ipcz_world.proofs.frames.Frames.{node-set_node, node-set_word, node-set_claimed, node-set_mail}
-use Rattle.ipcz_world.specs.WordAnswers.{try_answer, word_answer, link_answer}
-use Rattle.ipcz_world.specs.Steps.{StepAny, claim_for_open}
-use Rattle.ipcz_world.specs.Owed.{FlagsAgree}
+use Rattle.ipcz_world.specs.WordAnswers.{try_answer}
 use Rattle.ipcz_world.proofs.facts.Finding.{found_tells}
 use Rattle.ipcz_world.proofs.runs.NodeSteps.{IsKept, kept-step, kept-claim_for_open}
-use Rattle.ipcz_world.specs.World.{has_unclaimed_word}
-use Rattle.ipcz_node.specs.Hands.{flushed}
 
 -- dry, spare, wake owed, marked, tried, holds: no word is left only if there is no spare, a wake is owed and a try was made only when
 -- marked, and a holder doesn't try

@@ -1,33 +1,24 @@
 -- What turns answer of a message in hand: it fitted, or it was a Flush.
-use Rattle.ipcz_router.specs.Acts.{has_gone_next}
+use Rattle.ipcz_world.proofs.Vocabulary.{End, LinkId, Message, Router, RouterAct, Act, Hand, Close, Reply, Node, World, node_at, router_at, can_take}
+use Rattle.ipcz_world.proofs.Vocabulary.{answer_of, output_of, Books, has_gone_next, Answer, Applied, Look, Post, Idle, Happened, is_hand_of}
+use Rattle.ipcz_world.proofs.Vocabulary.{event_of, Step, turn_event, router_seen, StepAny, advance, Routes, Lawful}
 use Rattle.std.specs.Prelude.{◌≡◌, ◌<◌, ℕ, Bool, true, false, Option, Some, None, List, refl}
 use Rattle.std.proofs.Common.{arith, ap, subst, ◌∙◌, sym, inl, inr}
 use Rattle.std.proofs.lemmas.Bool.Decides.{nat_tests}
-use Rattle.ipcz_world.proofs.Vocabulary.{End, LinkId, Message, Router, RouterAct, Act, Hand, Close, Reply, Node, World, node_at, router_at}
-use Rattle.ipcz_world.proofs.Vocabulary.{can_take, answer_of, output_of, Books}
 use Rattle.ipcz_base.specs.declared.message.Message.TheVariants as messages
 use Rattle.ipcz_router.specs.declared.act.RouterAct.TheVariants as acts
-use Rattle.ipcz_router.specs.declared.act.Answer.{Answer}
 use Rattle.ipcz_router.specs.declared.act.Answer.TheVariants as answers
-use Rattle.ipcz_router.specs.declared.act.Applied.{Applied}
 use Rattle.ipcz_router.specs.declared.act.Applied.TheVariants as outputs
-use Rattle.ipcz_node.specs.declared.act.Act.TheVariants.{Look, Post, Router as OfRouter, Idle}
+use Rattle.ipcz_node.specs.declared.act.Act.TheVariants.{Router as OfRouter}
 use Rattle.ipcz_node.specs.declared.happened.Handed.{Handed}
 use Rattle.ipcz_node.specs.declared.happened.Handed.TheVariants.{Flush}
-use Rattle.ipcz_node.specs.declared.happened.Happened.{Happened}
 use Rattle.ipcz_node.specs.declared.happened.Happened.TheVariants as events
-use Rattle.ipcz_node.specs.Hands.{is_hand_of}
-use Rattle.ipcz_node.specs.Events.{kind_of, hand_event, send_event, word_event, unlock_event, router_event, link_of, event_of}
-use Rattle.ipcz_world.specs.declared.step.Step.{Step}
+use Rattle.ipcz_node.specs.Events.{kind_of, hand_event, send_event, word_event, unlock_event, router_event, link_of}
 use Rattle.ipcz_world.specs.declared.step.Step.TheVariants as steps
 use Rattle.ipcz_world.specs.declared.step.Reply.TheVariants as replies
-use Rattle.ipcz_world.specs.Turns.{turn_event, message_in_hand, hand_seen, router_seen}
-use Rattle.ipcz_world.specs.Steps.{StepAny}
-use Rattle.ipcz_world.specs.Books.{advance}
+use Rattle.ipcz_world.specs.Turns.{message_in_hand, hand_seen}
 use Rattle.ipcz_world.specs.Plain.{Plain}
-use Rattle.ipcz_world.specs.Routes.{Routes}
 use Rattle.ipcz_world.specs.Laws.{is_flush}
-use Rattle.ipcz_world.specs.Lawful.{Lawful}
 use Rattle.ipcz_world.specs.WorldLaws.{HandsFit, RepliesPlainly, OnlyFlushesStray, RepliesStrayNothing}
 use Rattle.ipcz_world.proofs.facts.Tests.{and_first}
 use Rattle.ipcz_world.proofs.acts.Seeing.{seen_event}

@@ -4,28 +4,22 @@ use Rattle.std.proofs.Common.{arith, sym, ap, subst, inl, inr}
 use Rattle.std.proofs.lemmas.Bool.Decides.{nat_tests}
 use Rattle.ipcz_world.proofs.facts.Tests.{and_first}
 use Rattle.std.proofs.lemmas.Option.{same_Some}
-use Rattle.ipcz_world.proofs.Vocabulary.{Side, Message, Router, RouterAct, Act, Close, Hand, Node, Word, Refusal, router_in, outbox, commit}
-use Rattle.ipcz_world.proofs.Vocabulary.{World, way, node_at, mail_at, router_at, messages_in, flow, set_node, set_word, set_claimed, set_mail}
-use Rattle.ipcz_world.proofs.Vocabulary.{answer_of, after_act, can_take, hand_message, unless, Books, Records, Inv, Reply}
-use Rattle.ipcz_base.specs.declared.profile.Profile.TheVariants.{Printed, Wide}
+use Rattle.ipcz_world.proofs.Vocabulary.{Side, Message, Router, RouterAct, Act, Close, Hand, Node, Word, Refusal, router_in, outbox, commit, World}
+use Rattle.ipcz_world.proofs.Vocabulary.{way, node_at, mail_at, router_at, messages_in, flow, set_node, set_word, set_claimed, set_mail, answer_of}
+use Rattle.ipcz_world.proofs.Vocabulary.{after_act, can_take, hand_message, unless, Books, Records, Inv, Reply, Printed, Wide, Plan, Locks, Waits}
+use Rattle.ipcz_world.proofs.Vocabulary.{Refuses, plan_of, source_of, Look, Post, Idle, on_router, serials_refusal, put_refusal, get_refusal}
+use Rattle.ipcz_world.proofs.Vocabulary.{close_refusal, is_hand_of, commit_router, post_of, first_of, Mail, Step, has_unclaimed_word, link_answer}
+use Rattle.ipcz_world.proofs.Vocabulary.{word_answer, touch, touch_word, source_for, after_hand, after_look, after_post, after_router_act}
+use Rattle.ipcz_world.proofs.Vocabulary.{full_message, turn_lacks_serials, Effect, GivesOrNoMemory, refuse, at_node, open_with, open_on, open_step}
+use Rattle.ipcz_world.proofs.Vocabulary.{claim_for_open, close_step, StepAny}
 use Rattle.ipcz_base.specs.declared.refusal.Refusal.TheVariants as refusals
-use Rattle.ipcz_word.specs.Word.{Plan, Locks, Waits, Refuses, plan_of}
-use Rattle.ipcz_router.specs.Router.{primary_word, source_of}
+use Rattle.ipcz_router.specs.Router.{primary_word}
 use Rattle.ipcz_router.specs.declared.act.RouterAct.TheVariants as acts
 use Rattle.ipcz_router.specs.declared.act.Answer.TheVariants as answers
-use Rattle.ipcz_node.specs.declared.act.Act.TheVariants.{Look, Post, Router as OfRouter, Idle}
-use Rattle.ipcz_node.specs.Node.{on_router}
-use Rattle.ipcz_node.specs.Calls.{serials_refusal, put_refusal, get_refusal, close_refusal}
-use Rattle.ipcz_node.specs.Hands.{is_hand_of}
-use Rattle.ipcz_node.specs.Acts.{commit_router, post_of, first_of}
-use Rattle.ipcz_world.specs.declared.mail.Mail.{Mail}
+use Rattle.ipcz_node.specs.declared.act.Act.TheVariants.{Router as OfRouter}
 use Rattle.ipcz_world.specs.declared.mail.Mail.TheVariants as mails
-use Rattle.ipcz_world.specs.declared.step.Step.{Step}
 use Rattle.ipcz_world.specs.declared.step.Step.TheVariants as steps
-use Rattle.ipcz_world.specs.World.{has_unclaimed_word}
-use Rattle.ipcz_world.specs.WordAnswers.{link_answer, word_answer, try_answer, touch, touch_word, source_for}
-use Rattle.ipcz_world.specs.Turns.{after_hand, after_look, after_post, after_router_act, full_message, turn_lacks_serials}
-use Rattle.ipcz_world.specs.Steps.{Effect, GivesOrNoMemory, refuse, at_node, open_with, open_on, open_step, claim_for_open, close_step, StepAny}
+use Rattle.ipcz_world.specs.WordAnswers.{try_answer}
 use Rattle.ipcz_world.proofs.frames.Frames.{node-set_node, node-set_word, node-set_claimed, node-set_mail}
 use Rattle.ipcz_world.proofs.frames.Frames.{mail-set_node, mail-set_word, mail-set_claimed, mail-set_mail}
 use Rattle.ipcz_world.proofs.runs.NodeEnds.{Ends, SpareEnds, MessageEnds, BoxEnds, NodeEnds, AnswerEnds}

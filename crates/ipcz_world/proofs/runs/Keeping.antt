@@ -2,7 +2,13 @@
 use Rattle.ipcz_world.proofs.acts.Retiring as retiring
 use Rattle.ipcz_router.specs.ActTable.{can_begin, can_retire}
 use Rattle.ipcz_world.proofs.frames.Touching.{either}
-use Rattle.ipcz_router.specs.Calls.{next_number}
+use Rattle.ipcz_world.proofs.Vocabulary.{End, Reply, Node, LinkId, Central, LinkEnd, Message, word_of, Router, primary_word, is_possible, RouterAct}
+use Rattle.ipcz_world.proofs.Vocabulary.{Act, Hand, Close, Found, World, Key, node_at, word_at, mail_at, way, router_at, after_act, can_take}
+use Rattle.ipcz_world.proofs.Vocabulary.{hand_message, answer_of, Books, Records, is_linked, side_end, Inv, unless, Refusal, next_number}
+use Rattle.ipcz_world.proofs.Vocabulary.{is_lost_owner, has_gone_next, source_for, Profile, Printed, Wide, plan_of, is_rest, may_take, Answer, Look}
+use Rattle.ipcz_world.proofs.Vocabulary.{Post, Idle, Happened, event_of, moved_ends, link_router, is_hand_of, Mail, may_act, turn_lacks_serials}
+use Rattle.ipcz_world.proofs.Vocabulary.{turn_event, after_hand, after_turn, routes_of, pop_out, send_on, Routes, routes_after, routes_after_turn}
+use Rattle.ipcz_world.proofs.Vocabulary.{Effect, refuse, open_on, open_step, serials_refusal, has_unclaimed_word}
 use Rattle.ipcz_world.specs.Books.{after_retire}
 use Rattle.ipcz_world.proofs.acts.Flags.{on-word}
 use Rattle.ipcz_world.proofs.acts.Retire.{inv-retire}
@@ -12,50 +18,30 @@ use Rattle.ipcz_world.proofs.acts.Updating.{acted-discard_leave}
 use Rattle.ipcz_world.proofs.acts.DroppingGone.{inv-discard_leave}
 use Rattle.ipcz_world.proofs.acts.Routing.{routes-left, routes-left_terminal}
 use Rattle.ipcz_world.proofs.acts.Seeing.{routes-leave, stays-lost}
-use Rattle.ipcz_world.specs.Remembering.{leave_records}
-use Rattle.ipcz_world.proofs.Vocabulary.{End, Reply, Node}
-use Rattle.ipcz_world.specs.Records.{is_lost_owner}
-use Rattle.ipcz_router.specs.Acts.{has_gone_next}
-use Rattle.ipcz_world.specs.WordAnswers.{source_for}
+use Rattle.ipcz_world.proofs.facts.RecordsAfter.{leave_records}
 use Rattle.std.specs.Prelude.{◌≡◌, ◌<◌, ℕ, Bool, true, false, ◌&&◌, nat_lt, if◌then◌else◌, Option, Some, None, is_some, refl}
 use Rattle.std.proofs.Common.{List, arith, ap, subst, ◌∙◌, sym, inl, inr}
 use Rattle.std.proofs.lemmas.Bool.Decides.{nat_tests}
-use Rattle.ipcz_world.proofs.Vocabulary.{LinkId, Central, LinkEnd, Message, word_of, Router, primary_word, is_possible, RouterAct, Act}
-use Rattle.ipcz_world.proofs.Vocabulary.{Hand, Close, Found, World, Key, node_at, word_at, mail_at, way, router_at, after_act, can_take}
-use Rattle.ipcz_world.proofs.Vocabulary.{hand_message, answer_of, Books, Records, is_linked, side_end, Inv, unless, Refusal}
-use Rattle.ipcz_base.specs.declared.profile.Profile.{Profile}
-use Rattle.ipcz_base.specs.declared.profile.Profile.TheVariants.{Printed, Wide}
 use Rattle.ipcz_base.specs.declared.message.Message.TheVariants as messages
-use Rattle.ipcz_word.specs.Word.{plan_of}
-use Rattle.ipcz_router.specs.ActTable.{is_rest, may_take}
 use Rattle.ipcz_router.specs.declared.act.RouterAct.TheVariants as acts
-use Rattle.ipcz_router.specs.declared.act.Answer.{Answer}
-use Rattle.ipcz_node.specs.declared.act.Act.TheVariants.{Look, Post, Router as OfRouter, Idle}
-use Rattle.ipcz_node.specs.declared.happened.Happened.{Happened}
+use Rattle.ipcz_node.specs.declared.act.Act.TheVariants.{Router as OfRouter}
 use Rattle.ipcz_node.specs.declared.happened.Happened.TheVariants as events
-use Rattle.ipcz_node.specs.Events.{link_of, router_event, event_of}
-use Rattle.ipcz_node.specs.Sends.{moved_ends}
-use Rattle.ipcz_node.specs.Node.{link_router}
-use Rattle.ipcz_node.specs.Hands.{is_hand_of, link_asked, side_asked, is_unfit}
-use Rattle.ipcz_world.specs.declared.mail.Mail.{Mail}
+use Rattle.ipcz_node.specs.Events.{link_of, router_event}
+use Rattle.ipcz_node.specs.Hands.{link_asked, side_asked, is_unfit}
 use Rattle.ipcz_world.specs.declared.mail.Mail.TheVariants as mails
-use Rattle.ipcz_world.specs.Turns.{may_act, turn_lacks_serials, turn_event, after_hand}
-use Rattle.ipcz_world.specs.Books.{after_turn, after_discard}
-use Rattle.ipcz_world.specs.Records.{routes_of}
-use Rattle.ipcz_world.specs.Remembering.{claim_records, taken_records, accepted_records, told_records, ended_records, begin_records}
-use Rattle.ipcz_world.specs.Remembering.{made_records}
-use Rattle.ipcz_world.specs.Acts.{CanAct}
+use Rattle.ipcz_world.specs.Books.{after_discard}
+use Rattle.ipcz_world.proofs.facts.RecordsAfter.{claim_records, taken_records, accepted_records, told_records, ended_records, begin_records}
+use Rattle.ipcz_world.proofs.facts.RecordsAfter.{made_records}
+use Rattle.ipcz_world.proofs.facts.Updates.{CanAct}
 use Rattle.ipcz_world.specs.Laws.{is_flush, KeepsLinks}
 use Rattle.ipcz_world.proofs.acts.Marking.{acted-mark}
 use Rattle.ipcz_world.proofs.acts.ActedWords.{acted-rest, acted-unlock, acted-lock, acted-claim, acted-dry}
 use Rattle.ipcz_world.proofs.acts.Updating.{acted-leave, acted-finish_out, acted-finish_in, acted-wake}
 use Rattle.ipcz_world.proofs.acts.Handling.{IsInHand, asked_at, found_asked, named, peer_is, accept_is, stop_is, will_stop_is, flush_is}
 use Rattle.ipcz_world.proofs.acts.Handling.{dropped_is, peer_fits, under_way-hand}
-use Rattle.ipcz_router.specs.Acts.{pop_out, send_on}
 use Rattle.ipcz_world.specs.declared.step.Step.TheVariants as steps
-use Rattle.ipcz_world.specs.Routes.{Routes, routes_after, routes_after_turn, add_link, add_peripherals}
-use Rattle.ipcz_world.specs.Steps.{put_of, Effect, refuse, open_on, open_step}
-use Rattle.ipcz_node.specs.Calls.{serials_refusal}
+use Rattle.ipcz_world.specs.Routes.{add_link, add_peripherals}
+use Rattle.ipcz_world.specs.Steps.{put_of}
 use Rattle.ipcz_base.specs.declared.refusal.Refusal.TheVariants as refusals
 use Rattle.ipcz_world.proofs.frames.Sealing.{sealed, closed}
 use Rattle.ipcz_world.proofs.acts.Leaving.{inv-leave}
@@ -86,7 +72,6 @@ use Rattle.ipcz_world.proofs.acts.Seeing.{stays-peripherals}
 use Rattle.std.proofs.lemmas.Bool.{and_parts}
 use Rattle.ipcz_world.proofs.runs.NodeSteps.{hand-is}
 use Rattle.ipcz_world.proofs.facts.Tests.{some_is}
-use Rattle.ipcz_world.specs.World.{has_unclaimed_word}
 use Rattle.ipcz_world.proofs.frames.Having.{HasAt, has_at}
 
 -- an event of another kind leaves the books

@@ -7,26 +7,24 @@ use Rattle.std.specs.Cmp.{nat_cmp_total}
 use Rattle.std.specs.FinMap.{get, get-insert, get-remove}
 use Rattle.ipcz_edge.specs.Edge.{finish, begin_decay, set_length_to, set_length_from}
 use Rattle.ipcz_world.proofs.Vocabulary.{Side, A, B, End, LinkId, Central, Peripheral, LinkEnd, Descriptor, Item, Message, is_central, place_at}
-use Rattle.ipcz_world.proofs.Vocabulary.{word_of, Edge, current_item, Router, inward_edge, from_descriptor, bypass_peer, opposite, outbox}
-use Rattle.ipcz_world.proofs.Vocabulary.{output_of, RouterAct, Node, Found, router_in, with_router, terminal_of, moves_of}
+use Rattle.ipcz_world.proofs.Vocabulary.{word_of, Edge, current_item, Router, inward_edge, from_descriptor, bypass_peer, opposite, outbox, output_of}
+use Rattle.ipcz_world.proofs.Vocabulary.{RouterAct, Node, Found, router_in, with_router, terminal_of, moves_of, outward_has, accept, next_number}
+use Rattle.ipcz_world.proofs.Vocabulary.{way_out, way_in, accept_message, accept_bypass, stop_proxying, proxy_will_stop, stop_message}
+use Rattle.ipcz_world.proofs.Vocabulary.{will_stop_message, apply, leaves_by, item_output, message_output, discard_output, Answer, Applied}
+use Rattle.ipcz_world.proofs.Vocabulary.{without_router, with_outbox, push_out, add_router, add_end, new_end, link_router, on_found, put_node}
+use Rattle.ipcz_world.proofs.Vocabulary.{get_node, close_end, close_node, open_node, put_at_router, get_at_router, close_at_router, Transfer}
+use Rattle.ipcz_world.proofs.Vocabulary.{move_found, move_ends, moved_ends, send_item, send, deliver, handle, fits, tell, take_in, make_terminals}
+use Rattle.ipcz_world.proofs.Vocabulary.{flushed, commit_router, keep_or_drop, rest_of}
 use Rattle.ipcz_base.specs.declared.parcel.Parcel as parcels
 use Rattle.ipcz_base.specs.declared.message.Message.TheVariants as messages
 use Rattle.ipcz_base.proofs.Indexed.{place_at-put_place}
-use Rattle.ipcz_router.specs.Router.{outward_has, proxy_link}
-use Rattle.ipcz_router.specs.Calls.{accept, extend, next_number}
-use Rattle.ipcz_router.specs.Acts.{way_out, way_in}
-use Rattle.ipcz_router.specs.Bypass.{accept_message, accept_bypass, stop_proxying, proxy_will_stop, stop_message, will_stop_message}
-use Rattle.ipcz_router.specs.ActEffects.{apply, leaves_by, peer_message, begin_message, flush_message, item_output, message_output, discard_output, retire_output}
+use Rattle.ipcz_router.specs.Router.{proxy_link}
+use Rattle.ipcz_router.specs.Calls.{extend}
+use Rattle.ipcz_router.specs.ActEffects.{peer_message, begin_message, flush_message, retire_output}
 use Rattle.ipcz_router.specs.declared.act.RouterAct.TheVariants as acts
-use Rattle.ipcz_router.specs.declared.act.Answer.{Answer}
 use Rattle.ipcz_router.specs.declared.act.Answer.TheVariants as answers
-use Rattle.ipcz_router.specs.declared.act.Applied.{Applied}
 use Rattle.ipcz_router.specs.declared.act.Applied.TheVariants as outputs
-use Rattle.ipcz_node.specs.Node.{without_router, with_outbox, push_out, add_router, add_end, new_end, link_router, on_found, add_stray}
-use Rattle.ipcz_node.specs.Calls.{put_node, get_node, close_end, close_node, open_node, put_at_router, get_at_router, close_at_router}
-use Rattle.ipcz_node.specs.Sends.{Transfer, move_found, move_ends, moved_ends, send_item, send}
-use Rattle.ipcz_node.specs.Hands.{deliver, handle, fits, tell, take_in, make_terminals, flushed}
-use Rattle.ipcz_node.specs.Acts.{commit_router, keep_or_drop, rest_of}
+use Rattle.ipcz_node.specs.Node.{add_stray}
 use Rattle.ipcz_world.proofs.facts.Finding.{found_tells}
 
 -- no descriptor of these is of a central link

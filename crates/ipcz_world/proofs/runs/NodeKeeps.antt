@@ -6,30 +6,24 @@ use Rattle.std.proofs.lemmas.Bool.Decides.{nat_tests}
 use Rattle.std.proofs.lemmas.Option.{same_Some}
 use Rattle.std.specs.Cmp.{nat_cmp_total}
 use Rattle.std.specs.FinMap.{get, get-insert, get-remove}
-use Rattle.ipcz_world.proofs.Vocabulary.{Side, A, B, End, LinkId, Central, LinkEnd, Descriptor, Item, Message, place_at}
-use Rattle.ipcz_world.proofs.Vocabulary.{word_of, has_link, Router, inward_edge, from_descriptor, bypass_peer, opposite, same_side, outbox}
-use Rattle.ipcz_world.proofs.Vocabulary.{output_of, is_possible, RouterAct, Node, Found, router_in, with_router, terminal_of}
+use Rattle.ipcz_world.proofs.Vocabulary.{Side, A, B, End, LinkId, Central, LinkEnd, Descriptor, Item, Message, place_at, word_of, has_link, Router}
+use Rattle.ipcz_world.proofs.Vocabulary.{inward_edge, from_descriptor, bypass_peer, opposite, same_side, outbox, output_of, is_possible, RouterAct}
+use Rattle.ipcz_world.proofs.Vocabulary.{Node, Found, router_in, with_router, terminal_of, edge_has, outward_has, accept, accept_message}
+use Rattle.ipcz_world.proofs.Vocabulary.{accept_bypass, stop_proxying, proxy_will_stop, stop_message, will_stop_message, apply, leaves_by}
+use Rattle.ipcz_world.proofs.Vocabulary.{message_output, Answer, Applied, without_router, push_out, add_router, add_end, new_end, link_router}
+use Rattle.ipcz_world.proofs.Vocabulary.{on_found, put_node, get_node, close_end, close_node, open_node, put_at_router, get_at_router}
+use Rattle.ipcz_world.proofs.Vocabulary.{close_at_router, Transfer, move_found, move_ends, moved_ends, send_item, send, handle, fits, tell, take_in}
+use Rattle.ipcz_world.proofs.Vocabulary.{make_terminals, flushed, commit_router, keep_or_drop, may_take, is_rest, has_role}
 use Rattle.ipcz_base.specs.declared.parcel.Parcel as parcels
 use Rattle.ipcz_base.specs.declared.message.Message.TheVariants as messages
 use Rattle.ipcz_base.proofs.Indexed.{place_at-put_place}
-use Rattle.ipcz_edge.specs.Edge.{edge_has}
-use Rattle.ipcz_router.specs.Router.{outward_has}
-use Rattle.ipcz_router.specs.Calls.{accept}
 use Rattle.ipcz_router.specs.declared.sending.Sending.{Sending}
-use Rattle.ipcz_router.specs.Bypass.{fits_bypass_peer, fits_accept_bypass, accept_message, accept_bypass, stop_proxying, proxy_will_stop, stop_message, will_stop_message}
-use Rattle.ipcz_router.specs.ActEffects.{apply, leaves_by, begin_message, peer_message, message_output}
+use Rattle.ipcz_router.specs.Bypass.{fits_bypass_peer, fits_accept_bypass}
+use Rattle.ipcz_router.specs.ActEffects.{begin_message, peer_message}
 use Rattle.ipcz_router.specs.declared.act.RouterAct.TheVariants as acts
-use Rattle.ipcz_router.specs.declared.act.Answer.{Answer}
 use Rattle.ipcz_router.specs.declared.act.Answer.TheVariants as answers
-use Rattle.ipcz_router.specs.declared.act.Applied.{Applied}
 use Rattle.ipcz_router.specs.declared.act.Applied.TheVariants as outputs
-use Rattle.ipcz_node.specs.Node.{without_router, push_out, add_router, add_end, new_end, link_router, on_found}
-use Rattle.ipcz_node.specs.Calls.{put_node, get_node, close_end, close_node, open_node, put_at_router, get_at_router, close_at_router}
-use Rattle.ipcz_node.specs.Sends.{Transfer, move_found, move_ends, moved_ends, send_item, send}
-use Rattle.ipcz_node.specs.Hands.{handle, fits, passes_at, tell, take_in, make_terminals, flushed}
-use Rattle.ipcz_node.specs.Acts.{commit_router, keep_or_drop}
-use Rattle.ipcz_router.specs.ActTable.{may_take, is_rest}
-use Rattle.ipcz_world.specs.Structure.{has_role}
+use Rattle.ipcz_node.specs.Hands.{passes_at}
 use Rattle.ipcz_world.specs.HeldEnds.{is_spare, router_holds, message_holds, lets_go}
 use Rattle.ipcz_world.proofs.facts.Finding.{found_tells}
 use Rattle.ipcz_world.proofs.facts.Tests.{and_first, and_second, not_both, nat_eq-is, nat_eq-itself}

@@ -1,36 +1,23 @@
 -- What is said of each node's routers is kept by every step, if every act and call of a node keeps it.
-use Rattle.ipcz_world.specs.WordAnswers.{source_for}
-use Rattle.ipcz_router.specs.Router.{source_of}
+use Rattle.ipcz_world.proofs.Vocabulary.{End, Message, Refusal, Word, open_word, Router, primary_word, RouterAct, Act, Hand, Close, Node, router_in}
+use Rattle.ipcz_world.proofs.Vocabulary.{commit, Reply, World, node_at, mail_at, way, router_at, messages_in, flow, set_node, set_word, set_claimed}
+use Rattle.ipcz_world.proofs.Vocabulary.{set_mail, answer_of, after_act, hand_message, can_take, unless, Books, Records, IsUnderWay, moves_of, Inv}
+use Rattle.ipcz_world.proofs.Vocabulary.{source_for, source_of, may_take, Answer, Look, Post, Idle, with_outbox, put_node, put_refusal, get_node}
+use Rattle.ipcz_world.proofs.Vocabulary.{get_refusal, close_node, close_refusal, open_node, serials_refusal, deliver, is_hand_of, post_of, Mail}
+use Rattle.ipcz_world.proofs.Vocabulary.{Printed, Wide, Step, touch, touch_word, after_router_act, after_hand, after_look, after_post, full_message}
+use Rattle.ipcz_world.proofs.Vocabulary.{may_act, turn_lacks_serials, Effect, GivesOrNoMemory, refuse, at_node, open_with, open_on, open_step}
+use Rattle.ipcz_world.proofs.Vocabulary.{close_step, claim_for_open, StepAny, has_unclaimed_word}
 use Rattle.std.specs.Prelude.{◌≡◌, ◌<◌, ℕ, ◌+◌, Bool, true, false, nat_lt, if◌then◌else◌, Option, Some, None, List, slice_get, refl}
 use Rattle.std.proofs.Common.{arith, sym, ap, subst, inl, inr}
 use Rattle.std.proofs.lemmas.Bool.Decides.{nat_tests}
-use Rattle.ipcz_world.proofs.Vocabulary.{End, Message, Refusal, Word, open_word, Router, primary_word, RouterAct, Act, Hand, Close, Node}
-use Rattle.ipcz_world.proofs.Vocabulary.{router_in, commit, Reply, World, node_at, mail_at, way, router_at, messages_in, flow, set_node}
-use Rattle.ipcz_world.proofs.Vocabulary.{set_word, set_claimed, set_mail, answer_of, after_act, hand_message, can_take, unless, Books}
-use Rattle.ipcz_world.proofs.Vocabulary.{Records, IsUnderWay, moves_of, Inv}
 use Rattle.ipcz_base.specs.declared.parcel.Parcel as parcels
 use Rattle.ipcz_base.specs.declared.refusal.Refusal.TheVariants as refusals
-use Rattle.ipcz_router.specs.ActTable.{may_take}
 use Rattle.ipcz_router.specs.declared.act.RouterAct.TheVariants as acts
-use Rattle.ipcz_router.specs.declared.act.Answer.{Answer}
-use Rattle.ipcz_node.specs.declared.act.Act.TheVariants.{Look, Post, Router as OfRouter, Idle}
-use Rattle.ipcz_node.specs.Node.{with_outbox}
-use Rattle.ipcz_node.specs.Calls.{put_node, put_refusal, get_node, get_refusal, close_node, close_refusal, open_node, serials_refusal}
-use Rattle.ipcz_node.specs.Hands.{deliver, is_hand_of}
-use Rattle.ipcz_node.specs.Acts.{post_of}
-use Rattle.ipcz_world.specs.declared.mail.Mail.{Mail}
+use Rattle.ipcz_node.specs.declared.act.Act.TheVariants.{Router as OfRouter}
 use Rattle.ipcz_world.specs.declared.mail.Mail.TheVariants as mails
-use Rattle.ipcz_base.specs.declared.profile.Profile.TheVariants.{Printed, Wide}
-use Rattle.ipcz_world.specs.declared.step.Step.{Step}
 use Rattle.ipcz_world.specs.declared.step.Step.TheVariants as steps
-use Rattle.ipcz_world.specs.WordAnswers.{touch, touch_word}
-use Rattle.ipcz_world.specs.Turns.{after_router_act, after_hand, after_look, after_post, full_message}
-use Rattle.ipcz_world.specs.Turns.{may_act, turn_lacks_serials}
-use Rattle.ipcz_world.specs.Steps.{Effect, GivesOrNoMemory, refuse, at_node, open_with, open_on, open_step, close_step}
-use Rattle.ipcz_world.specs.Steps.{claim_for_open, StepAny}
 use Rattle.ipcz_world.proofs.runs.Flagging.{ArePeripheral}
 use Rattle.ipcz_world.proofs.facts.Tests.{and_first}
-use Rattle.ipcz_world.specs.World.{has_unclaimed_word}
 
 -- what is said of a world, node by node, and is kept by what nodes do
 pub record IsKept (Q : World → Type 0) (N : Node → Type 0) : Type 0 where

@@ -2,12 +2,12 @@
 use Rattle.std.specs.Prelude.{◌≡◌, ◌<◌, ℕ, zero, suc, ◌+◌, Bool, replicate, slice_get}
 use Rattle.std.proofs.Common.{arith, ap, subst, ◌∙◌, sym, inl, inr}
 use Rattle.std.proofs.lemmas.List.{length-append, length-replicate}
-use Rattle.ipcz_world.proofs.Vocabulary.{Side, Message, Router, Word, World, Key, has, node_at, mail_at, router_at, set_claimed, Books, opposite, IsUnderWay, empty_word}
-use Rattle.ipcz_world.specs.Records.{Unclaimed, Lost, set_owner}
-use Rattle.ipcz_world.specs.Routes.{Routes, lose_word}
-use Rattle.ipcz_world.specs.Owed.{AreFlagged, FlagsAgree, PrimaryPasses, WaitsForOther, HasWakerBy, HaveWakers, IsRanked, GoneUnread}
+use Rattle.ipcz_world.proofs.Vocabulary.{Side, Message, Router, Word, World, Key, has, node_at, mail_at, router_at, set_claimed, Books, opposite}
+use Rattle.ipcz_world.proofs.Vocabulary.{IsUnderWay, empty_word, Unclaimed, Lost, Routes, AreFlagged, FlagsAgree, IsRanked, Lawful}
+use Rattle.ipcz_world.proofs.facts.RecordsAfter.{set_owner}
+use Rattle.ipcz_world.specs.Routes.{lose_word}
+use Rattle.ipcz_world.specs.Owed.{PrimaryPasses, WaitsForOther, HasWakerBy, HaveWakers, GoneUnread}
 use Rattle.ipcz_world.specs.Settling.{IsBounded}
-use Rattle.ipcz_world.specs.Lawful.{Lawful}
 use Rattle.ipcz_world.specs.HeldEnds.{passed_over, lose_words, PassingKeepsLawful, grown, GrowingKeepsLawful}
 use Rattle.ipcz_world.proofs.frames.Changing.{same_routers}
 use Rattle.ipcz_world.proofs.lawful.StepWakers.{IsOwing}

@@ -1,12 +1,9 @@
 -- A run from a lawful world is a run of the machine over the books alone.
 use Rattle.std.specs.Prelude.{List, [], ◌∷◌}
-use Rattle.ipcz_world.proofs.Vocabulary.{Reply, World, Books}
-use Rattle.ipcz_world.specs.declared.step.Step.{Step}
-use Rattle.ipcz_world.specs.Books.{advance}
+use Rattle.ipcz_world.proofs.Vocabulary.{Reply, World, Books, Step, advance, Routes, routes_after, Lawful, StepKeepsLawful}
 use Rattle.ipcz_world.specs.Plain.{PlainRun}
-use Rattle.ipcz_world.specs.Routes.{Routes, routes_after}
-use Rattle.ipcz_world.specs.Lawful.{Lawful, RunAny}
-use Rattle.ipcz_world.specs.WorldLaws.{StepKeepsLawful, RepliesPlainly}
+use Rattle.ipcz_world.specs.Lawful.{RunAny}
+use Rattle.ipcz_world.specs.WorldLaws.{RepliesPlainly}
 
 -- of the same steps, with the same replies
 pub plain_run : StepKeepsLawful → RepliesPlainly → (w v : World) (b c : Books) (g h : Routes) (steps : List Step) (replies : List Reply) →

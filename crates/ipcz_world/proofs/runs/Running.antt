@@ -2,30 +2,25 @@
 use Rattle.std.specs.Prelude.{◌≡◌, ◌⊎◌, ◌<◌, ℕ, Bool, true, false, nat_lt, List, [], ◌∷◌, refl}
 use Rattle.std.proofs.Common.{arith, subst, sym, inl, inr}
 use Rattle.std.proofs.lemmas.Bool.Decides.{nat_tests}
-use Rattle.ipcz_world.proofs.Vocabulary.{End, Refusal, Act, Reply, World, can_take, after_act, unless, Books, at_end, Records, Inv, Node}
-use Rattle.ipcz_base.specs.declared.profile.Profile.{Profile}
-use Rattle.ipcz_base.specs.declared.profile.Profile.TheVariants.{Printed, Wide}
+use Rattle.ipcz_world.proofs.Vocabulary.{End, Refusal, Act, Reply, World, can_take, after_act, unless, Books, at_end, Records, Inv, Node, Profile}
+use Rattle.ipcz_world.proofs.Vocabulary.{Printed, Wide, Step, new_world, turn_lacks_serials, turn_event, Effect, open_step, close_step, turn_step}
+use Rattle.ipcz_world.proofs.Vocabulary.{StepAny, no_books, advance, after_turn, Routes, routes_after, routes_after_turn, routes_of, Lawful}
+use Rattle.ipcz_world.proofs.Vocabulary.{StepKeepsLawful, AreFlagged, FlagsAgree}
 use Rattle.ipcz_base.specs.declared.refusal.Refusal.TheVariants as refusals
-use Rattle.ipcz_world.specs.declared.step.Step.{Step}
 use Rattle.ipcz_world.specs.declared.step.Step.TheVariants as steps
 use Rattle.ipcz_world.specs.declared.step.Reply.TheVariants as replies
-use Rattle.ipcz_world.specs.World.{new_world}
-use Rattle.ipcz_world.specs.Turns.{turn_lacks_serials, turn_event}
-use Rattle.ipcz_world.specs.Steps.{Effect, open_step, put_of, put_step, get_step, close_step, turn_step, StepAny}
-use Rattle.ipcz_world.specs.Books.{no_books, advance, after_turn}
-use Rattle.ipcz_world.specs.Routes.{Routes, first_routes, routes_after, routes_after_turn}
+use Rattle.ipcz_world.specs.Steps.{put_of, put_step, get_step}
+use Rattle.ipcz_world.specs.Routes.{first_routes}
 use Rattle.ipcz_world.specs.Places.{in_places, unread_weight}
-use Rattle.ipcz_world.specs.Records.{routes_of}
 use Rattle.ipcz_world.specs.Laws.{KeepsLinks, WordLaw}
-use Rattle.ipcz_world.specs.Lawful.{Lawful, RunAny, IsWithinLimits, IsReached, Headline}
-use Rattle.ipcz_world.specs.WorldLaws.{StartsLawful, StepKeepsLawful, LinksStay, HeadlineHolds, NothingStrays}
+use Rattle.ipcz_world.specs.Lawful.{RunAny, IsWithinLimits, IsReached, Headline}
+use Rattle.ipcz_world.specs.WorldLaws.{StartsLawful, LinksStay, HeadlineHolds, NothingStrays}
 use Rattle.ipcz_world.proofs.lawful.LinkLaws.{link_law, bypass_law}
 use Rattle.ipcz_world.proofs.lawful.WordLaws.{word_law}
 use Rattle.ipcz_world.proofs.lawful.LengthLaws.{length_law}
 use Rattle.ipcz_world.proofs.frames.StrayLaws.{stray_law}
 use Rattle.ipcz_world.proofs.acts.Seeing.{stays-same}
 use Rattle.ipcz_world.proofs.runs.NodeSteps.{IsKept, kept-step}
-use Rattle.ipcz_world.specs.Owed.{AreFlagged, FlagsAgree}
 use Rattle.ipcz_world.proofs.lawful.StepWakers.{IsOwing, step_owing, step_came}
 use Rattle.ipcz_world.proofs.lawful.Tracking.{Came}
 use Rattle.ipcz_world.specs.Owed.{GoneUnread}

@@ -1,21 +1,16 @@
 -- The opening world keeps the invariant: on a world without routers the terminals of one first pair after the other come to stand.
-use Rattle.ipcz_world.specs.Records.{is_lost_owner}
+use Rattle.ipcz_world.proofs.Vocabulary.{LinkId, Central, Peripheral, Side, A, empty_word, open_word, bare_node, outbox, Empty, node_at, Records}
+use Rattle.ipcz_world.proofs.Vocabulary.{Linked, is_linked, is_nowhere, Inv, is_lost_owner, is_left, none, numbers_from, new_world, no_books}
+use Rattle.ipcz_world.proofs.Vocabulary.{Unclaimed, Nowhere, routes_of}
 use Rattle.ipcz_word.specs.SideSets.{has-none}
-use Rattle.ipcz_world.proofs.Vocabulary.{LinkId, Central, Peripheral, Side}
-use Rattle.ipcz_world.specs.Records.{is_left}
-use Rattle.ipcz_word.specs.SideSets.{none}
 use Rattle.std.specs.Prelude.{◌≡◌, ◌⊎◌, ◌≤◌, ◌<◌, ◌+◌, ◌-◌, ◌*◌, ℕ, zero, suc, Bool, true, false, cond, nat_le, nat_lt, Some, None, refl}
 use Rattle.std.specs.Prelude.{List, [], ◌∷◌, ◌++◌, length, replicate, slice_get}
 use Rattle.std.proofs.Common.{arith, ap, subst, ◌∙◌, sym, inl, inr}
 use Rattle.std.proofs.lemmas.Bool.Decides.{nat_tests}
 use Rattle.std.proofs.lemmas.List.{length-append, length-replicate}
-use Rattle.ipcz_world.proofs.Vocabulary.{A, empty_word, open_word, bare_node, outbox, Empty, node_at, Records, Linked, is_linked}
-use Rattle.ipcz_world.proofs.Vocabulary.{is_nowhere, Inv}
 use Rattle.ipcz_node.specs.Node.{outbox_count}
 use Rattle.ipcz_node.specs.FirstPairs.{new_node, first_pairs, first_pairs_from, pairs_from, add_pairs}
-use Rattle.ipcz_world.specs.World.{numbers_from, new_nodes, new_world}
-use Rattle.ipcz_world.specs.Books.{no_books}
-use Rattle.ipcz_world.specs.Records.{Unclaimed, Nowhere, routes_of}
+use Rattle.ipcz_world.specs.World.{new_nodes}
 use Rattle.ipcz_world.specs.Routes.{first_routes}
 use Rattle.ipcz_world.specs.Lawful.{IsWithinLimits}
 use Rattle.ipcz_world.specs.Settling.{IsBounded}

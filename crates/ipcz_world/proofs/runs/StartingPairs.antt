@@ -1,10 +1,9 @@
 -- A world that begins with some pairs: one pair more, between two nodes, keeps the invariant.
-use Rattle.ipcz_word.specs.SideSets.{none}
+use Rattle.ipcz_world.proofs.Vocabulary.{Weight, in_router, times, Side, A, B, End, opposite_end, same_end, opposite, total, total_list, Router}
+use Rattle.ipcz_world.proofs.Vocabulary.{empty_word, open_word, Node, bare_node, outbox, Empty, World, Key, node_at, word_at, mail_at, router_at, way}
+use Rattle.ipcz_world.proofs.Vocabulary.{flow, messages_in, Records, Owner, Linked, Terminal, At, is_linked, is_unclaimed, is_nowhere, terminal_node}
+use Rattle.ipcz_world.proofs.Vocabulary.{under_way, times_held, none, add_end, new_end, no_books, Unclaimed, CentralRecord}
 use Rattle.ipcz_world.proofs.frames.OfRecords.{holds, held_times, in_message, in_places}
-use Rattle.ipcz_world.proofs.Vocabulary.{Weight, in_router, times, Side, A, B, End, opposite_end, same_end, opposite, total, total_list}
-use Rattle.ipcz_world.proofs.Vocabulary.{Router, empty_word, open_word, Node, bare_node, outbox, Empty, World, Key, node_at, word_at}
-use Rattle.ipcz_world.proofs.Vocabulary.{mail_at, router_at, way, flow, messages_in, Records, Owner, Linked, Terminal, At, is_linked}
-use Rattle.ipcz_world.proofs.Vocabulary.{is_unclaimed, is_nowhere, terminal_node, under_way, times_held}
 use Rattle.ipcz_world.specs.Places.{in_node as in_node', in_places as in_places'}
 use Rattle.std.specs.Prelude.{◌≡◌, ◌≢◌, ◌⊎◌, ◌≤◌, ◌<◌, ◌+◌, ◌-◌, ◌*◌, ℕ, Bool, true, false, cond, nat_eq, nat_le, nat_lt, Some, None, refl}
 use Rattle.std.specs.Prelude.{List, [], ◌∷◌, ◌++◌, length}
@@ -13,10 +12,8 @@ use Rattle.std.specs.FinMap.{get, insert, get-insert}
 use Rattle.std.proofs.Common.{arith, ap, subst, ◌∙◌, sym, inl, inr}
 use Rattle.std.proofs.lemmas.Bool.Decides.{nat_tests}
 use Rattle.std.proofs.lemmas.Option.{none-some}
-use Rattle.ipcz_node.specs.Node.{add_end, new_end, with_ends}
+use Rattle.ipcz_node.specs.Node.{with_ends}
 use Rattle.ipcz_node.specs.FirstPairs.{add_pairs}
-use Rattle.ipcz_world.specs.Books.{no_books}
-use Rattle.ipcz_world.specs.Records.{Unclaimed, CentralRecord}
 use Rattle.ipcz_world.proofs.frames.Changing.{flow_is}
 use Rattle.ipcz_world.proofs.frames.Holding.{holds-with_ends, times-with_ends, held_times-most, times_held-at}
 use Rattle.ipcz_world.proofs.frames.Calling.{nowhere_unheld}

@@ -3,27 +3,21 @@ use Rattle.std.specs.Prelude.{◌≡◌, ◌⊎◌, ◌<◌, ℕ, true, Option, 
 use Rattle.std.proofs.Common.{arith, ap, subst, ◌∙◌, sym, inl, inr}
 use Rattle.std.proofs.lemmas.Bool.Decides.{nat_tests}
 use Rattle.std.proofs.lemmas.Option.{same_Some, slice_get_within}
-use Rattle.ipcz_world.proofs.Vocabulary.{LinkId, Central, LinkEnd, Item, Refusal, opposite_end, word_of, has, current_item, Router}
-use Rattle.ipcz_world.proofs.Vocabulary.{is_terminal, is_possible, RouterAct, Act, Hand, Close, Reply, World, Key, way, mail_at, node_at}
-use Rattle.ipcz_world.proofs.Vocabulary.{word_at, router_at, can_take, hand_message, answer_of, Books, read, Records, side_end}
-use Rattle.ipcz_world.proofs.Vocabulary.{has_primary, IsRecorded, Inv}
+use Rattle.ipcz_world.proofs.Vocabulary.{LinkId, Central, LinkEnd, Item, Refusal, opposite_end, word_of, has, current_item, Router, is_terminal}
+use Rattle.ipcz_world.proofs.Vocabulary.{is_possible, RouterAct, Act, Hand, Close, Reply, World, Key, way, mail_at, node_at, word_at, router_at}
+use Rattle.ipcz_world.proofs.Vocabulary.{can_take, hand_message, answer_of, Books, read, Records, side_end, has_primary, IsRecorded, Inv, may_take}
+use Rattle.ipcz_world.proofs.Vocabulary.{is_rest, Look, Post, Idle, Happened, event_of, Step, turn_event, router_seen, may_act, turn_step, StepAny}
+use Rattle.ipcz_world.proofs.Vocabulary.{after_turn, advance, Gone, has_gone_next, next_number}
 use Rattle.ipcz_base.specs.declared.refusal.Refusal.TheVariants as refusals
-use Rattle.ipcz_router.specs.ActTable.{may_take, is_rest}
 use Rattle.ipcz_router.specs.declared.act.RouterAct.TheVariants as acts
-use Rattle.ipcz_node.specs.declared.act.Act.TheVariants.{Look, Post, Router as OfRouter, Idle}
-use Rattle.ipcz_node.specs.declared.happened.Happened.{Happened}
+use Rattle.ipcz_node.specs.declared.act.Act.TheVariants.{Router as OfRouter}
 use Rattle.ipcz_node.specs.declared.happened.Happened.TheVariants as events
-use Rattle.ipcz_node.specs.Events.{hand_event, link_of, event_of}
-use Rattle.ipcz_world.specs.declared.step.Step.{Step}
+use Rattle.ipcz_node.specs.Events.{hand_event, link_of}
 use Rattle.ipcz_world.specs.declared.step.Step.TheVariants as steps
 use Rattle.ipcz_world.specs.declared.step.Reply.TheVariants as replies
-use Rattle.ipcz_world.specs.Turns.{turn_event, hand_seen, router_seen, may_act}
-use Rattle.ipcz_world.specs.Steps.{turn_step, StepAny}
-use Rattle.ipcz_world.specs.Books.{after_turn, after_discard, after_retire, advance}
-use Rattle.ipcz_base.specs.declared.item.Item.TheVariants.{Gone}
-use Rattle.ipcz_router.specs.Acts.{has_gone_next}
+use Rattle.ipcz_world.specs.Turns.{hand_seen}
+use Rattle.ipcz_world.specs.Books.{after_discard, after_retire}
 use Rattle.ipcz_router.specs.Router.{primary_word}
-use Rattle.ipcz_router.specs.Calls.{next_number}
 use Rattle.ipcz_world.proofs.acts.Flags.{OnWord, on-word}
 use Rattle.ipcz_world.proofs.acts.Retiring as retiring
 use Rattle.ipcz_world.proofs.facts.Drained.{gone_next-tells}

@@ -8,4 +8,4 @@ split_seat-caller-requires g c =
     let f = c.fabric.invariant in
     let wide = ap (λ (z : TableId). z.words) f.0 in
     let laid = f.5.words in
-    (c.requires.own ∙ sym f.0, omega (arith, wide, laid), seats_last.2 _ _ _ _ _ _ _ c.requires.whole)
+    (c.requires.own ∙ sym f.0, omega (arith, wide, laid), λ s l at. (seats_last.2 _ _ _ _ _ _ _ c.requires.whole s l at).0)

@@ -13,4 +13,4 @@ join_seat-requires g c =
     let wide = ap (λ (z : TableId). z.words) f.0 in
     let laid = f.5.words in
     let seat = c.into_seat.ensures in
-    (c.requires.own.0 ∙ sym f.0, seat.0 ∙ (c.requires.own.1 ∙ sym f.0), seat.3, omega (arith, wide, laid), seats_last.1 _ _ _ _ _ _ _ _)
+    (c.requires.own.0 ∙ sym f.0, seat.0 ∙ (c.requires.own.1 ∙ sym f.0), seat.3, omega (arith, wide, laid), λ s l at apart there. (seats_last.1 _ _ _ _ _ _ _ _ s l at apart there).0)

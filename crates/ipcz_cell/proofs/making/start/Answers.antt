@@ -14,4 +14,4 @@ vacant-requires c =
     let slots : c.from.result * c.from-2.result ≡ n * n = ap (λ (k : ℕ). k * c.from-2.result) c.from.ensures ∙ ap (λ (k : ℕ). n * k) c.from-2.ensures in
     subst (λ (ws : List ℕ). LastingRules n size size false (opening ws (no_messages (c.from.result * c.from-2.result)) (own_of (opening_view n) [] [] []))) (sym words)
     (subst (λ (k : ℕ). LastingRules n size size false (opening (whole_words n size) (no_messages k) (own_of (opening_view n) [] [] []))) (sym slots)
-    (start_lasts.1 n size c.requires.limits))
+    (start_lasts.1 n size c.requires.limits).0)

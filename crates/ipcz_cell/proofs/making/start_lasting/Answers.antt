@@ -20,4 +20,4 @@ vacant-requires c =
     subst (λ (ws : List ℕ). LastingRules n size c.args.slots true (opening ws (no_messages (c.from.result * c.from-2.result)) (own_of (opening_view n) [] [] []))) (sym words)
     (subst (λ (k : ℕ). LastingRules n size c.args.slots true (opening (lasting_words n spare) (no_messages k) (own_of (opening_view n) [] [] []))) (sym slots)
     (subst (λ (k : ℕ). LastingRules n size k true (opening (lasting_words n spare) (no_messages (n * n)) (own_of (opening_view n) [] [] []))) all
-    (start_lasts.0 n size spare c.requires.limits (omega (arith, pairs, most)))))
+    (start_lasts.0 n size spare c.requires.limits (omega (arith, pairs, most))).0))

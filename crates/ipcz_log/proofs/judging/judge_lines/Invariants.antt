@@ -1,12 +1,15 @@
-use Rattle.std.proofs.Common.{ℕ, [], length}
-use Rattle.ipcz_base.specs.declared.profile.Profile.{Profile}
-use Rattle.ipcz_verdict.specs.Desks.{HasAllowed}
-use Rattle.ipcz_log.specs.Steps.{Reaches}
-use Rattle.ipcz_log.specs.Verdicts.{text_lines}
+use Rattle.std.proofs.Common.{◌≡◌, ◌-◌, ◌^◌, List, ℕ, Option, [], false}
+use Rattle.ipcz_log.specs.Pieces.{ConsumesSome}
+use Rattle.ipcz_log.specs.Steps.{Goes, Reaches}
+use Rattle.ipcz_log.specs.Verdicts.{IsSaidOf}
 use Rattle.ipcz_log.proofs.judging.judge_lines.Given as goal
 
-abbrev pub invariant-loop-rest : goal.invariant-loop-rest
-invariant-loop-rest l = (nodes : ℕ) (profile : Profile) → HasAllowed l.fn.judge nodes profile [] → Reaches nodes profile l.judge l.number (text_lines l.fn.text) (text_lines l.rest)
+abbrev pub invariant-judging : goal.invariant-judging
+invariant-judging g l =
+    (l.reader.failed ≡ false)
+    × ConsumesSome (g.R.Read.remaining l.fn.reader.inner) (g.R.Read.remaining l.reader.inner)
+    × ((before : Option (List ℕ)) → Goes before (g.R.Read.remaining l.fn.reader.inner) l.fn.lines (IsSaidOf l.fn.header.nodes l.fn.header.profile [] 2) →
+    Reaches before (g.R.Read.remaining l.reader.inner) l.lines l.fn.header.nodes l.fn.header.profile l.judge l.number)
 
-abbrev pub decreases-loop-rest : goal.decreases-loop-rest
-decreases-loop-rest l = length l.rest
+abbrev pub decreases-judging : goal.decreases-judging
+decreases-judging g l = 2 ^ 64 - l.number

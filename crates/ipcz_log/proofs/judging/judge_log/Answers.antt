@@ -1,25 +1,33 @@
-use Rattle.std.proofs.Common.{[], sym, subst, take}
-use Rattle.std.proofs.lemmas.Result.{IfOk-weaker}
-use Rattle.ipcz_log.specs.Verdicts.{IsHeader, IsSaidBehind, IsSaidOf, IsSaidOfLogs, IsVerdict, text_lines}
+use Rattle.std.proofs.Common.{[], Some, None, arith, subst}
+use Rattle.ipcz_log.specs.Verdicts.{IsHeader, IsSaidOf, IsSaidOfLogs}
+use Rattle.ipcz_log.proofs.Cutting.{consumes_more}
 use Rattle.ipcz_log.proofs.Hearing.{headed, headless}
 use Rattle.ipcz_log.proofs.judging.judge_log.Goals as goal
 
-pub returns-in_default : goal.returns-in_default
-returns-in_default c = headless c.args.bytes.now c.line_len-len.result c.line_len-len.ensures.len
-    (subst (λ o. IsHeader (take c.line_len-len.result c.args.bytes.now) o) c.in_default.is c.in_ok-header.ensures.header)
+pub returns-in_default-clause-verdict : goal.returns-in_default-clause-verdict
+returns-in_default-clause-verdict g c =
+    headless (g.R.Read.remaining c.args.reader.now.inner) (g.R.Read.remaining c.next.new.reader.inner) c.new-lines.result c.next.new.self c.in_ok-next.field-0 c.new-lines.ensures.unread
+    (c.in_ok-next.ensures.line (λ e. absurd (grind (arith, c.new-lines.ensures.ended, e))))
+    (subst (λ o. IsHeader c.next.new.self.line o) c.in_default.is (subst (λ l. IsHeader l c.in_ok-header.field-0) c.line.ensures c.in_ok-header.ensures.header))
 
-pub returns-in-Some-logs : goal.returns-in-Some-logs
-returns-in-Some-logs c =
-    IfOk-weaker c.judge_logs.result (λ v. IsSaidOfLogs c.in-Some.header.nodes c.in-Some.header.profile c.in-Some-logs.count [] 2 (text_lines c.behind-text.result.now) v) (λ v. IsVerdict c.args.bytes.now v)
-    (λ v said. headed c.args.bytes.now c.line_len-len.result c.behind-text.result.now c.in-Some.header v c.line_len-len.ensures.len c.behind-text.ensures
-    (subst (λ o. IsHeader (take c.line_len-len.result c.args.bytes.now) o) c.in-Some.is c.in_ok-header.ensures.header)
-    (subst (λ o. IsSaidBehind c.in-Some.header o (text_lines c.behind-text.result.now) v) (sym c.in-Some-logs.is) said))
-    c.judge_logs.ensures
+pub returns-in-Some-logs-clause-verdict : goal.returns-in-Some-logs-clause-verdict
+returns-in-Some-logs-clause-verdict g c = c.judge_logs.ensures.said (g.R.Read.remaining c.args.reader.now.inner)
+    (headed (g.R.Read.remaining c.args.reader.now.inner) (g.R.Read.remaining c.next.new.reader.inner) c.new-lines.result c.next.new.self c.in_ok-next.field-0 c.in-Some.header
+    (Some c.in-Some-logs.count) (IsSaidOfLogs c.in-Some.header.nodes c.in-Some.header.profile c.in-Some-logs.count [] 2) c.in-Some-logs.is (λ ls v said. said) c.new-lines.ensures.unread
+    (c.in_ok-next.ensures.line (λ e. absurd (grind (arith, c.new-lines.ensures.ended, e))))
+    (subst (λ o. IsHeader c.next.new.self.line o) c.in-Some.is (subst (λ l. IsHeader l c.in_ok-header.field-0) c.line.ensures c.in_ok-header.ensures.header)))
 
-pub returns : goal.returns
-returns c =
-    IfOk-weaker c.judge_lines.result (λ v. IsSaidOf c.in-Some.header.nodes c.in-Some.header.profile [] 2 (text_lines c.behind-text.result.now) v) (λ v. IsVerdict c.args.bytes.now v)
-    (λ v said. headed c.args.bytes.now c.line_len-len.result c.behind-text.result.now c.in-Some.header v c.line_len-len.ensures.len c.behind-text.ensures
-    (subst (λ o. IsHeader (take c.line_len-len.result c.args.bytes.now) o) c.in-Some.is c.in_ok-header.ensures.header)
-    (subst (λ o. IsSaidBehind c.in-Some.header o (text_lines c.behind-text.result.now) v) (sym c.in_default-logs.is) said))
-    (c.judge_lines.ensures c.in-Some.header.nodes c.in-Some.header.profile c.in_ok-judge.ensures.nothing)
+pub returns-in-Some-logs-clause-taken : goal.returns-in-Some-logs-clause-taken
+returns-in-Some-logs-clause-taken g c = consumes_more (g.R.Read.remaining c.args.reader.now.inner) (g.R.Read.remaining c.next.new.reader.inner) (g.R.Read.remaining c.judge_logs.new.reader.inner)
+    c.next.ensures.taken c.judge_logs.ensures.taken
+
+pub returns-clause-verdict : goal.returns-clause-verdict
+returns-clause-verdict g c = c.judge_lines.ensures.said (g.R.Read.remaining c.args.reader.now.inner)
+    (headed (g.R.Read.remaining c.args.reader.now.inner) (g.R.Read.remaining c.next.new.reader.inner) c.new-lines.result c.next.new.self c.in_ok-next.field-0 c.in-Some.header
+    None (IsSaidOf c.in-Some.header.nodes c.in-Some.header.profile [] 2) c.in-None.is (λ ls v said. said) c.new-lines.ensures.unread
+    (c.in_ok-next.ensures.line (λ e. absurd (grind (arith, c.new-lines.ensures.ended, e))))
+    (subst (λ o. IsHeader c.next.new.self.line o) c.in-Some.is (subst (λ l. IsHeader l c.in_ok-header.field-0) c.line.ensures c.in_ok-header.ensures.header)))
+
+pub returns-clause-taken : goal.returns-clause-taken
+returns-clause-taken g c = consumes_more (g.R.Read.remaining c.args.reader.now.inner) (g.R.Read.remaining c.next.new.reader.inner) (g.R.Read.remaining c.judge_lines.new.reader.inner)
+    c.next.ensures.taken c.judge_lines.ensures.taken

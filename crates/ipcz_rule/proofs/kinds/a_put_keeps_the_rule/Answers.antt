@@ -1,6 +1,5 @@
-use Rattle.std.specs.Prelude.{true}
-use Rattle.ipcz_rule.proofs.Putting.{puts}
+use Rattle.ipcz_rule.proofs.Putting.{puts_deeds}
 use Rattle.ipcz_rule.proofs.kinds.a_put_keeps_the_rule.Goals as goal
 
 pub returns : goal.returns
-returns c = puts true
+returns c = puts_deeds

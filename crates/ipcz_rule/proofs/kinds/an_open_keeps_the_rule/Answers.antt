@@ -1,6 +1,5 @@
-use Rattle.std.specs.Prelude.{true}
-use Rattle.ipcz_rule.proofs.Opening.{opens}
+use Rattle.ipcz_rule.proofs.Opening.{opens_deeds}
 use Rattle.ipcz_rule.proofs.kinds.an_open_keeps_the_rule.Goals as goal
 
 pub returns : goal.returns
-returns c = opens true
+returns c = opens_deeds

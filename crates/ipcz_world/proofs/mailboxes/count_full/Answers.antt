@@ -1,5 +1,5 @@
 use Rattle.std.proofs.Common.{◌≡◌, ◌∙◌, ℕ, Bool, true, cond, get_or, arith, ap, sym}
-use Rattle.ipcz_world.specs.Turns.{is_full}
+use Rattle.ipcz_world.proofs.Vocabulary.{is_full}
 use Rattle.ipcz_world.proofs.code.Marks.{count-most}
 use Rattle.ipcz_world.proofs.code.Tallying.{left-next}
 use Rattle.ipcz_world.proofs.mailboxes.count_full.Goals as goal

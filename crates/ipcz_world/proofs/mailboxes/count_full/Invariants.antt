@@ -1,7 +1,7 @@
 use Rattle.std.proofs.Common.{◌≡◌, ◌+◌, cond, drop}
 use Rattle.ipcz_base.specs.Totals.{total_list}
 use Rattle.ipcz_world.specs.Mailing.{count_full}
-use Rattle.ipcz_world.specs.Turns.{is_full}
+use Rattle.ipcz_world.proofs.Vocabulary.{is_full}
 use Rattle.ipcz_world.proofs.mailboxes.count_full.Given as goal
 
 -- those so far are counted

@@ -8,4 +8,4 @@ load_new_seat-seat-requires g c =
     let f = c.self.invariant in
     let wide = ap (λ (z : TableId). z.words) f.0 in
     let laid = f.5.words in
-    (omega (arith, wide, laid), seats_last.3 _ _ _ _ _ _)
+    (omega (arith, wide, laid), λ s l deep small. let h = seats_last.3 _ _ _ _ _ _ s l deep small in (h.0, h.1.0, h.2))

@@ -6,5 +6,5 @@ pub returns-clause-answer : goal.returns-clause-answer
 returns-clause-answer g c = λ _. record {
   cell = c.deref_mut.result.now;
   here = lent g.F.FabricName.table _ _ _ _ refl c.deref_mut.ensures.value c.lock.ensures;
-  holds = (c.acts.ensures.did.0, c.acts.ensures.did.1);
+  holds = (c.acts-answer.ensures.did.0, c.acts-answer.ensures.did.1);
 }

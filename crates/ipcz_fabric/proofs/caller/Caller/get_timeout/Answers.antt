@@ -1,4 +1,5 @@
-use Rattle.ipcz_fabric.proofs.Portaling.{are_there, take_refused}
+use Rattle.ipcz_fabric.proofs.Portaling.{are_there}
+use Rattle.ipcz_fabric.proofs.Stops.{missing_by}
 use Rattle.ipcz_fabric.proofs.Taking.{got_by}
 use Rattle.ipcz_fabric.proofs.caller.Caller.get_timeout.Goals as goal
 
@@ -11,4 +12,4 @@ returns-in-Ok-clause-here g c = let got = got_by g.F.FabricName.table _ _ _ _ _ 
     c.arrival_of.ensures.bytes c.arrival_of.ensures.portals c.place-node.ensures.node in are_there _ _ _ got.holds.portals_are
 
 pub returns-in-Err-clause-why : goal.returns-in-Err-clause-why
-returns-in-Err-clause-why g c = take_refused c.in-Err.ensures.refused.cell.part.state _ _ c.in-Err.ensures.refused.holds
+returns-in-Err-clause-why g c = missing_by g.F.FabricName.table _ _ c.in-Err.missed c.in-Err.ensures.refused

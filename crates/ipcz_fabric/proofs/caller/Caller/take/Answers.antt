@@ -1,6 +1,9 @@
 use Rattle.std.proofs.Common.{ap, sym, ◌∙◌}
 use Rattle.ipcz_node.specs.Calls.{get_refusal, got_at}
-use Rattle.ipcz_fabric.proofs.Locking.{lent, if_allowed, if_err}
+use Rattle.ipcz_fabric.specs.Stopping.{stop_in}
+use Rattle.ipcz_rule.specs.Histories.{at_node}
+use Rattle.ipcz_fabric.proofs.Locking.{lent, if_allowed}
+use Rattle.ipcz_fabric.proofs.Stops.{missed_all, tells_of}
 use Rattle.ipcz_fabric.proofs.caller.Caller.take.Goals as goal
 
 pub returns-clause-taken : goal.returns-clause-taken
@@ -13,10 +16,15 @@ returns-clause-taken g c = if_allowed
     c.take.result c.take.ensures.allowed c.take.ensures.parcel
 
 pub returns-clause-refused : goal.returns-clause-refused
-returns-clause-refused g c = if_err
+returns-clause-refused g c = missed_all g.F.FabricName.table c.args.portal.now.node c.args.portal.now.end (at_node c.deref_mut.result.now.part.node c.take.new.me.seen)
     (λ e h. record {
       cell = c.deref_mut.result.now;
       here = lent g.F.FabricName.table _ _ _ _ c.place-node.ensures.node c.deref_mut.ensures.value c.lock.ensures;
       holds = ap (get_refusal c.deref_mut.result.now.part.state) (sym c.end.ensures) ∙ h;
     })
-    c.take.result c.take.ensures.why
+    c.take.result c.take.ensures.why c.take.ensures.stop
+
+pub returns-clause-stop : goal.returns-clause-stop
+returns-clause-stop g c =
+    let here = (lent g.F.FabricName.table _ _ _ _ c.place-node.ensures.node c.deref_mut.ensures.value c.lock.ensures).node_is in
+    tells_of c.take.result _ _ (ap (λ n. stop_in (at_node n c.take.new.me.seen)) here) c.take.ensures.stop

@@ -1,19 +1,30 @@
-use Rattle.std.proofs.Common.{ℕ, ◌≡◌, ◌≢◌, ◌∙◌, ap, refl, sym, take}
-use Rattle.std.specs.Prelude.{Ok, Err}
+use Rattle.std.proofs.Common.{ℕ, ◌≡◌, ◌≢◌, ◌∙◌, ap, refl, subst, sym, take}
+use Rattle.std.specs.Prelude.{Bool, true, false, Ok, Err, MatchBool}
 use Rattle.ipcz_base.specs.declared.refusal.Refusal.TheVariants.{Empty}
-use Rattle.ipcz_fabric.specs.Portals.{IsGot, IsRefusedTake, portals_at}
+use Rattle.ipcz_rule.specs.Histories.{at_node}
+use Rattle.ipcz_fabric.specs.declared.missed.Missed.{Missed}
+use Rattle.ipcz_fabric.specs.declared.missed.Missed.TheVariants.{Refused}
+use Rattle.ipcz_fabric.specs.Portals.{IsGot, portals_at}
+use Rattle.ipcz_fabric.specs.Stopping.{IsMissed, TellsStop, refusal_of, stop_in}
 use Rattle.ipcz_fabric.specs.Selecting.{GivesParcel}
 use Rattle.ipcz_fabric.proofs.AskedInTurn.{more_empty, first_at, all_empty, vain_more, vain_all, looked_at}
 use Rattle.ipcz_fabric.proofs.Taking.{got_by}
 use Rattle.ipcz_fabric.proofs.caller.Caller.take_first.Goals as goal
 
+-- what the test tells
+empty : (found : Bool) (why : Missed) → found ≡ true → MatchBool found (why ≡ Refused Empty) (why ≢ Refused Empty) → why ≡ Refused Empty
+empty found why is h = subst (λ b. MatchBool b (why ≡ Refused Empty) (why ≢ Refused Empty)) is h
+
+full : (found : Bool) (why : Missed) → found ≡ false → MatchBool found (why ≡ Refused Empty) (why ≢ Refused Empty) → why ≢ Refused Empty
+full found why is h = subst (λ b. MatchBool b (why ≡ Refused Empty) (why ≢ Refused Empty)) is h
+
 pub loop-place-preserved : goal.loop-place-preserved
 loop-place-preserved g c =
     let t = g.F.FabricName.table in (
       more_empty t c.args.portals.now c.loop-place.place c.index-portals-place.result c.loop-place-test.true c.index-portals-place.is c.loop-place.invariant.0
-          c.in-Err.why c.in-Empty.is c.in-Err.ensures.refused,
-      vain_more t c.args.portals.now c.loop-place.place c.index-portals-place.result c.args.self.now c.loop-place.self c.take.new.self c.in-Err.why c.loop-place-test.true
-          c.index-portals-place.is c.loop-place.invariant.1 c.in-Empty.is c.in-Err.ensures.extends,
+          Empty refl (subst (IsMissed t c.index-portals-place.result.node c.index-portals-place.result.end) (empty c.is_empty.result c.in-Err.why c.if-not-is_empty.false c.is_empty.ensures) c.in-Err.ensures.refused),
+      vain_more t c.args.portals.now c.loop-place.place c.index-portals-place.result c.args.self.now c.loop-place.self c.take.new.self (refusal_of c.in-Err.why) c.loop-place-test.true
+          c.index-portals-place.is c.loop-place.invariant.1 (ap refusal_of (empty c.is_empty.result c.in-Err.why c.if-not-is_empty.false c.is_empty.ensures)) c.in-Err.ensures.extends,
     )
 
 pub returns-in-Ok-clause-got : goal.returns-in-Ok-clause-got
@@ -37,17 +48,18 @@ returns-in-Ok-clause-extends g c =
       },
     )
 
-pub returns-in_default-clause-refused : goal.returns-in_default-clause-refused
-returns-in_default-clause-refused g c =
+pub returns-then-not-is_empty-clause-refused : goal.returns-then-not-is_empty-clause-refused
+returns-then-not-is_empty-clause-refused g c =
     let t = g.F.FabricName.table in
     first_at t c.args.portals.now c.loop-place.place c.index-portals-place.result c.loop-place-test.true c.index-portals-place.is c.loop-place.invariant.0
-    (λ p. IsRefusedTake t p.node p.end c.in-Err.why × (c.in-Err.why ≢ Empty)) (c.in-Err.ensures.refused, c.in_default.not-Empty)
+    (λ p. IsMissed t p.node p.end c.in-Err.why × (c.in-Err.why ≢ Refused Empty)) (c.in-Err.ensures.refused, full c.is_empty.result c.in-Err.why c.if-not-is_empty.true c.is_empty.ensures)
 
-pub returns-in_default-clause-extends : goal.returns-in_default-clause-extends
-returns-in_default-clause-extends g c =
+pub returns-then-not-is_empty-clause-extends : goal.returns-then-not-is_empty-clause-extends
+returns-then-not-is_empty-clause-extends g c =
     let t = g.F.FabricName.table in
     looked_at t c.args.portals.now c.loop-place.place c.index-portals-place.result c.args.self.now c.loop-place.self c.take.new.self c.loop-place-test.true
-    c.index-portals-place.is c.loop-place.invariant.1 (Err c.in-Err.why) c.in-Err.ensures.extends (λ p answer. answer ≡ Err c.in-Err.why) refl
+    c.index-portals-place.is c.loop-place.invariant.1 (Err (refusal_of c.in-Err.why)) c.in-Err.ensures.extends
+    (λ p answer. (answer ≡ Err (refusal_of c.in-Err.why)) × TellsStop (stop_in (at_node p.node c.take.new.self.seen)) c.in-Err.why) (refl, c.in-Err.ensures.stop)
 
 pub returns-clause-refused : goal.returns-clause-refused
 returns-clause-refused g c = (refl, all_empty g.F.FabricName.table c.args.portals.now c.loop-place.place c.loop-place-test.false c.loop-place.invariant.0)

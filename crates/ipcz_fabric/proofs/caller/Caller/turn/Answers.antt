@@ -6,5 +6,5 @@ pub returns-then-node-nodes-clause-answer : goal.returns-then-node-nodes-clause-
 returns-then-node-nodes-clause-answer g c = λ _. record {
   cell = c.deref_mut.result.now;
   here = lent g.F.FabricName.table _ _ _ _ refl c.deref_mut.ensures.value c.lock.ensures;
-  holds = (c.turn.ensures.did.0, c.turn.ensures.did.1);
+  holds = (c.turn-answer.ensures.did.0, c.turn-answer.ensures.did.1);
 }

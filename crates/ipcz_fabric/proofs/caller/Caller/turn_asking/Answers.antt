@@ -8,19 +8,19 @@ pub returns-clause-answer : goal.returns-clause-answer
 returns-clause-answer g c = λ _. record {
   cell = c.deref_mut.result.now;
   here = lent g.F.FabricName.table _ _ _ _ refl c.deref_mut.ensures.value c.lock.ensures;
-  holds = (c.turn_asking_here.ensures.did.1.0, c.turn_asking_here.ensures.did.1.1);
+  holds = (c.turn_asking_here-answer.ensures.did.1.0, c.turn_asking_here-answer.ensures.did.1.1);
 }
 
 pub returns-clause-asking : goal.returns-clause-asking
 returns-clause-asking g c = λ _. record {
   cell = c.deref_mut.result.now;
   here = lent g.F.FabricName.table _ _ _ _ refl c.deref_mut.ensures.value c.lock.ensures;
-  holds = (_, _, c.turn_asking_here.ensures.did);
+  holds = (_, _, c.turn_asking_here-answer.ensures.did);
 }
 
 pub returns-clause-extends : goal.returns-clause-extends
 returns-clause-extends g c = λ _.
     let t = g.F.FabricName.table in
     let here = (lent t _ _ _ _ refl c.deref_mut.ensures.value c.lock.ensures).node_is in
-    subst (λ (d : CallerView). ExtendsByTurn t c.args.node c.turn_asking_here.result.0 d c.turn_asking_here.new.me) c.self.view_is
-    (subst (λ (n : ℕ). ExtendsByTurn t n c.turn_asking_here.result.0 c.self.inside.seat c.turn_asking_here.new.me) here c.turn_asking_here.ensures.extends)
+    subst (λ (d : CallerView). ExtendsByTurn t c.args.node c.turn_asking_here-answer.result.0 d c.turn_asking_here-answer.new.me) c.self.view_is
+    (subst (λ (n : ℕ). ExtendsByTurn t n c.turn_asking_here-answer.result.0 c.self.inside.seat c.turn_asking_here-answer.new.me) here c.turn_asking_here-answer.ensures.extends)

@@ -1,8 +1,8 @@
 use Rattle.std.proofs.Common.{◌≡◌, ap, ◌∙◌}
-use Rattle.ipcz_world.proofs.Vocabulary.{place_at, Word, empty_word}
+use Rattle.ipcz_world.proofs.Vocabulary.{place_at, Word, empty_word, WordTable, word_answer}
 use Rattle.ipcz_word.specs.Layout.{word_of_bits}
-use Rattle.ipcz_world.specs.Coding.{WordTable, put_word, side_answer, side_after}
-use Rattle.ipcz_world.specs.WordAnswers.{word_answer, word_after}
+use Rattle.ipcz_world.specs.Coding.{put_word, side_answer, side_after}
+use Rattle.ipcz_world.specs.WordAnswers.{word_after}
 use Rattle.ipcz_world.proofs.code.Tables.{laid, read_word, write_word}
 use Rattle.ipcz_world.proofs.link_words.LinkWords.answer_word.Goals as goal
 

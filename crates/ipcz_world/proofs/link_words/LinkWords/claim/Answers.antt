@@ -1,5 +1,6 @@
 use Rattle.std.proofs.Common.{◌<◌, length, arith, ap, ◌∙◌}
-use Rattle.ipcz_world.specs.Coding.{WordTable, claim_one, laid_table}
+use Rattle.ipcz_world.proofs.Vocabulary.{WordTable}
+use Rattle.ipcz_world.specs.Coding.{claim_one, laid_table}
 use Rattle.ipcz_world.proofs.code.Tables.{claim_word, laid_size}
 use Rattle.ipcz_world.proofs.link_words.LinkWords.claim.Goals as goal
 

@@ -1,6 +1,7 @@
 use Rattle.std.proofs.Common.{◌≡◌, ◌<◌, arith, ap, length, ◌∙◌, subst}
 use Rattle.ipcz_word.specs.Layout.{word_of_bits}
-use Rattle.ipcz_world.specs.Coding.{WordTable, source_at}
+use Rattle.ipcz_world.proofs.Vocabulary.{WordTable}
+use Rattle.ipcz_world.specs.Coding.{source_at}
 use Rattle.ipcz_world.proofs.code.Tables.{read_source}
 use Rattle.ipcz_world.proofs.link_words.LinkWords.source.Goals as goal
 

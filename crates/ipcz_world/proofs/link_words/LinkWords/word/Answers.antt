@@ -1,5 +1,6 @@
 use Rattle.std.proofs.Common.{◌≡◌, ◌<◌, arith, ap, length, Some, subst}
-use Rattle.ipcz_world.specs.Coding.{WordTable, claimed_word}
+use Rattle.ipcz_world.proofs.Vocabulary.{WordTable}
+use Rattle.ipcz_world.specs.Coding.{claimed_word}
 use Rattle.ipcz_world.proofs.code.Tables.{read_claimed}
 use Rattle.ipcz_world.proofs.link_words.LinkWords.word.Goals as goal
 

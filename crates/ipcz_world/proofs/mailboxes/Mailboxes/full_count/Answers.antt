@@ -1,6 +1,6 @@
 use Rattle.std.proofs.Common.{◌∙◌, cond, Some, arith, ap, subst, sym}
 use Rattle.ipcz_base.specs.Totals.{total_list}
-use Rattle.ipcz_world.specs.Turns.{is_clear}
+use Rattle.ipcz_world.proofs.Vocabulary.{is_clear}
 use Rattle.ipcz_world.specs.Tallies.{Tells}
 use Rattle.ipcz_world.proofs.code.Tallying.{tallied-item, tallied-list}
 use Rattle.ipcz_world.proofs.code.Marks.{clear-stand}

@@ -1,6 +1,6 @@
 use Rattle.std.proofs.Common.{drop, cond}
 use Rattle.ipcz_base.specs.Totals.{total_list}
-use Rattle.ipcz_world.specs.Turns.{is_clear}
+use Rattle.ipcz_world.proofs.Vocabulary.{is_clear}
 use Rattle.ipcz_world.proofs.code.Tallying.{IsTallied}
 use Rattle.ipcz_world.proofs.mailboxes.Mailboxes.full_count.Given as goal
 

@@ -1,5 +1,6 @@
 use Rattle.std.proofs.Common.{◌≡◌, ap, sym, ◌∙◌, arith}
-use Rattle.ipcz_world.specs.SettleLimit.{higher, highest, gone_mailed}
+use Rattle.ipcz_world.proofs.Vocabulary.{higher, highest}
+use Rattle.ipcz_world.specs.SettleLimit.{gone_mailed}
 use Rattle.ipcz_world.proofs.code.Tallying.{higher-none, highest-none}
 use Rattle.ipcz_world.proofs.code.Marks.{gone-stand}
 use Rattle.ipcz_world.proofs.mailboxes.Mailboxes.gone_most.Goals as goal

@@ -1,5 +1,6 @@
 use Rattle.std.proofs.Common.{◌∙◌, ◌<◌, length, arith, ap, sym}
-use Rattle.ipcz_world.specs.Turns.{is_full, hand_message}
+use Rattle.ipcz_world.proofs.Vocabulary.{is_full}
+use Rattle.ipcz_world.specs.Turns.{hand_message}
 use Rattle.ipcz_world.proofs.code.Marks.{gone, kept-gone, seen-read, within}
 use Rattle.ipcz_world.proofs.mailboxes.Mailboxes.hand_over.Goals as goal
 

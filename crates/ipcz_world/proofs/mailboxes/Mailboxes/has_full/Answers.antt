@@ -1,8 +1,7 @@
 use Rattle.std.proofs.Common.{◌≡◌, ◌∙◌, ℕ, arith, true, false, subst, sym}
 use Rattle.std.proofs.lemmas.Bool.Decides.{nat_tests}
-use Rattle.ipcz_world.proofs.Vocabulary.{place_at, Empty}
+use Rattle.ipcz_world.proofs.Vocabulary.{place_at, Empty, is_full}
 use Rattle.ipcz_world.specs.Mailing.{as_they_stand, count_full}
-use Rattle.ipcz_world.specs.Turns.{is_full}
 use Rattle.ipcz_world.proofs.code.Marks.{none-full, some-full}
 use Rattle.ipcz_world.proofs.mailboxes.Mailboxes.has_full.Goals as goal
 

@@ -1,5 +1,5 @@
 use Rattle.std.proofs.Common.{◌∙◌, arith, ap, sym}
-use Rattle.ipcz_world.specs.Turns.{is_clear}
+use Rattle.ipcz_world.proofs.Vocabulary.{is_clear}
 use Rattle.ipcz_world.proofs.code.Marks.{clear-marked, seen-at, within}
 use Rattle.ipcz_world.proofs.mailboxes.Mailboxes.is_clear.Goals as goal
 

@@ -1,6 +1,5 @@
 use Rattle.std.proofs.Common.{◌≡◌, ◌<◌, ◌∙◌, ◌&&◌, Bool, length, arith, ap, sym, true, false, not}
-use Rattle.ipcz_world.proofs.Vocabulary.{place_at, Empty}
-use Rattle.ipcz_world.specs.Turns.{is_full}
+use Rattle.ipcz_world.proofs.Vocabulary.{place_at, Empty, is_full}
 use Rattle.ipcz_world.proofs.code.Marks.{full-as, seen-at, stand-place, within}
 use Rattle.ipcz_world.proofs.code.Slots.{get-place}
 use Rattle.ipcz_world.proofs.mailboxes.Mailboxes.is_full.Goals as goal

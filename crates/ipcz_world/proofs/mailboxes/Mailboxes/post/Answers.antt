@@ -1,5 +1,5 @@
 use Rattle.std.proofs.Common.{◌∙◌, ◌<◌, length, arith, ap, sym}
-use Rattle.ipcz_world.specs.Turns.{is_clear}
+use Rattle.ipcz_world.proofs.Vocabulary.{is_clear}
 use Rattle.ipcz_world.proofs.code.Marks.{clear-tells, full-most, kept-posted, posted, seen-read, within}
 use Rattle.ipcz_world.proofs.mailboxes.Mailboxes.post.Goals as goal
 

@@ -1,18 +1,11 @@
 use Rattle.std.proofs.Common.{◌≡◌, ◌∙◌, ◌≤◌, ℕ, true, false, cond, nat_eq, [], ap, sym, subst, refl, inl, inr, arith}
 use Rattle.std.proofs.lemmas.Bool.Decides.{nat_tests}
-use Rattle.ipcz_base.specs.Limits.{no_number}
+use Rattle.ipcz_world.proofs.Vocabulary.{Node, World, bare_node, ends_in, mail_at, node_at, opposite, place_at, put_place, set_mail, set_node}
+use Rattle.ipcz_world.proofs.Vocabulary.{no_number, pop_out, rest, IsLone, with_hand, IsRegular, next_node, is_idle, next_at, Walk, the_view}
 use Rattle.ipcz_base.specs.declared.message.Message.TheVariants as messages
 use Rattle.ipcz_base.proofs.Indexed.{place_at-put_place}
-use Rattle.ipcz_router.specs.Acts.{pop_out, rest}
 use Rattle.ipcz_node.specs.Lone.{TakesItem}
-use Rattle.ipcz_world.proofs.Vocabulary.{Node, World, bare_node, ends_in, mail_at, node_at, opposite, place_at, put_place}
-use Rattle.ipcz_world.proofs.Vocabulary.{set_mail, set_node}
-use Rattle.ipcz_world.specs.Carrying.{IsCarried, IsLone, with_hand}
-use Rattle.ipcz_world.specs.Taking.{IsRegular}
-use Rattle.ipcz_world.specs.Settling.{next_node}
-use Rattle.ipcz_world.specs.Turns.{is_idle, next_at}
-use Rattle.ipcz_world.specs.Visiting.{Walk}
-use Rattle.ipcz_world.specs.contracts.state.State.{the_view}
+use Rattle.ipcz_world.specs.Carrying.{IsCarried}
 use Rattle.ipcz_world.proofs.code.Carrying.{came, carried, idle-behind, left, sent}
 use Rattle.ipcz_world.proofs.code.LoneFinds.{in_hand}
 use Rattle.ipcz_world.proofs.code.LoneSenders.{has-item, item-is, lengths-kept, nodes-kept, number-is, sender-is}

@@ -1,22 +1,15 @@
 use Rattle.std.proofs.Common.{◌≡◌, ◌∙◌, ◌≤◌, ℕ, true, cond, nat_eq, [], ap, sym, subst, refl, inl, inr, arith}
 use Rattle.std.specs.Prelude.{is_some}
 use Rattle.std.proofs.lemmas.Bool.Decides.{nat_tests}
-use Rattle.ipcz_base.specs.Limits.{no_number}
+use Rattle.ipcz_world.proofs.Vocabulary.{Node, World, bare_node, commit, ends_in, mail_at, node_at, opposite, place_at, put_place, router_in}
+use Rattle.ipcz_world.proofs.Vocabulary.{set_mail, set_node, no_number, pop_out, Plain, IsLone, with_hand, next_node, IsRegular, Walk, the_view}
 use Rattle.ipcz_base.specs.declared.message.Message.TheVariants as messages
 use Rattle.ipcz_base.proofs.Indexed.{place_at-put_place}
-use Rattle.ipcz_router.specs.Acts.{pop_out}
 use Rattle.ipcz_router.specs.declared.act.RouterAct.TheVariants as router_acts
-use Rattle.ipcz_router.specs.declared.act.Answer.TheVariants.{Plain}
 use Rattle.ipcz_node.specs.declared.act.Act.TheVariants as acts
 use Rattle.ipcz_node.specs.Lone.{TakesItem}
 use Rattle.ipcz_node.proofs.LoneNodes.{stands}
-use Rattle.ipcz_world.proofs.Vocabulary.{Node, World, bare_node, commit, ends_in, mail_at, node_at, opposite, place_at, put_place, router_in}
-use Rattle.ipcz_world.proofs.Vocabulary.{set_mail, set_node}
-use Rattle.ipcz_world.specs.Carrying.{IsCarried, IsLone, with_hand}
-use Rattle.ipcz_world.specs.Settling.{next_node}
-use Rattle.ipcz_world.specs.Taking.{IsRegular}
-use Rattle.ipcz_world.specs.Visiting.{Walk}
-use Rattle.ipcz_world.specs.contracts.state.State.{the_view}
+use Rattle.ipcz_world.specs.Carrying.{IsCarried}
 use Rattle.ipcz_world.proofs.acts.Updating.{node-here}
 use Rattle.ipcz_world.proofs.code.LoneWorlds.{sends-last}
 use Rattle.ipcz_world.proofs.code.CarryingWithin.{came, carried, idle-behind, left, sent}

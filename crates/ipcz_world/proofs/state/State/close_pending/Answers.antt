@@ -1,8 +1,7 @@
 use Rattle.std.proofs.Common.{subst, sym, ap, ◌∙◌}
-use Rattle.ipcz_node.specs.Acts.{act_lacks_serials}
+use Rattle.ipcz_world.proofs.Vocabulary.{node_at, act_lacks_serials}
 use Rattle.ipcz_node.specs.declared.act.Act.TheVariants.{Close}
 use Rattle.ipcz_node.specs.RoomyNodes.{IsPossibleAct}
-use Rattle.ipcz_world.proofs.Vocabulary.{node_at}
 use Rattle.ipcz_world.proofs.code.Taken.{asked, close-may, refused-close, done-close}
 use Rattle.ipcz_world.proofs.state.State.close_pending.Goals as goal
 

@@ -1,8 +1,6 @@
 use Rattle.std.proofs.Common.{◌≡◌, ◌<◌, ◌-◌, ◌&&◌, false, not, ap, sym, ◌∙◌, arith}
-use Rattle.ipcz_node.specs.Acts.{first_number, has_mail_for, are_empty}
+use Rattle.ipcz_world.proofs.Vocabulary.{place_at, World, Node, node_at, first_number, has_mail_for, are_empty, seen_at}
 use Rattle.ipcz_node.proofs.Turns.{passed}
-use Rattle.ipcz_world.proofs.Vocabulary.{place_at, World, Node, node_at}
-use Rattle.ipcz_world.specs.Turns.{seen_at}
 use Rattle.ipcz_world.proofs.code.SeenMail.{sees_empty, passes, none_left, no_destination}
 use Rattle.ipcz_world.proofs.state.State.first_destination.Goals as goal
 

@@ -1,7 +1,5 @@
 use Rattle.std.proofs.Common.{◌≡◌, false, ◌-◌, ◌&&◌}
-use Rattle.ipcz_world.proofs.Vocabulary.{place_at, node_at}
-use Rattle.ipcz_node.specs.Acts.{first_number, has_mail_for}
-use Rattle.ipcz_world.specs.Turns.{seen_at}
+use Rattle.ipcz_world.proofs.Vocabulary.{place_at, node_at, first_number, has_mail_for, seen_at}
 use Rattle.ipcz_world.proofs.state.State.first_destination.Given as goal
 
 -- none so far waits for a message and has its mailbox empty

@@ -1,8 +1,6 @@
 use Rattle.std.proofs.Common.{◌≡◌, ◌<◌, ◌-◌, ℕ, false, ap, subst, sym, ◌∙◌, arith}
-use Rattle.ipcz_node.specs.Acts.{first_number}
+use Rattle.ipcz_world.proofs.Vocabulary.{place_at, Empty, World, mail_at, way, first_number, is_full, seen_at}
 use Rattle.ipcz_node.proofs.Turns.{passed}
-use Rattle.ipcz_world.proofs.Vocabulary.{place_at, Empty, World, mail_at, way}
-use Rattle.ipcz_world.specs.Turns.{is_full, seen_at}
 use Rattle.ipcz_world.proofs.code.SeenMail.{sees_full, no_sender, passes, none_left}
 use Rattle.ipcz_world.proofs.state.State.first_sender.Goals as goal
 

@@ -1,7 +1,5 @@
 use Rattle.std.proofs.Common.{◌≡◌, false, ◌-◌}
-use Rattle.ipcz_world.proofs.Vocabulary.{place_at}
-use Rattle.ipcz_node.specs.Acts.{first_number}
-use Rattle.ipcz_world.specs.Turns.{seen_at}
+use Rattle.ipcz_world.proofs.Vocabulary.{place_at, first_number, seen_at}
 use Rattle.ipcz_world.proofs.state.State.first_sender.Given as goal
 
 -- none so far has a full mailbox

@@ -1,6 +1,5 @@
 use Rattle.std.proofs.Common.{◌<◌, subst, sym}
-use Rattle.ipcz_world.proofs.Vocabulary.{World, node_at}
-use Rattle.ipcz_world.specs.Soundness.{HasLengths}
+use Rattle.ipcz_world.proofs.Vocabulary.{World, node_at, HasLengths}
 use Rattle.ipcz_world.proofs.code.Calling.{get-done, get-refused}
 use Rattle.ipcz_world.proofs.state.State.get.Goals.{in-Ok, in-Err}
 use Rattle.ipcz_world.proofs.state.State.get.Goals as goal

@@ -1,9 +1,8 @@
 use Rattle.std.specs.Prelude.{Err}
 use Rattle.std.proofs.Common.{◌≡◌, inl, inr, ap, sym, subst, refl, ◌∙◌}
 use Rattle.ipcz_node.specs.Acts.{stand_in}
-use Rattle.ipcz_node.specs.declared.happened.Happened.{Happened}
+use Rattle.ipcz_world.proofs.Vocabulary.{Happened, next_at}
 use Rattle.ipcz_world.specs.Taking.{IsTaken}
-use Rattle.ipcz_world.specs.Turns.{next_at}
 use Rattle.ipcz_world.proofs.code.FirstTurns.{refused-grows, step-taken, step-refused, stands-alone}
 use Rattle.ipcz_world.proofs.state.State.give_up.Goals as goal
 

@@ -1,6 +1,6 @@
 use Rattle.std.proofs.Common.{◌≡◌, ◌<◌, ◌≤◌, ◌+◌, length, drop, arith, ap, sym, ◌∙◌}
-use Rattle.ipcz_world.proofs.Vocabulary.{World, place_at, bare_node}
-use Rattle.ipcz_world.specs.SettleLimit.{higher, highest, gone_at, gone_mailed, gone_most}
+use Rattle.ipcz_world.proofs.Vocabulary.{World, place_at, bare_node, higher, highest}
+use Rattle.ipcz_world.specs.SettleLimit.{gone_at, gone_mailed, gone_most}
 use Rattle.ipcz_world.proofs.code.Tallying.{higher-third, higher-none, highest-next, highest-none}
 use Rattle.ipcz_world.proofs.state.State.gone_most.Goals as goal
 

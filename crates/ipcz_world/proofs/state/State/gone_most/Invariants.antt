@@ -1,5 +1,6 @@
 use Rattle.std.proofs.Common.{◌≡◌, drop}
-use Rattle.ipcz_world.specs.SettleLimit.{higher, highest, gone_at}
+use Rattle.ipcz_world.proofs.Vocabulary.{higher, highest}
+use Rattle.ipcz_world.specs.SettleLimit.{gone_at}
 use Rattle.ipcz_world.proofs.state.State.gone_most.Given as goal
 
 -- the highest is that of the nodes so far

@@ -1,10 +1,8 @@
 use Rattle.std.proofs.Common.{◌∙◌, ◌<◌, ap, sym, subst}
 use Rattle.ipcz_base.specs.declared.message.Message.TheVariants as messages
-use Rattle.ipcz_node.specs.Hands.{deliver, message_lacks_serials}
-use Rattle.ipcz_world.proofs.Vocabulary.{World, node_at, opposite, set_node}
+use Rattle.ipcz_world.proofs.Vocabulary.{World, node_at, opposite, set_node, deliver, HasLengths, the_view}
+use Rattle.ipcz_node.specs.Hands.{message_lacks_serials}
 use Rattle.ipcz_world.specs.Carrying.{lone_message}
-use Rattle.ipcz_world.specs.Soundness.{HasLengths}
-use Rattle.ipcz_world.specs.contracts.state.State.{the_view}
 use Rattle.ipcz_world.proofs.code.Passing.{rewritten}
 use Rattle.ipcz_world.proofs.state.State.hand_alone.Goals as goal
 

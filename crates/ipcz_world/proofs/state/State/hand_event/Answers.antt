@@ -1,7 +1,7 @@
 use Rattle.std.proofs.Common.{◌≡◌, Some, sym, ap, ◌∙◌}
 use Rattle.ipcz_node.specs.Events.{hand_event}
-use Rattle.ipcz_world.proofs.Vocabulary.{place_at, Empty, World, hand_message, mail_at, node_at, way}
-use Rattle.ipcz_world.specs.Turns.{hand_seen, turn_event}
+use Rattle.ipcz_world.proofs.Vocabulary.{place_at, Empty, World, hand_message, mail_at, node_at, way, turn_event}
+use Rattle.ipcz_world.specs.Turns.{hand_seen}
 use Rattle.ipcz_world.proofs.code.Taken.{has-in-hand, sender-is-node}
 use Rattle.ipcz_world.proofs.state.State.hand_event.Goals as goal
 

@@ -1,13 +1,11 @@
 use Rattle.std.proofs.Common.{subst, sym, ap, ◌∙◌}
 use Rattle.std.specs.Prelude.{if◌then◌else◌}
 use Rattle.ipcz_base.specs.declared.refusal.Refusal.TheVariants.{NumbersEnd, OutOfMemory}
-use Rattle.ipcz_world.proofs.Vocabulary.{place_at, put_place, Hand, Empty, World, node_at, mail_at, way, hand_message}
+use Rattle.ipcz_world.proofs.Vocabulary.{place_at, put_place, Hand, Empty, World, node_at, mail_at, way, hand_message, turn_event, source_for}
+use Rattle.ipcz_world.proofs.Vocabulary.{the_view}
 use Rattle.ipcz_world.specs.Mailing.{put_down}
 use Rattle.ipcz_world.specs.Taking.{IsTaken}
-use Rattle.ipcz_world.specs.Turns.{turn_event}
-use Rattle.ipcz_world.specs.WordAnswers.{source_for}
 use Rattle.ipcz_world.proofs.code.Taken.{asked, done-hand, has-in-hand, kept-hand, sender-is-node, some-there, unchanged-both}
-use Rattle.ipcz_world.specs.contracts.state.State.{the_view}
 use Rattle.ipcz_world.proofs.state.State.handle.Goals as goal
 
 pub way-place-requires-clause-from : goal.way-place-requires-clause-from

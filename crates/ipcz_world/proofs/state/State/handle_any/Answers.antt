@@ -1,14 +1,12 @@
 use Rattle.std.proofs.Common.{subst, sym, ap, ◌∙◌}
 use Rattle.std.specs.Prelude.{if◌then◌else◌, is_some}
 use Rattle.ipcz_base.specs.declared.refusal.Refusal.TheVariants.{NumbersEnd, OutOfMemory}
-use Rattle.ipcz_node.specs.Hands.{deliver, message_grows, message_lacks_serials}
-use Rattle.ipcz_world.proofs.Vocabulary.{place_at, put_place, hand_message, Hand, Empty, World, node_at, mail_at, way}
+use Rattle.ipcz_world.proofs.Vocabulary.{place_at, put_place, hand_message, Hand, Empty, World, node_at, mail_at, way, deliver, turn_event}
+use Rattle.ipcz_world.proofs.Vocabulary.{source_for, the_view}
+use Rattle.ipcz_node.specs.Hands.{message_grows, message_lacks_serials}
 use Rattle.ipcz_world.specs.Mailing.{put_down}
-use Rattle.ipcz_world.specs.Turns.{turn_event}
 use Rattle.ipcz_world.specs.World.{word_at}
-use Rattle.ipcz_world.specs.WordAnswers.{source_for}
 use Rattle.ipcz_world.proofs.code.Taken.{has-in-hand, sender-is-node, some-there, done-hand, kept-hand, asked}
-use Rattle.ipcz_world.specs.contracts.state.State.{the_view}
 use Rattle.ipcz_world.proofs.state.State.handle_any.Goals as goal
 
 pub way-place-requires-clause-from : goal.way-place-requires-clause-from

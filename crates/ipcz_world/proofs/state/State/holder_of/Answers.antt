@@ -1,6 +1,5 @@
 use Rattle.std.proofs.Common.{◌∙◌, sym, ap}
-use Rattle.ipcz_world.proofs.Vocabulary.{place_at, bare_node, World, node_at}
-use Rattle.ipcz_node.specs.Node.{holds_end}
+use Rattle.ipcz_world.proofs.Vocabulary.{place_at, bare_node, World, node_at, holds_end}
 use Rattle.ipcz_node.proofs.Turns.{passed}
 use Rattle.ipcz_world.proofs.state.State.holder_of.Goals as goal
 

@@ -1,7 +1,5 @@
 use Rattle.std.proofs.Common.{◌≡◌, ◌-◌}
-use Rattle.ipcz_node.specs.Node.{holds_end}
-use Rattle.ipcz_node.specs.Acts.{first_number}
-use Rattle.ipcz_world.proofs.Vocabulary.{node_at}
+use Rattle.ipcz_world.proofs.Vocabulary.{node_at, holds_end, first_number}
 use Rattle.ipcz_world.specs.Holding.{holder_of}
 use Rattle.ipcz_world.proofs.state.State.holder_of.Given as goal
 

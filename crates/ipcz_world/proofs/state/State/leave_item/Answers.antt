@@ -1,12 +1,9 @@
 use Rattle.std.proofs.Common.{◌∙◌, ap, sym}
 use Rattle.ipcz_base.specs.declared.message.Message.TheVariants as messages
 use Rattle.ipcz_base.specs.Sides.{opposite}
-use Rattle.ipcz_node.specs.declared.act.Act.TheVariants.{Look}
-use Rattle.ipcz_router.specs.declared.act.Answer.TheVariants.{Plain}
-use Rattle.ipcz_world.proofs.Vocabulary.{Node, World, Empty, bare_node, commit, mail_at, node_at, place_at, put_place, set_mail, set_node, way}
+use Rattle.ipcz_world.proofs.Vocabulary.{Node, World, Empty, bare_node, commit, mail_at, node_at, place_at, put_place, set_mail, set_node, way, Look}
+use Rattle.ipcz_world.proofs.Vocabulary.{Plain, is_clear, the_view}
 use Rattle.ipcz_world.specs.declared.mail.Mail.TheVariants.{Hand}
-use Rattle.ipcz_world.specs.Turns.{is_clear}
-use Rattle.ipcz_world.specs.contracts.state.State.{the_view}
 use Rattle.ipcz_world.proofs.state.State.leave_item.Goals as goal
 
 pub look-requires : goal.look-requires

@@ -1,12 +1,9 @@
 use Rattle.std.proofs.Common.{◌≡◌, ◌∙◌, ◌<◌, ◌≤◌, ◌+◌, ℕ, Bool, true, false, true≢false, nat_lt, ap, sym, subst, refl, arith}
 use Rattle.std.proofs.lemmas.Bool.Decides.{nat_tests}
-use Rattle.ipcz_node.specs.Acts.{is_quiet}
+use Rattle.ipcz_world.proofs.Vocabulary.{LinkEnd, World, Empty, mail_at, node_at, place_at, way, is_quiet, Mail, is_clear, is_full, IsLone}
 use Rattle.ipcz_node.specs.Lone.{SendsOnly}
-use Rattle.ipcz_world.proofs.Vocabulary.{LinkEnd, World, Empty, mail_at, node_at, place_at, way}
-use Rattle.ipcz_world.specs.declared.mail.Mail.{Mail}
 use Rattle.ipcz_world.specs.declared.mail.Mail.TheVariants.{Full, Hand}
-use Rattle.ipcz_world.specs.Turns.{is_clear, is_full}
-use Rattle.ipcz_world.specs.Carrying.{AreQuiet, IsLone}
+use Rattle.ipcz_world.specs.Carrying.{AreQuiet}
 use Rattle.ipcz_world.proofs.code.LoneFinds.{busy_is, link_is, lone_alone}
 use Rattle.ipcz_world.proofs.state.State.lone_parcel.Goals.{then-link-self-via-then-link-self, then-link-self-via-else-link-self+then-not-is_clear}
 use Rattle.ipcz_world.proofs.state.State.lone_parcel.Goals as goal

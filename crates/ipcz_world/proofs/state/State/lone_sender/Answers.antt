@@ -1,11 +1,7 @@
 use Rattle.std.proofs.Common.{◌≡◌, ◌∙◌, ◌<◌, ◌≤◌, ◌+◌, ℕ, Bool, true, false, true≢false, nat_lt, ap, sym, subst, refl, arith}
 use Rattle.std.proofs.lemmas.Bool.Decides.{nat_tests}
-use Rattle.ipcz_node.specs.Acts.{is_quiet}
-use Rattle.ipcz_node.specs.Lone.{SendsNext}
-use Rattle.ipcz_world.proofs.Vocabulary.{LinkEnd, World, Empty, mail_at, node_at, place_at, way}
-use Rattle.ipcz_world.specs.declared.mail.Mail.{Mail}
+use Rattle.ipcz_world.proofs.Vocabulary.{LinkEnd, World, Empty, mail_at, node_at, place_at, way, is_quiet, SendsNext, Mail, is_clear, is_full}
 use Rattle.ipcz_world.specs.declared.mail.Mail.TheVariants.{Full, Hand}
-use Rattle.ipcz_world.specs.Turns.{is_clear, is_full}
 use Rattle.ipcz_world.specs.Carrying.{AreQuiet, IsLoneSender}
 use Rattle.ipcz_world.proofs.code.LoneFinds.{busy_is, next_is, sender_alone}
 use Rattle.ipcz_world.proofs.state.State.lone_sender.Goals as goal

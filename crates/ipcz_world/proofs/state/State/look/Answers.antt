@@ -1,9 +1,7 @@
 use Rattle.std.proofs.Common.{◌<◌, length, subst, sym, ap, ◌∙◌}
-use Rattle.ipcz_node.specs.declared.act.Act.TheVariants.{Look}
+use Rattle.ipcz_world.proofs.Vocabulary.{place_at, put_place, Empty, World, mail_at, node_at, way, Look, is_full}
 use Rattle.ipcz_node.specs.RoomyNodes.{IsPossibleAct}
-use Rattle.ipcz_world.proofs.Vocabulary.{place_at, put_place, Empty, World, mail_at, node_at, way}
 use Rattle.ipcz_world.specs.Mailing.{taken_up}
-use Rattle.ipcz_world.specs.Turns.{is_full}
 use Rattle.ipcz_world.proofs.code.Taken.{asked, look-may, done-look, looks-to-full, looks-to-node}
 use Rattle.ipcz_world.proofs.state.State.look.Goals as goal
 

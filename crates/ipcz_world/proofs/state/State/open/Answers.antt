@@ -1,6 +1,5 @@
 use Rattle.std.proofs.Common.{◌≡◌, Some, None, subst, sym, ap, ◌∙◌}
-use Rattle.ipcz_world.proofs.Vocabulary.{Node, node_at}
-use Rattle.ipcz_world.specs.Steps.{open_on}
+use Rattle.ipcz_world.proofs.Vocabulary.{Node, node_at, open_on}
 use Rattle.ipcz_world.proofs.state.State.open.Goals as goal
 
 pub open_claimed-requires-clause-word : goal.open_claimed-requires-clause-word

@@ -1,10 +1,6 @@
 use Rattle.std.proofs.Common.{◌<◌, arith, subst, sym, ap, ◌∙◌, refl}
-use Rattle.ipcz_world.proofs.Vocabulary.{End, World, node_at}
-use Rattle.ipcz_node.specs.Calls.{serials_refusal}
+use Rattle.ipcz_world.proofs.Vocabulary.{End, World, node_at, serials_refusal, GivesOrNoMemory, open_with, HasLengths, the_view}
 use Rattle.ipcz_world.specs.declared.step.Reply.TheVariants.{Opened}
-use Rattle.ipcz_world.specs.Steps.{GivesOrNoMemory, open_with}
-use Rattle.ipcz_world.specs.Soundness.{HasLengths}
-use Rattle.ipcz_world.specs.contracts.state.State.{the_view}
 use Rattle.ipcz_world.proofs.code.Calling.{open-done, open-refused, open-world}
 use Rattle.ipcz_world.proofs.state.State.open_claimed.Goals as goal
 

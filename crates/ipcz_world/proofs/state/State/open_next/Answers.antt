@@ -1,15 +1,11 @@
 use Rattle.std.proofs.Common.{◌≡◌, ◌<◌, ◌+◌, true, false, arith, subst, sym, ap, ◌∙◌, refl}
 use Rattle.std.proofs.lemmas.Bool.Decides.{nat_tests}
-use Rattle.ipcz_world.proofs.Vocabulary.{End, open_word, World, node_at, set_claimed}
+use Rattle.ipcz_world.proofs.Vocabulary.{End, open_word, World, node_at, set_claimed, serials_refusal, open_node, GivesOrNoMemory, open_with}
+use Rattle.ipcz_world.proofs.Vocabulary.{HasLengths, the_view, has_unclaimed_word}
 use Rattle.ipcz_world.specs.Coding.{put_word, claim_one}
-use Rattle.ipcz_node.specs.Calls.{serials_refusal, open_node}
 use Rattle.ipcz_world.specs.declared.step.Reply.TheVariants.{Opened}
-use Rattle.ipcz_world.specs.Steps.{GivesOrNoMemory, open_with}
-use Rattle.ipcz_world.specs.Soundness.{HasLengths}
-use Rattle.ipcz_world.specs.contracts.state.State.{the_view}
 use Rattle.ipcz_world.proofs.code.Calling.{open-done, open-refused, open-world, next-word, no-word}
 use Rattle.ipcz_world.proofs.state.State.open_next.Goals as goal
-use Rattle.ipcz_world.specs.World.{has_unclaimed_word}
 use Rattle.ipcz_world.specs.Steps.{opened_reply}
 
 pub returns-then-not-has_unclaimed : goal.returns-then-not-has_unclaimed

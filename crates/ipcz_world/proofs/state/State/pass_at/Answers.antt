@@ -1,11 +1,8 @@
 use Rattle.std.proofs.Common.{◌≡◌, ◌∙◌, ◌≤◌, ◌+◌, None, nat_lt, if◌then◌else◌, ap, sym, subst}
-use Rattle.ipcz_base.specs.Limits.{no_number}
-use Rattle.ipcz_node.specs.Lone.{SendsNext}
-use Rattle.ipcz_world.proofs.Vocabulary.{Empty, LinkEnd, Node, World, mail_at, node_at, set_mail, set_node, way}
-use Rattle.ipcz_world.specs.Carrying.{IsPassing, lone_message, with_hand}
-use Rattle.ipcz_world.specs.Soundness.{HasLengths}
-use Rattle.ipcz_world.specs.Visiting.{IsPlace, Walk}
-use Rattle.ipcz_world.specs.contracts.state.State.{the_view}
+use Rattle.ipcz_world.proofs.Vocabulary.{Empty, LinkEnd, Node, World, mail_at, node_at, set_mail, set_node, way, no_number, SendsNext, IsPassing}
+use Rattle.ipcz_world.proofs.Vocabulary.{with_hand, HasLengths, Walk, the_view}
+use Rattle.ipcz_world.specs.Carrying.{lone_message}
+use Rattle.ipcz_world.specs.Visiting.{IsPlace}
 use Rattle.ipcz_world.proofs.code.LoneFinds.{next_is}
 use Rattle.ipcz_world.proofs.code.Passing.{found-behind, found-item, found-message, handed-counts, handed-passing}
 use Rattle.ipcz_world.proofs.code.PassingWithin.{kept-walk, sent-passing, taken-walk}

@@ -1,11 +1,6 @@
 use Rattle.std.proofs.Common.{◌≡◌, ◌∙◌, ◌≤◌, ◌+◌, ap, sym, subst, arith}
-use Rattle.ipcz_base.specs.Limits.{no_number}
-use Rattle.ipcz_node.specs.Lone.{SendsNext}
-use Rattle.ipcz_world.proofs.Vocabulary.{Node, World, node_at, set_node}
-use Rattle.ipcz_world.specs.Carrying.{IsPassing, lone_message, with_hand}
-use Rattle.ipcz_world.specs.Settling.{next_node}
-use Rattle.ipcz_world.specs.Visiting.{Walk}
-use Rattle.ipcz_world.specs.contracts.state.State.{the_view}
+use Rattle.ipcz_world.proofs.Vocabulary.{Node, World, node_at, set_node, no_number, SendsNext, IsPassing, with_hand, next_node, Walk, the_view}
+use Rattle.ipcz_world.specs.Carrying.{lone_message}
 use Rattle.ipcz_world.proofs.code.Passing.{found-behind, found-item, found-message, handed-counts, handed-passing, handed-sender, handed-walk, passing-sender}
 use Rattle.ipcz_world.proofs.code.Passing.{sent_message}
 use Rattle.ipcz_world.proofs.state.State.pass_on.Goals as goal

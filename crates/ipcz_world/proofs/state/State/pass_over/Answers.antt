@@ -1,11 +1,7 @@
 use Rattle.std.proofs.Common.{◌≡◌, ◌∙◌, ◌≤◌, ◌+◌, nat_lt, if◌then◌else◌, ap, sym, subst, refl, arith}
-use Rattle.ipcz_base.specs.Limits.{no_number}
-use Rattle.ipcz_world.proofs.Vocabulary.{LinkEnd, Node, World, node_at, set_mail, set_node}
-use Rattle.ipcz_world.specs.Carrying.{IsLoneSender, IsPassing, lone_message, with_hand}
-use Rattle.ipcz_world.specs.Settling.{next_node}
-use Rattle.ipcz_world.specs.Taking.{IsRegular}
-use Rattle.ipcz_world.specs.Visiting.{Walk}
-use Rattle.ipcz_world.specs.contracts.state.State.{the_view}
+use Rattle.ipcz_world.proofs.Vocabulary.{LinkEnd, Node, World, node_at, set_mail, set_node, no_number, IsPassing, with_hand, next_node, IsRegular}
+use Rattle.ipcz_world.proofs.Vocabulary.{Walk, the_view}
+use Rattle.ipcz_world.specs.Carrying.{IsLoneSender, lone_message}
 use Rattle.ipcz_world.proofs.code.LoneWorlds.{quiet_is}
 use Rattle.ipcz_world.proofs.code.Passing.{first-walk, found-behind, found-item, found-message, passing-alone, passing-sender, sent_message}
 use Rattle.ipcz_world.proofs.state.State.pass_over.Goals.{then-loop-acts-test+else-pass_on, else-loop-acts-test}

@@ -1,7 +1,5 @@
 use Rattle.std.proofs.Common.{◌≡◌, ◌≤◌, ◌+◌, ◌-◌, true, if◌then◌else◌}
-use Rattle.ipcz_world.specs.Carrying.{IsPassing}
-use Rattle.ipcz_world.specs.Settling.{next_node}
-use Rattle.ipcz_world.specs.Visiting.{Walk}
+use Rattle.ipcz_world.proofs.Vocabulary.{IsPassing, next_node, Walk}
 use Rattle.ipcz_world.proofs.state.State.pass_within.Given as goal
 
 -- the first item passed, or came to hand, and the visits so far lead on

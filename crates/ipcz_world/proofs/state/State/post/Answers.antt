@@ -1,9 +1,7 @@
 use Rattle.std.proofs.Common.{◌<◌, length, subst, sym, ap, ◌∙◌}
-use Rattle.ipcz_node.specs.declared.act.Act.TheVariants.{Post}
+use Rattle.ipcz_world.proofs.Vocabulary.{place_at, put_place, Empty, World, mail_at, node_at, way, Post, is_clear}
 use Rattle.ipcz_node.specs.RoomyNodes.{IsPossibleAct}
-use Rattle.ipcz_world.proofs.Vocabulary.{place_at, put_place, Empty, World, mail_at, node_at, way}
 use Rattle.ipcz_world.specs.declared.mail.Mail.TheVariants.{Full}
-use Rattle.ipcz_world.specs.Turns.{is_clear}
 use Rattle.ipcz_world.proofs.code.Taken.{asked, post-may, done-post, posts-to-clear, posts-to-node}
 use Rattle.ipcz_world.proofs.state.State.post.Goals as goal
 

@@ -1,10 +1,9 @@
 use Rattle.std.proofs.Common.{map, ◌∷◌, []}
 use Rattle.std.proofs.lemmas.Result.{on_ok_weaker}
 use Rattle.std.specs.FinMap.{entries}
-use Rattle.ipcz_node.specs.declared.act.Act.TheVariants.{Idle, Look, Post}
-use Rattle.ipcz_world.specs.Asking.{can_act}
+use Rattle.ipcz_world.proofs.Vocabulary.{Idle, Look, Post, can_act, numbers_from}
 use Rattle.ipcz_world.specs.Listing.{acts_of_hand, acts_of_pending, acts_of_routers}
-use Rattle.ipcz_world.specs.World.{node_at, numbers_from}
+use Rattle.ipcz_world.specs.World.{node_at}
 use Rattle.ipcz_world.proofs.code.Listing.{six}
 use Rattle.ipcz_world.proofs.state.State.push_all.Goals as goal
 

@@ -1,7 +1,5 @@
 use Rattle.std.proofs.Common.{◌≤◌, ◌<◌, ap, subst}
-use Rattle.ipcz_node.specs.declared.act.Act.TheVariants.{Look}
-use Rattle.ipcz_world.specs.Asking.{can_act}
-use Rattle.ipcz_world.proofs.Vocabulary.{World}
+use Rattle.ipcz_world.proofs.Vocabulary.{World, Look, can_act}
 use Rattle.ipcz_world.proofs.code.Listing.{number-listed, numbers-listed}
 use Rattle.ipcz_world.proofs.state.State.push_looks.Goals as goal
 

@@ -1,7 +1,6 @@
 use Rattle.std.proofs.Common.{◌≡◌, ◌++◌}
 use Rattle.std.specs.List.{filter}
-use Rattle.ipcz_node.specs.declared.act.Act.TheVariants.{Post}
-use Rattle.ipcz_world.specs.Asking.{can_act}
+use Rattle.ipcz_world.proofs.Vocabulary.{Post, can_act}
 use Rattle.ipcz_world.proofs.code.Listing.{numbers_left}
 use Rattle.ipcz_world.proofs.state.State.push_posts.Given as goal
 

@@ -2,7 +2,7 @@ use Rattle.std.proofs.Common.{◌++◌, ◌∷◌, [], ◌∙◌, ap, drop, get_
 use Rattle.std.specs.List.{filter}
 use Rattle.ipcz_router.specs.declared.act.RouterAct.TheVariants.{SendOut}
 use Rattle.ipcz_node.specs.declared.act.Act.TheVariants.{Router as OfRouter}
-use Rattle.ipcz_world.specs.Asking.{can_act}
+use Rattle.ipcz_world.proofs.Vocabulary.{can_act}
 use Rattle.ipcz_world.proofs.code.Listing.{acts-next, acts-past, listed-all, listed-more}
 use Rattle.ipcz_world.proofs.state.State.push_router.Goals as goal
 

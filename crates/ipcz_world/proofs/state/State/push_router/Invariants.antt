@@ -1,7 +1,7 @@
 use Rattle.std.proofs.Common.{◌≡◌, ◌++◌, drop, map}
 use Rattle.std.specs.List.{filter}
 use Rattle.ipcz_node.specs.declared.act.Act.TheVariants.{Router as OfRouter}
-use Rattle.ipcz_world.specs.Asking.{can_act}
+use Rattle.ipcz_world.proofs.Vocabulary.{can_act}
 use Rattle.ipcz_world.proofs.state.State.push_router.Given as goal
 
 -- those that are listed, and those that are left, are all of them

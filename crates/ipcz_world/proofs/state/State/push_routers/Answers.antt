@@ -3,9 +3,8 @@ use Rattle.std.specs.FinMap.{entries}
 use Rattle.std.specs.List.{filter}
 use Rattle.ipcz_node.specs.declared.act.Act.TheVariants.{Router as OfRouter}
 use Rattle.ipcz_node.proofs.Serials.{entries_are}
-use Rattle.ipcz_world.specs.Asking.{can_act}
+use Rattle.ipcz_world.proofs.Vocabulary.{World, bare_node, node_at, place_at, can_act}
 use Rattle.ipcz_world.specs.Listing.{acts_of_routers, router_acts}
-use Rattle.ipcz_world.proofs.Vocabulary.{World, bare_node, node_at, place_at}
 use Rattle.ipcz_world.proofs.code.Listing.{acts_of_serials, listed-all, listed-more, serials-next, serials-past, serials-same}
 use Rattle.ipcz_world.proofs.state.State.push_routers.Goals as goal
 

@@ -1,6 +1,6 @@
 use Rattle.std.proofs.Common.{◌≡◌, ◌++◌, drop}
 use Rattle.std.specs.List.{filter}
-use Rattle.ipcz_world.specs.Asking.{can_act}
+use Rattle.ipcz_world.proofs.Vocabulary.{can_act}
 use Rattle.ipcz_world.proofs.code.Listing.{acts_of_serials}
 use Rattle.ipcz_world.proofs.state.State.push_routers.Given as goal
 

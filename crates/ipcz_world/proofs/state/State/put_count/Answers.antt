@@ -1,8 +1,8 @@
 use Rattle.std.proofs.Common.{◌≡◌, ◌<◌, ◌+◌, length, drop, arith, ap, sym, ◌∙◌}
 use Rattle.std.specs.FinMap.{entries}
 use Rattle.ipcz_node.proofs.Serials.{entries_are}
-use Rattle.ipcz_world.proofs.Vocabulary.{World, Node, place_at, bare_node}
-use Rattle.ipcz_world.specs.SettleLimit.{higher, put_among, put_within}
+use Rattle.ipcz_world.proofs.Vocabulary.{World, Node, place_at, bare_node, higher}
+use Rattle.ipcz_world.specs.SettleLimit.{put_among, put_within}
 use Rattle.ipcz_world.proofs.code.Tallying.{higher-third, put_within-next}
 use Rattle.ipcz_world.proofs.state.State.put_count.Goals as goal
 

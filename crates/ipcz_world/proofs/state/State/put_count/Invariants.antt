@@ -1,5 +1,6 @@
 use Rattle.std.proofs.Common.{◌≡◌, drop}
-use Rattle.ipcz_world.specs.SettleLimit.{higher, put_within}
+use Rattle.ipcz_world.proofs.Vocabulary.{higher}
+use Rattle.ipcz_world.specs.SettleLimit.{put_within}
 use Rattle.ipcz_world.proofs.state.State.put_count.Given as goal
 
 -- the count is that of the nodes so far

@@ -1,7 +1,6 @@
 use Rattle.std.proofs.Common.{◌<◌, subst, sym}
 use Rattle.ipcz_base.specs.declared.parcel.Parcel as parcels
-use Rattle.ipcz_world.proofs.Vocabulary.{World, node_at}
-use Rattle.ipcz_world.specs.Soundness.{HasLengths}
+use Rattle.ipcz_world.proofs.Vocabulary.{World, node_at, HasLengths}
 use Rattle.ipcz_world.proofs.code.Calling.{put-answers}
 use Rattle.ipcz_world.proofs.state.State.put_here.Goals as goal
 

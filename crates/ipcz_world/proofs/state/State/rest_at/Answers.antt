@@ -1,13 +1,9 @@
 use Rattle.std.proofs.Common.{◌≡◌, ◌∙◌, false, ap, sym, subst}
 use Rattle.ipcz_router.specs.declared.act.RouterAct.TheVariants as router_acts
-use Rattle.ipcz_router.specs.declared.act.Answer.TheVariants.{Plain}
+use Rattle.ipcz_world.proofs.Vocabulary.{World, commit, node_at, set_node, Plain, act_lacks_serials, IsPassing, Walk, the_view}
 use Rattle.ipcz_node.specs.declared.act.Act.TheVariants as acts
-use Rattle.ipcz_node.specs.Acts.{act_lacks_serials}
 use Rattle.ipcz_node.specs.Lone.{RestsNext}
-use Rattle.ipcz_world.proofs.Vocabulary.{World, commit, node_at, set_node}
-use Rattle.ipcz_world.specs.Carrying.{IsPassing}
-use Rattle.ipcz_world.specs.Visiting.{IsPlace, Walk}
-use Rattle.ipcz_world.specs.contracts.state.State.{the_view}
+use Rattle.ipcz_world.specs.Visiting.{IsPlace}
 use Rattle.ipcz_world.proofs.code.PassingWithin.{rest-passing, rest-walk, rests-some}
 use Rattle.ipcz_world.proofs.state.State.rest_at.Goals as goal
 

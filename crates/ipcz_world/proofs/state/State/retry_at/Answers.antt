@@ -1,8 +1,7 @@
 use Rattle.std.proofs.Common.{subst, refl}
 use Rattle.ipcz_node.specs.Finding as nodes
-use Rattle.ipcz_world.proofs.Vocabulary.{Node, World, node_at, set_node}
+use Rattle.ipcz_world.proofs.Vocabulary.{Node, World, node_at, set_node, the_view}
 use Rattle.ipcz_world.specs.Retries.{LetAskAt}
-use Rattle.ipcz_world.specs.contracts.state.State.{the_view}
 use Rattle.ipcz_world.proofs.state.State.retry_at.Goals as goal
 
 pub returns : goal.returns

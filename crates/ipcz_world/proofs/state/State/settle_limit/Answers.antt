@@ -1,6 +1,5 @@
 use Rattle.std.proofs.Common.{◌<◌, ◌≤◌, ◌+◌, ◌*◌, cond, length, arith, ap, subst}
-use Rattle.ipcz_world.specs.Turns.{is_clear}
-use Rattle.ipcz_world.proofs.Vocabulary.{World, node_at, bare_node, total_list}
+use Rattle.ipcz_world.proofs.Vocabulary.{World, node_at, bare_node, total_list, is_clear}
 use Rattle.ipcz_world.specs.SettleLimit.{node_limit, settle_limit}
 use Rattle.ipcz_world.specs.Tallies.{Tells}
 use Rattle.ipcz_world.proofs.code.Tallying.{tallied-item, tallied-list, place-is}

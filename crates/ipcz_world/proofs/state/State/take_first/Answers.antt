@@ -1,7 +1,7 @@
 use Rattle.std.proofs.Common.{inl, subst, sym}
 use Rattle.std.specs.Prelude.{Err}
 use Rattle.ipcz_world.specs.Taking.{IsTaken}
-use Rattle.ipcz_world.specs.Turns.{next_at}
+use Rattle.ipcz_world.proofs.Vocabulary.{next_at}
 use Rattle.ipcz_world.specs.World.{World}
 use Rattle.ipcz_world.proofs.code.FirstTurns.{step-taken}
 use Rattle.ipcz_world.proofs.state.State.take_first.Goals as goal

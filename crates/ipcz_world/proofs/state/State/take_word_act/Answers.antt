@@ -1,11 +1,10 @@
 use Rattle.std.proofs.Common.{◌<◌, subst, sym, ap, ◌∙◌}
 use Rattle.std.specs.Prelude.{IfSome}
 use Rattle.ipcz_node.specs.declared.act.Act.TheVariants.{Router}
-use Rattle.ipcz_node.specs.Acts.{act_lacks_serials}
+use Rattle.ipcz_world.proofs.Vocabulary.{node_at, act_lacks_serials}
 use Rattle.ipcz_node.specs.RoomyNodes.{IsPossibleAct}
 use Rattle.ipcz_node.specs.Node.{source_in, word_side}
 use Rattle.ipcz_word.specs.Laws.{HasNode}
-use Rattle.ipcz_world.proofs.Vocabulary.{node_at}
 use Rattle.ipcz_world.specs.Coding.{table_answer, table_after}
 use Rattle.ipcz_world.proofs.code.Taken.{asked, link-within, source-is-node, router-may, answer-kind, done-router, refused-router}
 use Rattle.ipcz_world.proofs.state.State.take_word_act.Goals as goal

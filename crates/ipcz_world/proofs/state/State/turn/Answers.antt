@@ -1,5 +1,5 @@
 use Rattle.std.proofs.Common.{subst, sym}
-use Rattle.ipcz_world.specs.declared.step.Step.TheVariants.{Turn}
+use Rattle.ipcz_world.proofs.Vocabulary.{Turn}
 use Rattle.ipcz_world.specs.declared.step.Reply.TheVariants.{Turned}
 use Rattle.ipcz_world.specs.Steps.{StepFirst}
 use Rattle.ipcz_world.proofs.state.State.turn.Goals as goal

@@ -1,7 +1,7 @@
 use Rattle.std.proofs.Common.{◌≡◌, ℕ, drop}
 use Rattle.ipcz_node.specs.Serials.{entries_by}
-use Rattle.ipcz_world.proofs.Vocabulary.{Router}
-use Rattle.ipcz_world.specs.SettleLimit.{higher, highest, gone_held}
+use Rattle.ipcz_world.proofs.Vocabulary.{Router, higher, highest}
+use Rattle.ipcz_world.specs.SettleLimit.{gone_held}
 use Rattle.ipcz_world.proofs.state.limits.gone_among.Given as goal
 
 -- the highest is that of the routers so far

@@ -1,8 +1,8 @@
 use Rattle.std.proofs.Common.{◌≡◌, ℕ, ap, sym, ◌∙◌}
 use Rattle.std.specs.FinMap.{entries}
 use Rattle.ipcz_node.proofs.Serials.{entries_are}
-use Rattle.ipcz_world.proofs.Vocabulary.{Router}
-use Rattle.ipcz_world.specs.SettleLimit.{higher, highest, gone_at, gone_held, gone_message}
+use Rattle.ipcz_world.proofs.Vocabulary.{Router, higher, highest}
+use Rattle.ipcz_world.specs.SettleLimit.{gone_at, gone_held, gone_message}
 use Rattle.ipcz_world.proofs.state.limits.gone_at.Goals as goal
 
 pub returns : goal.returns

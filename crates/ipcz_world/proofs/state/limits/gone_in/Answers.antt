@@ -1,5 +1,6 @@
 use Rattle.std.proofs.Common.{◌+◌, drop, ap, sym, ◌∙◌}
-use Rattle.ipcz_world.specs.SettleLimit.{higher, highest, gone_message}
+use Rattle.ipcz_world.proofs.Vocabulary.{higher, highest}
+use Rattle.ipcz_world.specs.SettleLimit.{gone_message}
 use Rattle.ipcz_world.proofs.code.Tallying.{higher-third, highest-item}
 use Rattle.ipcz_world.proofs.state.limits.gone_in.Goals as goal
 

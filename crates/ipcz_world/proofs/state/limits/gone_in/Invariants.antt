@@ -1,5 +1,6 @@
 use Rattle.std.proofs.Common.{◌≡◌, drop}
-use Rattle.ipcz_world.specs.SettleLimit.{higher, highest, gone_message}
+use Rattle.ipcz_world.proofs.Vocabulary.{higher, highest}
+use Rattle.ipcz_world.specs.SettleLimit.{gone_message}
 use Rattle.ipcz_world.proofs.state.limits.gone_in.Given as goal
 
 -- the highest is that of the messages so far

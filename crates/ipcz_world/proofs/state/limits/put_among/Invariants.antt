@@ -1,6 +1,7 @@
 use Rattle.std.proofs.Common.{◌≡◌, drop}
 use Rattle.ipcz_node.specs.Serials.{entries_by}
-use Rattle.ipcz_world.specs.SettleLimit.{higher, put_among}
+use Rattle.ipcz_world.proofs.Vocabulary.{higher}
+use Rattle.ipcz_world.specs.SettleLimit.{put_among}
 use Rattle.ipcz_world.proofs.state.limits.put_among.Given as goal
 
 -- the count is that of the routers so far

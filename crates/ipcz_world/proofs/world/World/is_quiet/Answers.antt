@@ -1,8 +1,7 @@
 use Rattle.std.specs.Prelude.{◌≡◌, Option, Some, None, IfNone, IfSome, is_some, not, true, false, ℕ}
 use Rattle.std.proofs.Common.{arith, ap, subst, ◌∙◌}
 use Rattle.ipcz_node.specs.declared.act.Act.{Act}
-use Rattle.ipcz_world.specs.Lawfulness.{IsLawful}
-use Rattle.ipcz_world.specs.Settling.{IsQuiet}
+use Rattle.ipcz_world.proofs.Vocabulary.{IsLawful, IsQuiet}
 use Rattle.ipcz_world.specs.Visiting.{AreIdle, IsNextBusy}
 use Rattle.ipcz_world.specs.World.{World}
 use Rattle.ipcz_world.proofs.code.Regular.{lawful-regular}

@@ -1,7 +1,5 @@
 use Rattle.std.proofs.Common.{sym, subst}
-use Rattle.ipcz_world.proofs.Vocabulary.{World}
-use Rattle.ipcz_world.specs.Books.{no_books}
-use Rattle.ipcz_world.specs.Lawful.{Lawful}
+use Rattle.ipcz_world.proofs.Vocabulary.{World, no_books, Lawful}
 use Rattle.ipcz_world.specs.Routes.{first_routes}
 use Rattle.ipcz_world.proofs.Whole.{world_starts_lawful}
 use Rattle.ipcz_world.proofs.world.World.new.Goals as goal

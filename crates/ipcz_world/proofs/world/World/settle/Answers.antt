@@ -1,6 +1,6 @@
 use Rattle.std.proofs.Common.{◌≡◌, ◌∙◌, ◌≤◌, ℕ, IfOk, sym, ap, subst, arith}
-use Rattle.ipcz_world.specs.Lawfulness.{IsLawful}
-use Rattle.ipcz_world.specs.Settling.{IsSettle, IsRefusedSettle, next_node}
+use Rattle.ipcz_world.proofs.Vocabulary.{IsLawful, next_node}
+use Rattle.ipcz_world.specs.Settling.{IsSettle, IsRefusedSettle}
 use Rattle.ipcz_world.specs.Visiting.{AreIdle, IsNextBusy}
 use Rattle.ipcz_world.proofs.code.Regular.{lawful-regular}
 use Rattle.ipcz_world.proofs.code.Running.{visits-lead}

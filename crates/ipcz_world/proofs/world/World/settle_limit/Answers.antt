@@ -1,8 +1,7 @@
 use Rattle.std.proofs.Common.{◌≤◌, ℕ, Option, Some, None, IfSome, arith, subst}
 use Rattle.ipcz_world.specs.World.{World}
 use Rattle.ipcz_world.specs.Books.{Books}
-use Rattle.ipcz_world.specs.Routes.{Routes}
-use Rattle.ipcz_world.specs.Lawful.{Lawful}
+use Rattle.ipcz_world.proofs.Vocabulary.{Routes, Lawful}
 use Rattle.ipcz_world.specs.SettleBounds.{CarryNone, plain_limit}
 use Rattle.ipcz_world.specs.SettleLimit.{settle_limit}
 use Rattle.ipcz_world.specs.Tallies.{Tells}

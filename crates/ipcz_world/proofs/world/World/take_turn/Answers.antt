@@ -1,10 +1,8 @@
 use Rattle.std.specs.Prelude.{ℕ, ⊤, Result, Ok, Err, OnOk, IfOk, IfErr}
 use Rattle.std.proofs.Common.{subst}
 use Rattle.ipcz_base.specs.declared.refusal.Refusal.{Refusal}
-use Rattle.ipcz_node.specs.declared.happened.Happened.{Happened}
+use Rattle.ipcz_world.proofs.Vocabulary.{Happened, Turn, IsLawful}
 use Rattle.ipcz_world.specs.declared.step.Reply.TheVariants.{Turned, Refused}
-use Rattle.ipcz_world.specs.declared.step.Step.TheVariants.{Turn}
-use Rattle.ipcz_world.specs.Lawfulness.{IsLawful}
 use Rattle.ipcz_world.specs.Settling.{TakesTurn}
 use Rattle.ipcz_world.specs.Steps.{StepFirst}
 use Rattle.ipcz_world.specs.Taking.{ToldTurn}
