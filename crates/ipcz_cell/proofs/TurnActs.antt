@@ -25,11 +25,31 @@ use Rattle.ipcz_rule.specs.Steps.{act_part, post_part, probe_part}
 use Rattle.ipcz_cell.specs.TableNames.{TableName}
 use Rattle.ipcz_cell.specs.CellStates.{CellState}
 use Rattle.ipcz_rule.specs.Steps.{is_touch_act}
-use Rattle.ipcz_cell.specs.Mails.{Probes, IsProbed, Looks, mail_word}
+use Rattle.ipcz_cell.specs.Mails.{Probes, IsProbed, Looks, IsTold, mail_word}
 use Rattle.ipcz_cell.specs.TurnEnds.{IsAnswered, IsDone, IsTaken, IsLost, IsRefused, NoSerials, NoMemory, LostIt, lacks_serials, IsSeenBefore, may_grow, LooksFor, Acts}
 
 abbrev Seen : Type 0
 Seen = List (ℕ × ℕ)
+
+abbrev Tells : Type 0 → Type 1
+Tells X = Happened → X → Type 0
+
+abbrev Ends : Type 1
+Ends = Result Happened Refusal → Type 0
+
+-- what is told of one end is told of each that follows from it
+pub told_then : {X : Type 0} (tells : Tells X) (D E : Ends) (r : Result X Refusal) → ((done : Result Happened Refusal) → D done → E done) → IsTold tells D r → IsTold tells E r
+told_then tells D E (Ok told) f h = (h.0, h.1, f (Ok h.0) h.2)
+told_then tells D E (Err why) f h = f (Err why) h
+
+-- what is told of an event is told of all that holds of it
+pub told_of : {X : Type 0} (tells : Tells X) (D : Ends) (done : Result Happened Refusal) (r : Result X Refusal) → IsTold tells (λ is. is ≡ done) r → D done → IsTold tells D r
+told_of tells D done r told h = told_then tells (λ is. is ≡ done) D r (λ is e. subst D (sym e) h) told
+
+-- the event itself is told
+pub told_whole : (D : Ends) (r : Result Happened Refusal) → IsTold (λ event told. told ≡ event) D r → D r
+told_whole D (Ok told) h = subst (λ (event : Happened). D (Ok event)) (sym h.1) h.2
+told_whole D (Err why) h = h
 
 -- who has seen nothing hasn't looked
 looks_none : (t : TableName) (act : Act) (l l' : List ℕ) → LooksFor t act [] l l'
@@ -143,12 +163,13 @@ pub touch_refused : (t : TableName) (act : Act) (old new : CellState) (why : Ref
 touch_refused t act old new why touch alone part seen is grows = prepare_refused t act old new why (touch_lacks old.part act touch) (touch_sees t.size old.part act touch) (touch_grows old.part act touch) alone part seen is grows
 
 -- an act that is made ready and done in one go
-pub told_acts : (t : TableName) (act : Act) (old new : CellState) (r : Result Happened Refusal) → is_touch_act act ≡ true → act ≡ stand_in act →
-    IfOk r (λ h. h ≡ event_of old.part.state act answers.Plain) → OnOk r (new.part ≡ act_part act answers.Plain old.part) →
+pub told_acts : {X : Type 0} (tells : Tells X) (t : TableName) (act : Act) (old new : CellState) (r : Result X Refusal) → is_touch_act act ≡ true → act ≡ stand_in act →
+    IfOk r (tells (event_of old.part.state act answers.Plain)) → OnOk r (new.part ≡ act_part act answers.Plain old.part) →
     IfErr r (λ e. e ≡ (if act_lacks_serials old.part.state act then refusals.NumbersEnd else refusals.OutOfMemory)) →
-    (act_grows old.part.state act ≡ false → IsOk r) → OnErr r (new.part ≡ old.part) → new.seen ≡ old.seen → Acts t act old r new
-told_acts t act old new (Ok event) touch alone is part why grows same seen = touch_acts t act old old new event touch refl refl is part seen
-told_acts t act old new (Err e) touch alone is part why grows same seen = touch_refused t act old new e touch alone same seen why grows
+    (act_grows old.part.state act ≡ false → IsOk r) → OnErr r (new.part ≡ old.part) → new.seen ≡ old.seen → IsTold tells (λ done. Acts t act old done new) r
+told_acts tells t act old new (Ok told) touch alone is part why grows same seen =
+    (event_of old.part.state act answers.Plain, is, touch_acts t act old old new (event_of old.part.state act answers.Plain) touch refl refl refl part seen)
+told_acts tells t act old new (Err e) touch alone is part why grows same seen = touch_refused t act old new e touch alone same seen why grows
 
 -- a begin or a retire that found no memory is an unlock
 pub stood_in : (t : TableName) (serial : ℕ) (act : RouterAct) (old mid new : CellState) (event : Happened) → acts.Router serial router_acts.Unlock ≡ stand_in (acts.Router serial act) → (act_grows old.part.state (acts.Router serial act) ≡ false → false ≡ true) →
@@ -233,6 +254,8 @@ plain_acts router_acts.Unlock mark wake claim lock begin retire unlock = absurd 
 plain_acts other mark wake claim lock begin retire unlock = (refl, λ s. refl)
 
 -- nor does one for a close
-pub close_alone : (act : Act) (e : End) → act ≡ acts.Close e → act ≡ stand_in act
+pub close_refused : (t : TableName) (e : End) (old new : CellState) (why : Refusal) → new.part ≡ old.part → new.seen ≡ old.seen →
+    why ≡ (if act_lacks_serials old.part.state (acts.Close e) then refusals.NumbersEnd else refusals.OutOfMemory) → (act_grows old.part.state (acts.Close e) ≡ false → false ≡ true) →
+    Acts t (acts.Close e) old (Err why) new
 unfolding stand_in
-close_alone act e is = subst (λ (a : Act). a ≡ stand_in a) (sym is) refl
+close_refused t e old new why part seen is grows = touch_refused t (acts.Close e) old new why refl refl part seen is grows

@@ -23,7 +23,7 @@ use Rattle.ipcz_cell.specs.CellStates.{CellState}
 use Rattle.ipcz_rule.specs.Steps.{old_word}
 use Rattle.ipcz_cell.specs.Claims.{FindsNone, Answered, Got as Claimed, Dry as WasDry, Slotless as HadNoSlot, Lost as WasLost}
 use Rattle.ipcz_cell.specs.Mails.{mail_word, old_named, OldLoaded, source_found, Handles}
-use Rattle.ipcz_cell.specs.Turns.{IsFirst, Chooses}
+use Rattle.ipcz_cell.specs.Turns.{IsFirst, Chooses, IsInside}
 use Rattle.ipcz_rule.specs.Races.{IsWaitedFor}
 use Rattle.ipcz_cell.specs.TurnEnds.{IsTaken, IsLost, IsRefused, NoSerials, NoMemory, LostIt, hand_lacks_serials, LooksFor, Acts, EndsRaced, IsLostTurn, Turns, Got, Dry, NoSlot}
 use Rattle.ipcz_cell.proofs.TurnWords.{seen_two}
@@ -157,6 +157,15 @@ refused_by : (size : ℕ) (p : Part) (act : Act) (L M : Type 0) (why : Refusal) 
 refused_by size p act L M why seen f (NoSerials a b c) = NoSerials a b c
 refused_by size p act L M why seen f (NoMemory a b c d e) = NoMemory a b c d e
 refused_by size p act L M why seen f (LostIt a l) = LostIt a (f l)
+
+-- an act that was chosen may be taken
+pub chosen : (t : TableName) (act : Act) (old mid : CellState) → Chooses t old act mid → IsPossibleAct old.part.state act → IsInside t act × IsPossibleAct mid.part.state act
+chosen t act old mid c may = (go act c.first, subst (λ (p : Part). IsPossibleAct p.state act) (sym c.looked.part) may)
+  where
+    go : (act : Act) → IsFirst t old.part c.found act → IsInside t act
+    go (acts.Look sender) h = h.inside
+    go (acts.Post to) h = h.inside
+    go other h = tt
 
 -- a turn
 pub turn_done : (t : TableName) (act : Act) (old mid new : CellState) (answer : Result Happened Refusal) → Chooses t old act mid → Acts t act mid answer new → Turns t old answer new

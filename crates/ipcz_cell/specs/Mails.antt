@@ -1,6 +1,6 @@
 -- The mailboxes of a cell: what the calls on them answer and leave.
 use Rattle.std.specs.Prelude.{◌≡◌, ◌≢◌, ◌<◌, ◌+◌, ◌*◌, ℕ, [], ◌∷◌, ◌++◌, Bool, false, nat_lt, if◌then◌else◌, List, Option, Some, None}
-use Rattle.std.specs.Prelude.{MatchBool, IfSome, Result, MatchResult}
+use Rattle.std.specs.Prelude.{MatchBool, IfSome, Result, Ok, Err, MatchResult}
 use Rattle.ipcz_base.specs.declared.message.Message.{Message}
 use Rattle.ipcz_base.specs.declared.refusal.Refusal.{Refusal}
 use Rattle.ipcz_base.specs.declared.refusal.Refusal.TheVariants.{NumbersEnd, OutOfMemory}
@@ -83,6 +83,11 @@ pub record Handles (size from : ℕ) (old : CellState) (answer : Result Happened
       (new.part ≡ hand_part from (source_found found) message old.part))
       (λ why. (why ≡ (if message_lacks_serials old.part.state from message (source_found found) then NumbersEnd else OutOfMemory)) ×
       (new.part ≡ old.part))
+
+-- what a call tells of what happened, or why it was refused: Done is what it promises of the event that it tells, and of the refusal
+abbrev pub IsTold : {X : Type 0} → (Happened → X → Type 0) → (Result Happened Refusal → Type 0) → Result X Refusal → Type 0
+IsTold tells Done (Ok told) = (event : Happened) × tells event told × Done (Ok event)
+IsTold tells Done (Err why) = Done (Err why)
 
 -- what a look answers and leaves: it fails only if the mailbox was found at another value than 1
 abbrev pub Looks : ℕ → ℕ → CellState → Bool → CellState → Type 0

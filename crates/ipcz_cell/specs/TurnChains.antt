@@ -10,22 +10,7 @@ use Rattle.ipcz_cell.specs.TableNames.{TableName}
 use Rattle.ipcz_cell.specs.CellStates.{CellState}
 use Rattle.ipcz_cell.specs.declared.node_set.NodeSet.{NodeSet}
 use Rattle.ipcz_cell.specs.NodeSets.{has_node}
-use Rattle.ipcz_cell.specs.TurnEnds.{Acts, Turns}
-
--- what is left of an answer whose event isn't told
-abbrev pub untold : Result Happened Refusal → Result (Unit {0}) Refusal
-untold (Ok event) = Ok tt
-untold (Err why) = Err why
-
--- what a turn tells of an act that was answered so: which it was
-abbrev pub acted : Act → Result (Unit {0}) Refusal → Result Act Refusal
-acted act (Ok done) = Ok act
-acted act (Err why) = Err why
-
--- an act was done, whatever event it is, or refused
-abbrev pub Does : TableName → Act → CellState → Result (Unit {0}) Refusal → CellState → Type 0
-Does t act old (Ok done) new = (event : Happened) × Acts t act old (Ok event) new
-Does t act old (Err why) new = Acts t act old (Err why) new
+use Rattle.ipcz_cell.specs.TurnEnds.{Turns}
 
 -- what a turn did: which act, and what happened
 pub record Did : Type 0 where
@@ -42,11 +27,6 @@ pub record TakesTurn (t : TableName) (old : CellState) (did : Did) (new : CellSt
 pub record IsIdleTurn (t : TableName) (old new : CellState) : Type 0 where
   pub turn : Turns t old (Ok events.Idle) new
   pub idle : turn.act ≡ Idle
-
--- a turn answers which act it was: the idle one if there was none to do
-abbrev pub TriesTurn : TableName → CellState → Result Act Refusal → CellState → Type 0
-TriesTurn t old (Ok act) new = (IsIdleTurn t old new × (act ≡ Idle)) ⊎ ((event : Happened) × TakesTurn t old (record { act = act; event = event }) new)
-TriesTurn t old (Err why) new = Turns t old (Err why) new
 
 -- turns that did this come, one after the other, from one cell to another; none is idle
 abbrev pub AreTurns : TableName → CellState → List Did → CellState → Type 0

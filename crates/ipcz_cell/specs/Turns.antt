@@ -87,6 +87,12 @@ IsFirst t p found (Look from) = IsFirstLook t p found from
 IsFirst t p found (Post to) = IsFirstPost t p found to
 IsFirst t p found other = IsFirstElse t p found other
 
+-- the mailbox that an act is about is one of the table's
+abbrev pub IsInside : TableName → Act → Type 0
+IsInside t (Look from) = from < t.count
+IsInside t (Post to) = to < t.count
+IsInside t other = Unit {0}
+
 -- the loads of a cell have found so much, and nothing else has changed
 pub record HasLooked (found : List (ℕ × ℕ)) (old new : CellState) : Type 0 where
   pub part : new.part ≡ old.part

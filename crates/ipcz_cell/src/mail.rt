@@ -1,7 +1,7 @@
 //! The mailboxes of a cell, each in a word of the table with its slot.
 ghost use Rattle.ipcz_cell.specs.Seats.{mine_of, SlotsStay};
-ghost use Rattle.std.specs.Prelude.{◌≡◌, ◌<◌, ◌≤◌, ◌+◌, ◌*◌, true, false, [], ◌∷◌, Some, None, Ok, Err, OnOk, OnErr, IfOk, IfErr, if◌then◌else◌, cond};
-ghost use Rattle.std.specs.Prelude.{is_some};
+ghost use Rattle.std.specs.Prelude.{◌≡◌, ◌<◌, ◌≤◌, ◌+◌, ◌*◌, true, false, [], ◌∷◌, Some, None, OnOk, OnErr, IfOk, IfErr, if◌then◌else◌, cond};
+ghost use Rattle.std.specs.Prelude.{ℕ, is_some, IfSome};
 ghost use Rattle.atomic_table.specs.Table.{rest};
 ghost use Rattle.ipcz_node.specs.Acts.{has_mail_for, post_of};
 ghost use Rattle.ipcz_node.specs.Events.{hand_event};
@@ -9,12 +9,12 @@ ghost use Rattle.ipcz_node.specs.Hands.{is_unfit, message_lacks_serials};
 ghost use Rattle.ipcz_rule.specs.Rule.{has_number};
 ghost use Rattle.ipcz_rule.specs.Steps.{post_part, old_word};
 ghost use Rattle.ipcz_base.specs.declared.message.Message.{Message as MessageData};
-ghost use Rattle.ipcz_node.specs.declared.happened.Happened.{Happened as HappenedValue};
+ghost use Rattle.ipcz_node.specs.Node.{Node as NodeData};
 ghost use Rattle.ipcz_cell.specs.CellStates.{part_in, change_part};
 ghost use Rattle.ipcz_cell.specs.Parts.{handed_part};
 ghost use Rattle.ipcz_cell.specs.Cells.{AreSound};
 ghost use Rattle.ipcz_cell.specs.TableNames.{IsLaidOut};
-ghost use Rattle.ipcz_cell.specs.Mails.{slot_of, mail_word, old_named, HasSeen, IsKnown, Probes, Looks, LoadsSource, Handles};
+ghost use Rattle.ipcz_cell.specs.Mails.{slot_of, mail_word, old_named, HasSeen, IsKnown, Probes, Looks, LoadsSource, Handles, IsTold};
 ghost use Rattle.ipcz_cell.specs.Outcomes.{IsPicked, probed, posted, looked, sourced, handed, turned_by};
 
 use crate::bells::{Ringer, Waking};
@@ -24,7 +24,7 @@ use crate::inbox::{announce, clear};
 use crate::plays::{Outcome, exchange_step, load_behind, load_link, store_step};
 use crate::seat::TableSeat;
 use ipcz_base::{Message, Refusal};
-use ipcz_node::{Act, Handed, Happened};
+use ipcz_node::{Act, Handed, Happened, Told};
 use ipcz_word::source;
 use std::marker::Brand;
 use std::mem;
@@ -81,6 +81,33 @@ fn hand_count(message: &Option<Message>) -> usize
     ensures { result ≡ cond (is_some message.now) 1 0 }
 {
     if message.is_some() { 1 } else { 0 }
+}
+
+// Tells T what happened, or why nothing did.
+pub(crate) fn tell<T: Told>(done: Result<Happened, Refusal>) -> Result<T, Refusal>
+    ensures { IsTold T.tells (λ is. is ≡ done) result }
+{
+    match done {
+        Ok(event) => Ok(T::told(event)),
+        Err(why) => Err(why),
+    }
+}
+
+// What is told of the item in hand, if that has its place here; of another message nothing is told.
+#[tactic(auto, unfolding(ipcz_node::specs::Events::hand_event, ipcz_node::specs::Events::kind_of, ipcz_node::specs::Hands::link_asked))]
+#[inline(always)]
+fn item_told<T: Told>(message: &Option<Message>) -> Option<T>
+    ensures { IfSome result (λ told. (x : MessageData) × (message.now ≡ Some x) × (old_word x ≡ None) ×
+        ((n : NodeData) → (from : ℕ) → is_unfit n from x None ≡ false → T.tells (hand_event n from x None) told)) }
+{
+    let Some(Message::Item { link, n, .. }) = message else {
+        return None;
+    };
+    Some(T::told(Happened::Hand {
+        kind: Handed::Item(*n),
+        link: *link,
+        unfit: false,
+    }))
 }
 
 // An exchange 0 to 3. X is what it tells.
@@ -374,32 +401,6 @@ impl<F: FabricName> NodeCell<F> {
         }
     }
 
-    // Handles the message in hand where it stands, if it is an item without ends and moves that has its place here, and tells whether
-    // it was one. It rings as R does.
-    #[inline(always)]
-    pub(crate) fn hand_alone<R: Ringer>(
-        &mut self,
-        fabric: &Fabric<F>,
-        from: u8,
-    ) -> Result<bool, Refusal>
-        requires { self.old.part.state.hand ≡ Some from }
-        ensures taken { IfOk result
-            (λ taken. taken ≡ true → (event : HappenedValue) × Handles F.table.size from self.old (Ok event) self.new) }
-        ensures left { IfOk result (λ taken. taken ≡ false → (self.new.part ≡ self.old.part) × (self.new.seen ≡ self.old.seen)) }
-        ensures err { IfErr result (λ e. Handles F.table.size from self.old (Err e) self.new) }
-    {
-        match old_word(&self.message) {
-            Some(_) => return Ok(false),
-            None => {}
-        }
-        let taken = self.handle_alone(fabric, from, None)?;
-        if taken {
-            R::ring(&fabric.bells, from);
-            R::ring(&fabric.news, self.state.number());
-        }
-        Ok(taken)
-    }
-
     // Handles the message in hand, whatever it is, for which the source is known.
     #[inline(never)]
     fn handle_any(
@@ -435,41 +436,6 @@ impl<F: FabricName> NodeCell<F> {
         }
     }
 
-    // Handles the message in hand, for which the source is known. An item is first asked for whether it can be taken where it stands, unless
-    // that was asked already.
-    #[tactic(auto, unfolding(ipcz_node::specs::Events::hand_event, ipcz_node::specs::Events::kind_of, ipcz_node::specs::Hands::link_asked))]
-    fn handle(
-        &mut self,
-        fabric: &Fabric<F>,
-        from: u8,
-        source: Option<u8>,
-        asked: bool,
-    ) -> Result<Happened, Refusal>
-        requires hand { self.old.part.state.hand ≡ Some from }
-        requires known { (x : MessageData) → self.old.part.message ≡ Some x → IsKnown F.table.size from x source }
-        ensures ok { OnOk result (self.new.part ≡ handed_part from source self.old.part) }
-        ensures event { IfOk result
-            (λ h. (x : MessageData) × (self.old.part.message ≡ Some x) × (h ≡ hand_event self.old.part.state from x source)) }
-        ensures why { IfErr result (λ e. (x : MessageData) × (self.old.part.message ≡ Some x) ×
-            (e ≡ (if message_lacks_serials self.old.part.state from x source then Refusal.NumbersEnd else Refusal.OutOfMemory))) }
-        ensures err { OnErr result (self.new.part ≡ self.old.part) }
-        ensures seen { self.new.seen ≡ self.old.seen }
-    {
-        if let Some(Message::Item { link, n, .. }) = &self.message
-            && !asked
-        {
-            let event = Happened::Hand {
-                kind: Handed::Item(*n),
-                link: *link,
-                unfit: false,
-            };
-            if self.handle_alone(fabric, from, source)? {
-                return Ok(event);
-            }
-        }
-        self.handle_any(fabric, from, source)
-    }
-
     /// Handles the message in hand. An AcceptBypass is taken only if the word of the old link names its sender as the source: one load
     /// of that word tells it.
     ///
@@ -481,21 +447,36 @@ impl<F: FabricName> NodeCell<F> {
         requires { self.old.part.state.hand ≡ Some from }
         ensures { Handles F.table.size from self.old result self.new }
     {
-        self.handle_by::<Waking>(fabric, from, false)
+        self.handle_as::<Happened, Waking>(fabric, from)
     }
 
-    // Handles, and rings as R does. It is said whether `hand_alone` was asked already.
-    pub(crate) fn handle_by<R: Ringer>(
+    // Handles the message in hand, first where it stands if it is an item, and rings as R does. T says whether what happened is told.
+    #[inline(always)]
+    pub(crate) fn handle_as<T: Told, R: Ringer>(
         &mut self,
         fabric: &Fabric<F>,
         from: u8,
-        asked: bool,
-    ) -> Result<Happened, Refusal>
+    ) -> Result<T, Refusal>
+        requires { self.old.part.state.hand ≡ Some from }
+        ensures { IsTold T.tells (λ done. Handles F.table.size from self.old done self.new) result }
+    {
+        if let Some(told) = item_told(&self.message)
+            && self.handle_alone(fabric, from, None)?
+        {
+            R::ring(&fabric.bells, from);
+            R::ring(&fabric.news, self.state.number());
+            return Ok(told);
+        }
+        tell(self.handle_by::<R>(fabric, from))
+    }
+
+    // Handles, whatever message it is, and rings as R does.
+    fn handle_by<R: Ringer>(&mut self, fabric: &Fabric<F>, from: u8) -> Result<Happened, Refusal>
         requires { self.old.part.state.hand ≡ Some from }
         ensures { Handles F.table.size from self.old result self.new }
     {
         let source = self.load_source(fabric, from);
-        let handled = self.handle(fabric, from, source, asked);
+        let handled = self.handle_any(fabric, from, source);
         if handled.is_ok() {
             R::ring(&fabric.bells, from);
             R::ring(&fabric.news, self.state.number());

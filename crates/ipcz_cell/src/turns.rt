@@ -2,19 +2,21 @@
 ghost use Rattle.std.specs.Prelude.{◌≡◌, ◌<◌, ◌⊎◌, ℕ, true, not, None, Some, Ok};
 ghost use Rattle.ipcz_base.specs.declared.side.Side.{Side as SideValue};
 ghost use Rattle.ipcz_node.specs.RoomyNodes.{IsPossibleAct};
-ghost use Rattle.ipcz_cell.specs.Turns.{Chooses, FindsFull, CanPost, FindsEmpty};
+ghost use Rattle.ipcz_cell.specs.Mails.{IsTold};
+ghost use Rattle.ipcz_cell.specs.Turns.{Chooses, FindsFull, CanPost, FindsEmpty, IsInside};
 ghost use Rattle.ipcz_cell.specs.TurnEnds.{try_event, Acts, Turns};
-ghost use Rattle.ipcz_node.specs.Acts.{are_empty, close_turn, has_mail_for, router_turn, stand_in};
+ghost use Rattle.ipcz_node.specs.Acts.{are_empty, close_turn, has_mail_for, router_turn};
 ghost use Rattle.ipcz_node.specs.Node.{flagged_router, word_side};
-ghost use Rattle.ipcz_rule.specs.Steps.{is_touch_act};
 
+use crate::bells::{Ringer, Waking};
 use crate::cell::NodeCell;
 use crate::fabric::{Fabric, FabricName};
 use crate::inbox::{inbox_place, next_set};
-use crate::mail::mail_place;
+use crate::letting::GivenUp;
+use crate::mail::{mail_place, tell};
 use crate::words::LockTry;
-use ipcz_base::{LinkId, Refusal};
-use ipcz_node::{Act, Happened};
+use ipcz_base::{End, LinkId, Refusal};
+use ipcz_node::{Act, Happened, Told};
 use ipcz_router::act::RouterAct;
 use ipcz_word::LockPlan;
 
@@ -146,40 +148,40 @@ impl<F: FabricName> NodeCell<F> {
     }
 
     // Looks into the mailbox of a node.
-    fn look_turn(&mut self, fabric: &Fabric<F>, from: u8) -> Result<Happened, Refusal>
+    #[inline(always)]
+    fn look_turn<T: Told>(&mut self, fabric: &Fabric<F>, from: u8) -> Result<T, Refusal>
         requires inside { from < F.table.count }
         requires idle { self.old.part.state.hand ≡ None }
-        ensures { Acts F.table (Act.Look from) self.old result self.new }
+        ensures { IsTold T.tells (λ done. Acts F.table (Act.Look from) self.old done self.new) result }
     {
         if self.mail_look(fabric, from) {
-            Ok(Happened::Look(from))
+            Ok(T::told(Happened::Look(from)))
         } else {
             Err(Refusal::Raced)
         }
     }
 
     // Posts the first message for a node, whose mailbox it takes first if it hasn't got it.
-    fn post_turn(&mut self, fabric: &Fabric<F>, to: u8) -> Result<Happened, Refusal>
+    #[inline(always)]
+    fn post_turn<T: Told, R: Ringer>(&mut self, fabric: &Fabric<F>, to: u8) -> Result<T, Refusal>
         requires inside { to < F.table.count }
         requires mail { has_mail_for self.old.part.state to ≡ true }
-        ensures { Acts F.table (Act.Post to) self.old result self.new }
+        ensures { IsTold T.tells (λ done. Acts F.table (Act.Post to) self.old done self.new) result }
     {
         if !self.mail_probe(fabric, to) {
             return Err(Refusal::Raced);
         }
-        self.mail_post(fabric, to);
-        Ok(Happened::Post(to))
+        self.post_by::<R>(fabric, to);
+        Ok(T::told(Happened::Post(to)))
     }
 
-    // An act that touches no word and no mailbox.
-    pub(crate) fn touch_turn(&mut self, fabric: &Fabric<F>, act: Act) -> Result<Happened, Refusal>
-        requires touch { is_touch_act act ≡ true }
-        requires alone { act ≡ stand_in act }
-        requires possible { IsPossibleAct self.old.part.state act }
-        ensures { Acts F.table act self.old result self.new }
+    // Closes an end that travelled in a parcel which a sink has dropped.
+    fn close_turn(&mut self, fabric: &Fabric<F>, end: End) -> Result<Happened, Refusal>
+        requires { IsPossibleAct self.old.part.state (Act.Close end) }
+        ensures { Acts F.table (Act.Close end) self.old result self.new }
     {
-        self.prepare(&act)?;
-        Ok(self.touch_act(fabric, act))
+        self.prepare(&Act::Close(end))?;
+        Ok(self.touch_act(fabric, Act::Close(end)))
     }
 
     // A router's side becomes stable.
@@ -250,8 +252,9 @@ impl<F: FabricName> NodeCell<F> {
         }
     }
 
-    // An act of a router.
-    pub(crate) fn router_turn(
+    // An act of a router on the word of its link or under its lock, or one that may give an end of it up.
+    #[inline(never)]
+    fn word_turn(
         &mut self,
         fabric: &Fabric<F>,
         serial: u64,
@@ -271,6 +274,53 @@ impl<F: FabricName> NodeCell<F> {
         }
     }
 
+    // An act of a router. The acts of most parcels touch no word and give nothing up.
+    #[inline(always)]
+    fn router_turn<T: Told>(
+        &mut self,
+        fabric: &Fabric<F>,
+        serial: u64,
+        act: RouterAct,
+    ) -> Result<T, Refusal>
+        requires { IsPossibleAct self.old.part.state (Act.Router serial act) }
+        ensures { IsTold T.tells (λ done. Acts F.table (Act.Router serial act) self.old done self.new) result }
+    {
+        match act {
+            RouterAct::Mark
+            | RouterAct::Unlock
+            | RouterAct::Wake
+            | RouterAct::Lock
+            | RouterAct::Claim
+            | RouterAct::Begin
+            | RouterAct::Retire
+            | RouterAct::Discard
+            | RouterAct::FinishOut
+            | RouterAct::Leave => tell(self.word_turn(fabric, serial, act)),
+            _ => self.act_giving(fabric, serial, act, GivenUp::Nothing),
+        }
+    }
+
+    // Takes an act that is possible, and rings as R does. T says whether what happened is told.
+    #[inline(always)]
+    pub(crate) fn take<T: Told, R: Ringer>(
+        &mut self,
+        fabric: &Fabric<F>,
+        act: Act,
+    ) -> Result<T, Refusal>
+        requires inside { IsInside F.table act }
+        requires possible { IsPossibleAct self.old.part.state act }
+        ensures { IsTold T.tells (λ done. Acts F.table act self.old done self.new) result }
+    {
+        match act {
+            Act::Hand(from) => self.handle_as::<T, R>(fabric, from),
+            Act::Look(from) => self.look_turn(fabric, from),
+            Act::Post(to) => self.post_turn::<T, R>(fabric, to),
+            Act::Close(end) => tell(self.close_turn(fabric, end)),
+            Act::Router(serial, act) => self.router_turn(fabric, serial, act),
+            Act::Idle => Ok(T::told(Happened::Idle)),
+        }
+    }
+
     /// Takes one turn: the first act that is possible for the mailboxes as it finds them, as `act` answers it, is done whole, and what it
     /// did is told.
     ///
@@ -283,13 +333,6 @@ impl<F: FabricName> NodeCell<F> {
         ensures { Turns F.table self.old result self.new }
     {
         let act = self.act(fabric);
-        match act {
-            Act::Hand(from) => self.mail_handle(fabric, from),
-            Act::Look(from) => self.look_turn(fabric, from),
-            Act::Post(to) => self.post_turn(fabric, to),
-            Act::Close(_) => self.touch_turn(fabric, act),
-            Act::Router(serial, act) => self.router_turn(fabric, serial, act),
-            Act::Idle => Ok(Happened::Idle),
-        }
+        self.take::<Happened, Waking>(fabric, act)
     }
 }

@@ -7,7 +7,7 @@ pub returns-then-mail_look : goal.returns-then-mail_look
 returns-then-mail_look g c =
     let t = g.F.FabricName.table in
     let old = c.args.self.now in
-    look_acts t c.args.from old c.mail_look.new.self (subst (λ (b : Bool). Looks (mail_word t c.args.from old.part.node) c.args.from old b c.mail_look.new.self) c.if-mail_look.true c.mail_look.ensures)
+    (_, c.told.ensures, look_acts t c.args.from old c.mail_look.new.self (subst (λ (b : Bool). Looks (mail_word t c.args.from old.part.node) c.args.from old b c.mail_look.new.self) c.if-mail_look.true c.mail_look.ensures))
 
 pub returns-else-mail_look : goal.returns-else-mail_look
 returns-else-mail_look g c =

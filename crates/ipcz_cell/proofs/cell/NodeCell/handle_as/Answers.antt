@@ -1,0 +1,23 @@
+use Rattle.std.proofs.Common.{◌≡◌, ◌∙◌, Some, ap, sym}
+use Rattle.ipcz_cell.specs.CellStates.{CellState}
+use Rattle.ipcz_cell.specs.Mails.{old_named}
+use Rattle.ipcz_cell.proofs.TurnChains.{unnamed, names_none, fits_same, item_handled}
+use Rattle.ipcz_cell.proofs.cell.NodeCell.handle_as.Goals as goal
+
+pub handle_alone-requires-clause-known : goal.handle_alone-requires-clause-known
+handle_alone-requires-clause-known g c = λ x is low.
+    let item = c.in-Some.ensures in
+    let held : c.args.self.now.part.message ≡ Some item.0 = sym (ap (λ (z : CellState). z.part.message) c.self.view_is) ∙ (c.self.invariant.0.message ∙ item.1) in
+    sym (unnamed c.args.from x (names_none c.args.self.now.part.message x is (ap old_named held ∙ item.2)))
+
+pub returns : goal.returns
+returns g c =
+    let old = c.args.self.now in
+    let item = c.in-Some.ensures in
+    let held : old.part.message ≡ Some item.0 = sym (ap (λ (z : CellState). z.part.message) c.self.view_is) ∙ (c.self.invariant.0.message ∙ item.1) in
+    let done = c.in_ok-handle_alone.ensures in
+    let fit = done.fit c.if-branch.true in (
+      _,
+      item.3 old.part.state c.args.from (fits_same old.part.state c.args.from old.part.message fit.0 item.0 fit.1 held fit.2),
+      item_handled g.F.FabricName.table.size c.args.from old c.handle_alone.new.self item.0 held item.2 (done.taken c.if-branch.true) done.seen,
+    )
