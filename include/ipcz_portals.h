@@ -174,7 +174,7 @@ ipcz_status ipcz_has_arrived(ipcz_world *world, uint8_t node, ipcz_portal at, bo
  *     while (ipcz_next_ready(&world, node, &from, &at) == IPCZ_OK) ...
  *   from  0 to begin with, and then what finds the next one
  *   at    where the portal is written
- * IPCZ_EMPTY if there is no further one, or no such node; then from and at are as they were. It looks at each router of the node from there on. */
+ * IPCZ_EMPTY if there is no further one, or no such node; then from and at are as they were. It walks over no router where nothing has come. */
 ipcz_status ipcz_next_ready(ipcz_world *world, uint8_t node, uint64_t *from, ipcz_portal *at);
 
 /* Gets a parcel, with pointers that are not null: what ipcz_get calls, and what other languages may call. */

@@ -78,7 +78,7 @@ PAGES = [
         Section("Fabric", "The table's name, its bells, and what its cells share.", "Fabric", ["ipcz_cell/src/fabric.rt"], r"\bfabric"),
     ]),
     Page("HUBS", "Hubs and portals", "Nodes that threads share, with a lock round each. `ipcz_fabric`. [THREADS.md](../THREADS.md) says how they are used.", [
-        Section("Hub", "", "Hub", ["ipcz_fabric/src/hub.rt", "ipcz_fabric/src/selecting.rt"], r"\bhub"),
+        Section("Hub", "", "Hub", ["ipcz_fabric/src/hub.rt", "ipcz_fabric/src/selecting.rt", "ipcz_fabric/src/readiness.rt"], r"\bhub"),
         Section("Workers", "", "", ["ipcz_fabric/src/workers.rt"], r""),
         Section("Caller", "Who calls the nodes of a hub, where all calls are to have one order.", "Caller", ["ipcz_fabric/src/caller.rt", "ipcz_fabric/src/selecting.rt", "ipcz_fabric/src/workers.rt"], r"\bcaller"),
         Section("Portal", "", "Portal", ["ipcz_fabric/src/portal.rt", "ipcz_fabric/src/scoped.rt"], r"\b(?:at|portal|only|peer)"),

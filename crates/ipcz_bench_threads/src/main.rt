@@ -1,6 +1,7 @@
 //! `ipcz_bench_threads` prints what cells and hubs take: one number for the measure that its argument names.
 #![tactic(auto)]
 
+mod lists;
 mod loops;
 mod measures;
 mod talkers;
@@ -15,6 +16,7 @@ nanoseconds a parcel of 16 bytes, a thread puts and another gets: cells_on_threa
 nanoseconds for a byte there and back between two threads: round_trips hub_round_trips
 the same where a thread sleeps while it has nothing to do: sleeping_round_trips hub_sleeping_round_trips
 a byte that is put after ROUNDS milliseconds, and got: late hub_late sleeping_late hub_sleeping_late
+the same as hub, where the getter has a list of 1 or 100 portals: hub_waits_1 hub_waits_100 hub_asks_1 hub_asks_100
 how many of these measures there are: all";
 
 // How many rounds there are if none are asked for.

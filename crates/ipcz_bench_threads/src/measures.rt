@@ -1,6 +1,7 @@
 //! What each measure does, and how long it takes.
 ghost use Rattle.std.specs.Prelude.{◌≡◌};
 
+use crate::lists::{Asks, Listed, list_behind};
 use crate::loops::{Idly, answer, ask, get_all, get_late, pass, put_all, put_late};
 use crate::talkers::{Own, Shared, Talker};
 use ipcz_base::{End, Side};
@@ -41,6 +42,8 @@ pub enum Measure {
     Cells(Way),
     /// Portals of a hub.
     Hub(Way),
+    /// Portals of a hub, of which the getter has a list of so many.
+    Lists(Asks, usize),
     /// Each of these, one after the other.
     All,
 }
@@ -61,6 +64,10 @@ impl Measure {
             "hub_sleeping_round_trips" => Some(Measure::Hub(Way::Trips(Idly::Sleeping))),
             "hub_late" => Some(Measure::Hub(Way::Late(Idly::Turning))),
             "hub_sleeping_late" => Some(Measure::Hub(Way::Late(Idly::Sleeping))),
+            "hub_waits_1" => Some(Measure::Lists(Asks::Waits, 1)),
+            "hub_waits_100" => Some(Measure::Lists(Asks::Waits, 100)),
+            "hub_asks_1" => Some(Measure::Lists(Asks::Gets, 1)),
+            "hub_asks_100" => Some(Measure::Lists(Asks::Gets, 100)),
             "all" => Some(Measure::All),
             _ => None,
         }
@@ -202,6 +209,68 @@ fn by_hub<F: FabricName + Send + Sync, R: Threads + Wait + Clock + Sync>(
     timed_portals(rt, alloc, &hub, portals.as_slice(), way, rounds)
 }
 
+// The share of one round between a portal and the last of so many.
+fn timed_lists<F: FabricName + Send + Sync, R: Threads + Wait + Clock + Sync>(
+    rt: &R,
+    alloc: Global,
+    hub: &Hub<F>,
+    portals: &[Portal<F>],
+    list: &[Portal<F>],
+    asks: Asks,
+    rounds: u64,
+) -> Option<u64> {
+    let mut left = Listed {
+        rt,
+        hub,
+        portals,
+        node: 0,
+        asks,
+        alloc,
+    };
+    let mut right = Listed {
+        rt,
+        hub,
+        portals: list,
+        node: 1,
+        asks,
+        alloc,
+    };
+    timed(rt, &mut left, &mut right, Way::Alone, rounds)
+}
+
+// A portal of a hub, and so many at its other node.
+fn by_lists<F: FabricName + Send + Sync, R: Threads + Wait + Clock + Sync>(
+    rt: &R,
+    alloc: Global,
+    blank: Blank,
+    asks: Asks,
+    count: usize,
+    rounds: u64,
+) -> Option<u64>
+    requires { blank ≡ F.table }
+{
+    let (fabric, cells) = blank.name::<F>().ok()?;
+    let (hub, mut portals) = Hub::new(fabric, cells).ok()?;
+    let right = portals.pop()?;
+    let mut list = Vec::new(alloc);
+    let mut others = Vec::new(alloc);
+    list_behind(rt, &hub, right, count, &mut list, &mut others)?;
+    let (portals, list) = (portals.as_slice(), list.as_slice());
+    timed_lists(rt, alloc, &hub, portals, list, asks, rounds)
+}
+
+// The same, of a new table.
+fn nanoseconds_of_lists<R: Threads + Wait + Clock + Sync>(
+    rt: &R,
+    alloc: Global,
+    asks: Asks,
+    count: usize,
+    rounds: u64,
+) -> Option<u64> {
+    let blank = start(alloc, 2, 128).ok()?;
+    by_lists::<Brand, R>(rt, alloc, blank, asks, count, rounds)
+}
+
 // What a parcel or a round trip takes between two nodes of a new table.
 fn nanoseconds<R: Threads + Wait + Clock + Sync>(
     rt: &R,
@@ -235,6 +304,13 @@ fn count_all<R: Threads + Wait + Clock + Sync>(rt: &R, alloc: Global, rounds: u6
             }
         }
     }
+    for asks in [Asks::Waits, Asks::Gets] {
+        for portals in [1, 100] {
+            if nanoseconds_of_lists(rt, alloc, asks, portals, rounds).is_some() {
+                count = count.saturating_add(1);
+            }
+        }
+    }
     count
 }
 
@@ -248,6 +324,7 @@ pub fn number<R: Threads + Wait + Clock + Sync>(
     match measure {
         Measure::Cells(way) => nanoseconds(rt, alloc, false, way, rounds),
         Measure::Hub(way) => nanoseconds(rt, alloc, true, way, rounds),
+        Measure::Lists(asks, count) => nanoseconds_of_lists(rt, alloc, asks, count, rounds),
         Measure::All => Some(count_all(rt, alloc, rounds)),
     }
 }

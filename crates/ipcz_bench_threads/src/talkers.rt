@@ -12,11 +12,11 @@ pub const TURNS: u64 = 1_000_000_000;
 // What parcels are made of: as many bytes as take no memory.
 static DATA: [u8; 16] = [b'x'; 16];
 
-// The longest sleep.
-const LONGEST: Duration = Duration::MAX;
+/// The longest sleep.
+pub const LONGEST: Duration = Duration::MAX;
 
-// The bytes of a parcel, at most sixteen.
-fn bytes_of(alloc: Global, length: usize) -> Result<Bytes, AllocError> {
+/// The bytes of a parcel, at most sixteen.
+pub fn bytes_of(alloc: Global, length: usize) -> Result<Bytes, AllocError> {
     Bytes::from_slice(alloc, &DATA[..length.min(DATA.len())])
 }
 

@@ -37,8 +37,10 @@ impl NodeSet {
         bits
     }
 
-    // Adds a node, if it is below 64.
-    pub(crate) fn add(&mut self, node: u8)
+    /// Adds a node. One of 64 or more isn't added.
+    ///
+    /// So after `let mut set = NodeSet::none(); set.add(3);` `set.has(3)` is true, and `set.bits()` is 8.
+    pub fn add(&mut self, node: u8)
         ensures { (n : ℕ) → n < 64 → has_node self.new n ≡ (nat_eq node n || has_node self.old n) }
     {
         if node < 64 {

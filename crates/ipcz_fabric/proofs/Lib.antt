@@ -8,6 +8,7 @@ mod Taking
 pub mod AskedInTurn
 pub mod Books
 pub mod Chairs
+pub mod Scanning
 pub mod Replaying
 pub mod Standing
 pub mod TurnsCounted

@@ -1,6 +1,6 @@
 -- Why a node is stopped, as a desk keeps it beside the history.
 use Rattle.std.proofs.Common.{arith, ◌≡◌, ◌∙◌, ℕ, List, [], ◌∷◌, ◌++◌, refl, ap, sym, subst, inl, inr}
-use Rattle.std.specs.Prelude.{Option, Some, None, Result, Ok, Err, IfErr, MatchResult}
+use Rattle.std.specs.Prelude.{Option, Some, None, Result, Ok, Err, IfErr, IfSome, MatchResult}
 use Rattle.ipcz_base.specs.declared.refusal.Refusal.{Refusal}
 use Rattle.ipcz_base.specs.declared.refusal.Refusal.TheVariants as refusals
 use Rattle.ipcz_rule.specs.declared.history.Call.{Call}
@@ -69,6 +69,11 @@ after_call stop (calls.Closed at answer) good = good
 behind_calls : (stop : Option Refusal) (es : List Entry) → AreStops stop → AreStops (stop_behind stop es)
 behind_calls stop [] good = good
 behind_calls stop (e ∷ es) good = behind_calls (stop_after stop e.call) es (after_call stop e.call good)
+
+-- what a desk keeps is one of these
+pub stopped_for : (stop : Option Refusal) (es : List Entry) → stop ≡ stop_in es → IfSome stop IsStop
+stopped_for None es is = tt
+stopped_for (Some why) es is = behind_calls None es nothing why (sym is)
 
 -- what a caller of a desk knows of why its node is stopped, behind a call
 pub tells_at : (t : TableName) (call : Call) (o old done new : CellState) (c c' : CallerView) (stop : Option Refusal) → o ≡ old → IsReached t o.part × (stop ≡ stop_in o.part.history) →

@@ -23,9 +23,6 @@ impl<F: FabricName> Comings for NodeCell<F> {
     ghost comes = { λ c at. is_answered c.part.state at };
 
     fn has_come(&self, at: End) -> bool {
-        match self.look(at) {
-            Some(status) => status.waiting > 0 || status.peer_closed,
-            None => true,
-        }
+        self.has_come(at) || self.look(at).is_none()
     }
 }

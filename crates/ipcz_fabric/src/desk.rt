@@ -1,5 +1,5 @@
 //! Desks: what lies behind a node's lock. It is the node's cell, whose history tells how its state was reached.
-ghost use Rattle.std.specs.Prelude.{◌≡◌, ◌<◌, ℕ, Result, Ok, Err, true, MatchResult, None, Some, is_some, slice_index_or, unwrap_or, OnOk, IfOk, IfErr};
+ghost use Rattle.std.specs.Prelude.{◌≡◌, ◌<◌, ◌≤◌, ℕ, length, IfSome, Result, Ok, Err, true, MatchResult, None, Some, is_some, slice_index_or, unwrap_or, OnOk, IfOk, IfErr};
 ghost use Rattle.ipcz_node.specs.Calls.{put_refusal, put_number, get_refusal, got_at, close_refusal, next_sizes};
 ghost use Rattle.ipcz_node.specs.Arriving.{arrival_of};
 ghost use Rattle.ipcz_node.specs.Finding.{IsNextReady};
@@ -18,7 +18,8 @@ ghost use Rattle.ipcz_cell.specs.TurnEnds.{Turns};
 ghost use Rattle.ipcz_fabric.specs.Places.{IsCellOf, IsRefusedInOrder};
 ghost use Rattle.ipcz_fabric.specs.Portals.{ends_of, has_ends, wants_list};
 ghost use Rattle.ipcz_fabric.specs.Replays.{Extends, IsNotedCell, Leaves, LeavesPart, PutsAt, entered};
-ghost use Rattle.ipcz_fabric.specs.Stopping.{TellsStop, answer_of, refusal_of, stop_in};
+ghost use Rattle.ipcz_fabric.specs.Readiness.{EachBefore, FindsHere, FindsNoneHere, IsThere};
+ghost use Rattle.ipcz_fabric.specs.Stopping.{IsStop, TellsStop, answer_of, refusal_of, stop_in};
 ghost use Rattle.ipcz_fabric.specs.declared.chair.Chair.TheVariants as kinds;
 ghost use Rattle.ipcz_fabric.specs.Waiting.{woken_chair, is_answered};
 
@@ -26,6 +27,7 @@ use crate::chair_bells::ChairBells;
 use crate::hub::Hub;
 use crate::missed::{Missed, is_empty, missed_at, stop_of};
 use crate::portal::{Portal, PortalPutRefused};
+use crate::readiness::place_in;
 use crate::rest::Rest;
 use crate::waiting_room::WaitingRoom;
 use ipcz_base::{Bytes, End, Parcel, PortalStatus, Profile, Refusal, Sizes};
@@ -245,6 +247,32 @@ impl<F: FabricName> Desk<F> {
         ensures { IsNextReady self.now.part.state serial result }
     {
         self.cell.ready_from(serial)
+    }
+
+    // The first place below a limit of a portal of the node where a get finds something; the limit if there is none.
+    pub(crate) fn first_ready(&self, portals: &[Portal<F>], limit: usize) -> usize
+        requires { limit ≤ length portals.now }
+        ensures most { result ≤ limit }
+        ensures found { result < limit → IsThere portals.now result (FindsHere self.now) }
+        ensures none { EachBefore portals.now result (FindsNoneHere self.now) }
+    {
+        let node = self.cell.node();
+        let mut first = limit;
+        let mut from = 0;
+        while let Some((serial, end)) = self.cell.ready_from(from) {
+            if self.cell.has_come(end) {
+                first = place_in(portals, first, node, end);
+            }
+            from = serial + 1;
+        }
+        first
+    }
+
+    // Why the last turn has stopped the node, if it has.
+    pub(crate) fn stop(&self) -> Option<Refusal>
+        ensures { IfSome result IsStop }
+    {
+        self.stop
     }
 
     // Whether this end has arrived.

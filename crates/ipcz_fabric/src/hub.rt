@@ -307,7 +307,7 @@ impl<F: FabricName> Hub<F> {
     /// The first end, from a serial on, that a node's callers hold and where a get isn't `Empty`, under that node's lock: a parcel has come there, or
     /// the peer has closed and all that was put was got. With it stands the serial of the router at which it was found; ask from the serial behind
     /// that for the next one. Which portal it is tells [`Portal::end`]. Somebody else may get there meanwhile; it is no call in the node's history. None
-    /// if there is no further one, or no node of that number. It looks at each router of the node from there on, is never refused, and takes no
+    /// if there is no further one, or no node of that number. It walks over no router where nothing has come, is never refused, and takes no
     /// memory.
     ///
     /// Where a parcel has come at `portal` of node 1 alone, `hub.ready_from(rt, 1, 0)` is `Some((serial, portal.end()))`, and

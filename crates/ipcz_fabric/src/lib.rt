@@ -12,6 +12,7 @@ mod hub;
 mod missed;
 mod portal;
 mod portals;
+mod readiness;
 mod rest;
 mod scoped;
 mod selecting;

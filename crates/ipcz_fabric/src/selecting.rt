@@ -9,6 +9,7 @@ use crate::hub::Hub;
 use crate::missed::Missed;
 use crate::portal::Portal;
 use crate::portals::{Arrival, arrival_of};
+use crate::readiness::{only_node, sleep, watch};
 use ipcz_base::Refusal;
 use ipcz_cell::FabricName;
 use std::sync::Wait;
@@ -30,7 +31,7 @@ fn is_empty(why: Missed) -> bool
 }
 
 // Whether each portal was empty.
-fn are_empty<F: FabricName>(taken: &Result<(usize, Arrival<F>), NoneGot>) -> bool
+pub(crate) fn are_empty<T>(taken: &Result<T, NoneGot>) -> bool
     ensures { MatchResult taken.now (λ _. result ≡ false) (λ e. MatchBool result (e.place ≡ None) (e.place ≢ None)) }
 {
     matches!(taken, Err(NoneGot { place: None, .. }))
@@ -87,14 +88,15 @@ impl<F: FabricName> Caller<F> {
             (λ e. LooksInVain F.table portals.now e.place e.why self.old self.new) }
     {
         let news = hub.fabric().news();
+        let node = only_node(portals);
         for _try in rt.forever() {
             let left = patience.left();
-            let ticket = news.watch_any();
+            let ticket = watch(news, node);
             let taken = self.take_first(rt, hub, portals);
             if left.is_zero() || !are_empty(&taken) {
                 return taken;
             }
-            news.sleep_any(rt, ticket, left);
+            sleep(rt, news, node, ticket, left);
         }
         unreachable!()
     }
@@ -132,8 +134,9 @@ impl<F: FabricName> Hub<F> {
     /// longer than `limit` in all: `Duration::MAX` is without end, and `Duration::ZERO` doesn't sleep. The portals may be of several nodes.
     /// Workers have to take the turns of the nodes meanwhile.
     ///
-    /// Each look asks the portals in their order, each under its node's lock, and each message that is handled at any node ends the sleep for one
-    /// look. Who wants all to have their turn puts the one that was served last at the end of the list.
+    /// Each look asks the portals in their order, each under its node's lock. If all are of one node, each message that is handled there ends the sleep
+    /// for one look; else each that is handled at any node. Who wants all to have their turn puts the one that was served last at the end of the list.
+    /// For a long list see [`Hub::wait_any`].
     ///
     /// It takes no memory. `place` tells the portal that refuses the get: `Stranger` if the node's callers don't hold its end, `PeerClosed` if its peer is
     /// closed and all that was put there was got; take it out of the list then. Or nothing has come there and the last turn of its node was refused, so

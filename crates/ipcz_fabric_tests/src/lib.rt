@@ -35,6 +35,8 @@ mod portals;
 #[cfg(test)]
 mod race;
 #[cfg(test)]
+mod readiness;
+#[cfg(test)]
 mod retries;
 #[cfg(test)]
 mod selecting;

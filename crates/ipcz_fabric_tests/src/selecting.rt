@@ -11,7 +11,7 @@ use std::thread::{Threads, join, sleep};
 use std::time::{Clock, Duration, Instant};
 
 // How long a sleep is that no wake ends. All that a test does takes far less.
-fn long() -> Duration {
+pub(crate) fn long() -> Duration {
     Duration::from_secs(20)
 }
 
@@ -41,7 +41,7 @@ fn told<F: FabricName, R: Wait + Clock>(
 }
 
 // Puts a parcel of no bytes, and takes the turns of its node.
-fn sends<F: FabricName, R: Wait>(
+pub(crate) fn sends<F: FabricName, R: Wait>(
     rt: &R,
     hub: &Hub<F>,
     alloc: Global,

@@ -18,6 +18,7 @@ pub mod LoneNodes
 pub mod Mailing
 pub mod Preparing
 pub mod Queues
+pub mod Readiness
 pub mod Refiling
 pub mod Serials
 pub mod SerialSets

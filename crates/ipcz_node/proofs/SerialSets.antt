@@ -1,15 +1,19 @@
 -- What a set of serials has once one was added or taken away, and which is the lowest.
-use Rattle.std.proofs.Common.{◌≡◌, ◌∙◌, ◌==◌, ◌&&◌, ◌||◌, ◌≤◌, ◌<◌, ℕ, true, false, not, IsTrue, nat_lt, ◌-◌, List, [], length, insert, remove, get_or, Option, Some, None, IfSome, IfNone, ap, subst, arith, sym, refl}
+use Rattle.std.proofs.Common.{◌≡◌, ◌∙◌, ◌==◌, ◌&&◌, ◌||◌, ◌≤◌, ◌<◌, ℕ, true, false, not, IsTrue, nat_lt, ◌-◌, Bool, List, [], length, insert, remove, get_or, Option, Some, None, IfSome, IfNone, ap, ap₂, subst, arith, sym, refl, true≢false}
 use Rattle.std.specs.Ordering.{nat_cmp, is_lt}
 use Rattle.std.specs.Cmp.{nat_cmp_total, nat_cmp_is}
 use Rattle.std.specs.declared.cmp.Ordering.TheVariants.{Less}
 use Rattle.std.proofs.lemmas.List.{get_or_default}
 use Rattle.std.specs.List.Sorted.{IsStrictlySortedBy}
 use Rattle.std.proofs.lemmas.Bool.Decides.{nat_tests}
+use Rattle.std.specs.Prelude.{nat_le}
+use Rattle.std.specs.List.{AllWithin, HoldsAt}
+use Rattle.std.proofs.lemmas.Cmp.{tied_itself}
 use Rattle.ipcz_base.proofs.Orders.{number_ties}
 use Rattle.ipcz_node.specs.SortedSets.{has, IsPlaceOf}
 use Rattle.ipcz_node.specs.Indexes.{IsLeast}
-use Rattle.ipcz_node.proofs.SortedSets.{has_inserted, has_present, has_at_place, has_removed, least_at_front}
+use Rattle.ipcz_node.proofs.Refiling.{first_of_both, second_of_both}
+use Rattle.ipcz_node.proofs.SortedSets.{has_inserted, has_present, has_at_place, has_removed, least_at_front, least_at_start, none_past_end}
 
 not_below : (n m : ℕ) → is_lt (nat_cmp n m) ≡ false → m ≤ n
 not_below n m h = grind (arith, nat_tests)
@@ -56,3 +60,33 @@ pub least_of : (ys : List ℕ) (r : Option ℕ) → IfSome r (λ x. has nat_cmp 
     → IfNone r (ys ≡ []) → IsLeast (has nat_cmp ys) r
 least_of ys (Some x) there least none = (there, least)
 least_of ys None there least none = λ n. rw none refl
+
+-- what stands behind all that are below a number is the lowest from there on
+from_test : (a b : ℕ) → is_lt (nat_cmp b a) ≡ false → nat_le a b ≡ true
+from_test a b h = let le = not_below b a h in grind (arith, nat_tests)
+
+to_test : (a b : ℕ) → nat_le a b ≡ true → is_lt (nat_cmp b a) ≡ false
+to_test a b h = grind (arith, nat_tests)
+
+module _ (ys : List ℕ) (from i : ℕ) (sorted : IsStrictlySortedBy nat_cmp ys) (before : AllWithin (λ s. nat_cmp s from ≡ Less) ys 0 i) where
+  pub lowest_from : (x : ℕ) → i < length ys → x ≡ get_or ys i x → HoldsAt (λ s. is_lt (nat_cmp s from) ≡ false) ys i →
+      IsLeast (λ s. nat_le from s && has nat_cmp ys s) (Some x)
+  lowest_from x inside read here =
+      let place : IsPlaceOf nat_cmp ys x i = record {
+        in_range = inside;
+        ties = λ d. rw (get_or_default ys i d x inside, ← read) (tied_itself nat_cmp_total x);
+      } in (
+        ap₂ (λ a b. a && b) (from_test from x (ap (λ y. is_lt (nat_cmp y from)) read ∙ here x)) (has_at_place nat_cmp_total ys x i place),
+        λ n h. not_below n x
+            (ap (λ y. is_lt (nat_cmp n y)) read ∙ least_at_start nat_cmp_total ys from i before sorted x n (second_of_both (nat_le from n) _ h)
+            (to_test from n (first_of_both _ _ h))),
+      )
+
+  pub none_from : length ys ≤ i → IsLeast (λ s. nat_le from s && has nat_cmp ys s) None
+  none_from past n = neither (nat_le from n) (has nat_cmp ys n) (λ below there.
+      true≢false (sym (none_past_end nat_cmp_total ys from i before past n there) ∙ to_test from n below))
+    where
+      neither : (a b : Bool) → (a ≡ true → b ≡ true → ⊥) → (a && b) ≡ false
+      neither true true never = absurd (never refl refl)
+      neither true false never = refl
+      neither false b never = refl

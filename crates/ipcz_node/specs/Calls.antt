@@ -1,6 +1,6 @@
 -- What callers do at a node: open a pair, put, get and close, with the refusals of each in their order.
 -- (ipcz: OpenPortals, Put, Get and Close.)
-use Rattle.std.specs.Prelude.{ℕ, Bool, true, not, ◌&&◌, ◌||◌, nat_lt, if◌then◌else◌, Option, Some, None, option_map, List, [], ◌∷◌, length}
+use Rattle.std.specs.Prelude.{ℕ, Bool, true, false, not, ◌&&◌, ◌||◌, nat_lt, if◌then◌else◌, Option, Some, None, option_map, List, [], ◌∷◌, length}
 use Rattle.ipcz_base.specs.declared.side.Side.TheVariants.{A, B}
 use Rattle.ipcz_base.specs.declared.end.End.{End}
 use Rattle.ipcz_base.specs.declared.parcel.Parcel as parcels
@@ -9,7 +9,7 @@ use Rattle.ipcz_base.specs.declared.profile.Profile.{Profile}
 use Rattle.ipcz_base.specs.declared.item.Item.{Item}
 use Rattle.ipcz_base.specs.declared.item.Item.TheVariants.{Parcel, Mark, Gone}
 use Rattle.ipcz_base.specs.declared.refusal.Refusal.{Refusal}
-use Rattle.ipcz_base.specs.declared.refusal.Refusal.TheVariants.{Stranger, TooMany, BadData, SelfAttach, PeerAttach, NumbersEnd}
+use Rattle.ipcz_base.specs.declared.refusal.Refusal.TheVariants.{Stranger, TooMany, BadData, SelfAttach, PeerAttach, PeerClosed, NumbersEnd}
 use Rattle.ipcz_base.specs.Ends.{opposite_end, has_end}
 use Rattle.ipcz_base.specs.Items.{ends_in, sizes_of}
 use Rattle.ipcz_base.specs.Limits.{takes_bytes, most_bytes, most_ends, has_serials}
@@ -73,6 +73,12 @@ put_number n at = number_at (terminal_of n at) next_number
 -- why a get is refused
 unfoldable pub get_refusal : Node → End → Option Refusal
 get_refusal n at = if not (holds_end n at) then Some Stranger else refusal_at (terminal_of n at) router_get_refusal
+
+-- whether a get that is refused so, or not at all, finds something: a parcel, or that the peer has closed
+abbrev pub finds_something : Option Refusal → Bool
+finds_something None = true
+finds_something (Some PeerClosed) = true
+finds_something (Some other) = false
 
 -- the ends in an item, if there is one
 unfoldable pub ends_found : Option Item → List End

@@ -1,6 +1,6 @@
--- Where the routers of a node are found: by the links that they have, by the ends whose open terminals they are, and by their flags.
--- (ipcz: a node link finds a router by its sublink. The other two are this project's own.)
-use Rattle.std.specs.Prelude.{◌≡◌, ◌==◌, ℕ, ◌+◌, ◌≤◌, ◌<◌, ◌&&◌, Bool, true, false, if◌then◌else◌, Some, List, length}
+-- Where the routers of a node are found: by the links that they have, by the ends whose open terminals they are, by their flags, and by what a
+-- get gives there. (ipcz: a node link finds a router by its sublink. The other three are this project's own.)
+use Rattle.std.specs.Prelude.{◌≡◌, ◌==◌, ℕ, ◌+◌, ◌≤◌, ◌<◌, ◌&&◌, not, Bool, true, false, if◌then◌else◌, Some, List, length}
 use Rattle.std.specs.Option.{option_map_or}
 use Rattle.std.specs.Ordering.{nat_cmp}
 use Rattle.std.specs.FinMap.{FinMap, get}
@@ -18,6 +18,7 @@ use Rattle.ipcz_router.specs.declared.act.Applied.TheVariants.{Nothing, Sent, Me
 use Rattle.ipcz_router.specs.Calls.{has_place_for}
 use Rattle.ipcz_router.specs.Router.{Router, router_has}
 use Rattle.ipcz_node.specs.Node.{is_terminal_of}
+use Rattle.ipcz_node.specs.Finding.{is_ready}
 use Rattle.ipcz_base.specs.Ends.{same_end}
 use Rattle.ipcz_router.specs.declared.filing.Filing.{Filing}
 use Rattle.ipcz_router.specs.Filings.{is_under, link_gain}
@@ -48,6 +49,16 @@ pub record HaveRoom (m : FinMap nat_cmp Router) (room more in_routers in_links i
   pub links : room + more ≤ in_links
   pub terminals : room ≤ in_terminals
   pub flags : room + total (λ serial r. asleep r) m ≤ in_flags
+
+-- 1 for a router that isn't ready, since it may yet become so; else 0
+abbrev pub unready : Router → ℕ
+unready r = if is_ready r then 0 else 1
+
+-- the ready routers are filed by their serials, but for the one of this serial, which may be ready or not; and there is room to file each
+-- other one, and so many routers more
+pub record AreReady (m : FinMap nat_cmp Router) (latest : ℕ) (others : RoomySet ℕ) (more : ℕ) : Type 0 where
+  pub by_ready : (serial : ℕ) → has nat_cmp others.members serial ≡ (not (serial == latest) && passes is_ready m serial)
+  pub room : more + (total (λ serial r. unready r) m + (if passes is_ready m latest then 1 else 0)) ≤ others.room
 
 -- how many ends wait in the in queue of a router
 abbrev pub ends_inside : Router → ℕ

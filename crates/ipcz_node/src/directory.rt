@@ -10,13 +10,14 @@ ghost use Rattle.ipcz_router.specs.ActTable.{may_take};
 ghost use Rattle.ipcz_router.specs.ActEffects.{IsAnswerOf, IsBelowNoNumber, apply, output_of};
 ghost use Rattle.ipcz_node.specs.Node.{is_terminal_of, new_end, first_where};
 ghost use Rattle.std.specs.FinMap.{entries};
-ghost use Rattle.std.specs.Prelude.{is_none, IsOk};
+ghost use Rattle.std.specs.Prelude.{is_none, nat_le, ◌&&◌, IsOk, IfSome};
 ghost use Rattle.std.specs.Prelude.{[], ◌∷◌};
 ghost use Rattle.ipcz_base.specs.Ends.{end_at};
-ghost use Rattle.ipcz_node.specs.Finding.{IsFound, IsNext, is_ready_in, is_terminal_in};
+ghost use Rattle.ipcz_node.specs.Finding.{IsFound, IsNext, is_ready, is_ready_in, is_terminal_in};
 ghost use Rattle.ipcz_node.specs.Rooms.{put_filed, link_filed, add_filed, drop_filed, hold_filed, HasQueueRoom, rooms_for};
 ghost use Rattle.ipcz_node.specs.Directories.{ends_brought, ends_taken};
-ghost use Rattle.ipcz_node.specs.Directories.{keeps_links};
+ghost use Rattle.ipcz_node.specs.Directories.{keeps_links, passes};
+ghost use Rattle.ipcz_node.specs.Indexes.{IsLeast};
 ghost use Rattle.std.specs.FinSet as sets;
 ghost use Rattle.std.specs.FinMap as map;
 ghost use Rattle.ipcz_node.specs.Serials.{map_by, AreRising};
@@ -27,16 +28,19 @@ mod dry;
 mod filing;
 mod hearing;
 mod passing;
+mod ready;
 mod room;
 
 use self::filing::{Files, follow};
+use self::ready::Ready;
 pub(crate) use self::room::count_ends;
 use self::room::{ends_taken, flags_wanted, is_outward, make_room, sum};
 use crate::flags::Flags;
 use crate::held_ends::HeldEnds;
 use crate::index::Index;
 use crate::link_place::LinkPlace;
-use crate::routers::Routers;
+use crate::routers::{Routers, is_ready};
+use crate::serial_ring::SerialRing;
 use ipcz_base::{Descriptor, End, Item, LinkEnd, LinkId, Parcel, Refusal, Side};
 use ipcz_router::act::{Answer, Applied, RouterAct};
 use ipcz_router::{Filing, Router, Sending};
@@ -44,7 +48,7 @@ use std::alloc::{AllocError, Global};
 use std::marker::Model;
 
 /// The routers of a node, each of which is found by its serial, by a link that it has, by the end whose open terminal it
-/// is, and by its flag; and the ends that callers hold (docs/PROTOCOL.md, "Nodes").
+/// is, by its flag, and by what a get gives there; and the ends that callers hold (docs/PROTOCOL.md, "Nodes").
 ///
 /// It has room to hold each end that waits in the in queue of a router, so that a get takes no memory, and the end of each
 /// router that there is room for: `ends` is no less than how many wait in the queues. It knows when none of its routers is dry.
@@ -52,6 +56,7 @@ use std::marker::Model;
 pub struct Directory {
     routers: Routers,
     files: Files,
+    ready: Ready,
     held: HeldEnds,
     room: usize,
     more: usize,
@@ -64,7 +69,7 @@ impl Model for Directory {
     ghost use Rattle.std.specs.FinMap.{code};
     ghost use Rattle.std.specs.Coded.{codes};
     ghost use Rattle.ipcz_node.specs.Rooms.{RoomyDirectory};
-    ghost use Rattle.ipcz_node.specs.Directories.{AreFiled, HaveRoom, CanHold, MayBeDry};
+    ghost use Rattle.ipcz_node.specs.Directories.{AreFiled, HaveRoom, CanHold, MayBeDry, AreReady};
 
     ghost Value = { RoomyDirectory };
 
@@ -86,7 +91,8 @@ impl Model for Directory {
 
     ghost invariant = { λ a. (AreFiled a.routers.routers a.files.links.members a.files.terminals.members a.files.flagged.members ×
         HaveRoom a.routers.routers a.room a.more a.routers.room a.files.links.room a.files.terminals.room a.files.flagged.room)
-        × CanHold a.routers.routers a.ends a.room a.held.room × MayBeDry a.some_dry a.routers.routers };
+        × CanHold a.routers.routers a.ends a.room a.held.room × MayBeDry a.some_dry a.routers.routers
+        × AreReady a.routers.routers a.ready.latest a.ready.others a.room };
 }
 
 impl Directory {
@@ -103,6 +109,10 @@ impl Directory {
                 links: Index::new(alloc),
                 terminals: Index::new(alloc),
                 flagged: Flags::new(alloc),
+            },
+            ready: Ready {
+                latest: first,
+                others: SerialRing::new(alloc),
             },
             held: HeldEnds::new(alloc),
             room: 0,
@@ -185,6 +195,7 @@ impl Directory {
             return Err(AllocError);
         };
         self.files.flagged.reserve(flags)?;
+        self.ready.others.reserve(flags)?;
         let Some(ends) = sum(self.ends, routers) else {
             return Err(AllocError);
         };
@@ -240,6 +251,7 @@ impl Directory {
     {
         let router = self.routers.remove(serial);
         let was = router.filing();
+        let was_ready = is_ready(&router);
         let nowhere = Filing {
             outward: None,
             outward_decaying: None,
@@ -250,6 +262,7 @@ impl Directory {
             flagged: false,
         };
         self.files.refile(serial, &was, &nowhere);
+        self.ready.drop_ended(serial, was_ready);
         router
     }
 
@@ -275,6 +288,7 @@ impl Directory {
     {
         let router = self.routers.router_mut(serial);
         let was = router.filing();
+        let was_ready = is_ready(router);
         let descriptor = router.extend_to(LinkEnd {
             link,
             side: Side::A,
@@ -282,6 +296,7 @@ impl Directory {
         });
         let is = router.filing();
         self.files.refile(serial, &was, &is);
+        self.ready.drop_ended(serial, was_ready);
         self.more -= 1;
         descriptor
     }
@@ -322,6 +337,8 @@ impl Directory {
         let is = router.is_flagged();
         follow(&mut self.files.flagged, serial, was, is);
         answer?;
+        let is_new = self.ready.is_new(serial, router, n);
+        self.ready.note(&self.routers, serial, is_new);
         self.ends = all;
         Ok(())
     }
@@ -483,9 +500,42 @@ impl Directory {
 
     /// The first router from a serial on that is the open terminal of an end which callers hold, and where a get isn't `Empty`: its serial and that end.
     pub fn ready_from(&self, serial: u64) -> Option<(u64, End)>
-        ensures { IsNext (get self.now.filed.routers) (is_ready_in self.now.filed.held) serial result }
+        ensures next { IsNext (get self.now.filed.routers) (is_ready_in self.now.filed.held) serial result }
+        ensures below { IfSome result (λ x. x.0 + 1 < 2 ^ 64) }
     {
-        self.routers.first_ready(serial, &self.held)
+        let _end = self.next_serial();
+        let mut from = serial;
+        while let Some((ready, end)) = self.next_ready(from) {
+            if self.held.has(end) {
+                return Some((ready, end));
+            }
+            from = ready + 1;
+        }
+        None
+    }
+
+    // The first ready router from a serial on: its serial and its end, whether callers hold that or not.
+    fn next_ready(&self, from: u64) -> Option<(u64, End)>
+        ensures found { IsNext (get self.now.filed.routers) is_ready from result }
+        ensures below { IfSome result (λ x. x.0 < self.now.filed.next) }
+    {
+        let serial = self.ready_serial(from)?;
+        Some((serial, self.routers.end_of(serial)))
+    }
+
+    // Its serial.
+    fn ready_serial(&self, from: u64) -> Option<u64>
+        ensures { IsLeast (λ serial. nat_le from serial && passes is_ready self.now.filed.routers serial) result }
+    {
+        let other = self.ready.others.first_from(from);
+        let latest = self.ready.latest;
+        if latest < from || !self.routers.is_ready(latest) {
+            return other;
+        }
+        match other {
+            Some(serial) if serial < latest => Some(serial),
+            Some(_) | None => Some(latest),
+        }
     }
 }
 

@@ -5,7 +5,8 @@ ghost use Rattle.std.specs.List.{AllWithin};
 ghost use Rattle.std.specs.Borrow.{sem};
 ghost use Rattle.std.specs.Ordering.{nat_cmp};
 ghost use Rattle.std.specs.FinMap.{find, get, remove, empty, len};
-ghost use Rattle.ipcz_node.specs.Finding.{IsNext, is_ready_in, is_terminal_in};
+ghost use Rattle.ipcz_node.specs.Directories.{passes};
+ghost use Rattle.ipcz_node.specs.Finding.{IsNext, is_ready, is_terminal_in};
 ghost use Rattle.ipcz_node.specs.Rooms.{RoutersValue, routers_with};
 ghost use Rattle.ipcz_node.specs.Serials.{key_at, entries_by, map_by, AreRising};
 
@@ -149,13 +150,26 @@ impl Routers {
         first_in(&entries[place..], from, ends)
     }
 
-    /// The first router from a serial on that is the open terminal of one of these ends, and where a get isn't `Empty`: its serial and its end.
-    pub fn first_ready(&self, from: u64, ends: &HeldEnds) -> Option<(u64, End)>
-        ensures { IsNext (get self.now.routers) (is_ready_in ends.now.ends) from result }
+    /// The end of the router of a serial.
+    pub fn end_of(&self, serial: u64) -> End
+        requires { is_some (get self.now.routers serial) ≡ true }
+        ensures end { option_map (λ r. r.end) (get self.now.routers serial) ≡ Some result }
+        ensures below { serial < self.now.next }
     {
-        let entries = self.entries.as_slice();
-        let place = lower_in(entries, from);
-        ready_in(&entries[place..], from, ends)
+        let Some(place) = place_of(&self.entries, serial) else {
+            unreachable!()
+        };
+        self.entries[place].1.end()
+    }
+
+    /// Whether the router of a serial is ready, if there is one.
+    pub fn is_ready(&self, serial: u64) -> bool
+        ensures { result ≡ passes is_ready self.now.routers serial }
+    {
+        match self.router(serial) {
+            Some(router) => is_ready(router),
+            None => false,
+        }
     }
 
     /// The first dry router from a serial on: its serial and its end.
@@ -284,28 +298,11 @@ fn first_in(entries: &[(u64, Router)], from: u64, ends: &HeldEnds) -> Option<(u6
     }
 }
 
-// Whether a router is the open terminal of one of these ends, and a get there isn't `Empty`.
-fn is_ready_in(router: &Router, ends: &HeldEnds) -> bool
-    ensures { result ≡ is_ready_in ends.now.ends router.now.router }
+/// Whether a router is ready: an open terminal where a get isn't `Empty`.
+pub fn is_ready(router: &Router) -> bool
+    ensures { result ≡ is_ready router.now.router }
 {
-    router.has_come() && router.is_open_terminal() && ends.has(router.end())
-}
-
-// The first entry from a serial on whose router is the open terminal of one of these ends, and where a get isn't `Empty`: its serial and that end.
-fn ready_in(entries: &[(u64, Router)], from: u64, ends: &HeldEnds) -> Option<(u64, End)>
-    requires { (first : ℕ) × (next : ℕ) × AreRising first next entries.now }
-    ensures { IsNext (λ s. find nat_cmp s (entries_by (λ x. x.router) entries.now)) (is_ready_in ends.now.ends) from result }
-{
-    match entries {
-        [] => None,
-        [entry, rest @ ..] => {
-            if from <= entry.0 && is_ready_in(&entry.1, ends) {
-                Some((entry.0, entry.1.end()))
-            } else {
-                ready_in(rest, from, ends)
-            }
-        }
-    }
+    router.has_come() && router.is_open_terminal()
 }
 
 // The first entry from a serial on whose router is dry: its serial and its end.

@@ -2,6 +2,12 @@
 
 ghost use Rattle.std.specs.Prelude.{ℕ, ◌≡◌, ◌+◌, ◌<◌, ◌≤◌, ◌||◌, ◌&&◌, ◌==◌, not, true, [], length, IsTrue, OnOk, IfOk, IfErr, IfSome, IfNone, IsOk};
 ghost use Rattle.std.specs.Ordering.{nat_cmp};
+ghost use Rattle.std.specs.Prelude.{nat_le, false};
+ghost use Rattle.std.specs.List.{AllWithin, HoldsAt};
+ghost use Rattle.std.specs.List.Sorted.{IsStrictlySortedBy};
+ghost use Rattle.std.specs.Ordering.{is_lt};
+ghost use Rattle.std.specs.declared.cmp.Ordering.TheVariants.{Less};
+ghost use Rattle.ipcz_node.specs.Indexes.{IsLeast};
 ghost use Rattle.ipcz_node.specs.SortedSets.{has, IsPlaceOf, IsGapFor};
 
 use std::alloc::{AllocError, Global};
@@ -125,6 +131,25 @@ impl SerialRing {
         }
     }
 
+    /// The lowest serial from a number on.
+    pub fn first_from(&self, from: u64) -> Option<u64>
+        ensures { IsLeast (λ s. nat_le from s && has nat_cmp self.now.members s) result }
+    {
+        match self.serials.get(self.place_from(from)) {
+            Some(lowest) => Some(*lowest),
+            None => None,
+        }
+    }
+
+    // Where the lowest serial from a number on stands, if there is one; else how many serials there are.
+    fn place_from(&self, from: u64) -> usize
+        ensures before { AllWithin (λ s. nat_cmp s from ≡ Less) self.now.members 0 result }
+        ensures here { result < length self.now.members → HoldsAt (λ s. is_lt (nat_cmp s from) ≡ false) self.now.members result }
+    {
+        let (Ok(place) | Err(place)) = self.place_of(from);
+        place
+    }
+
     // Whether the serial is greater than each that is there.
     fn is_above_all(&self, serial: u64) -> bool
         ensures { IsTrue result → IsGapFor nat_cmp self.now.members serial (length self.now.members) }
@@ -157,6 +182,7 @@ impl SerialRing {
 
     // Where the serial is, or where it would go.
     fn place_of(&self, serial: u64) -> Result<usize, usize>
+        ensures sorted { IsStrictlySortedBy nat_cmp self.now.members }
         ensures found { IfOk result (IsPlaceOf nat_cmp self.now.members serial) }
         ensures absent { IfErr result (IsGapFor nat_cmp self.now.members serial) }
     {

@@ -167,8 +167,8 @@ pub fn holder_of(world: &World, portal: End) -> Option<u8>
 
 /// The first portal, from a serial on, that a node's callers hold and at which something has come: a get there isn't refused `Empty`. With it stands
 /// the serial at which it was found; ask from 0 on for the first, and from the serial behind that for the next one. So all such portals come, each once, as
-/// long as nothing else is called meanwhile (`World::ready_from`). None if there is no further one: from 0 on each get at what they hold is `Empty`. It looks at
-/// each router of the node from there on, takes no memory and is never refused; for a node that isn't there it is none.
+/// long as nothing else is called meanwhile (`World::ready_from`). None if there is no further one: from 0 on each get at what they hold is `Empty`. It walks
+/// over no router where nothing has come, takes no memory and is never refused; for a node that isn't there it is none.
 ///
 /// In the world `new_world(alloc, 2, 8)` `ready_from(&world, 1, 0)` is none; where a parcel has come at the portal `right` of node 1, it is `right` with its serial.
 pub fn ready_from(world: &World, node: u8, serial: u64) -> Option<(u64, End)>

@@ -409,7 +409,7 @@ impl World {
     /// The first end, from a serial on, that a node's callers hold and where a get isn't `Empty`: a parcel has come there, or the peer has closed and
     /// all that was put was got. With it stands the serial of the router at which it was found; ask from the serial behind that for the next one.
     /// So from 0 on all such ends come, each once, as long as the node takes no turn and no call meanwhile. None if there is no further one, or the
-    /// node isn't one of the world's. It looks at each router of the node from there on, is never refused, and takes no memory.
+    /// node isn't one of the world's. It walks over no router where nothing has come, is never refused, and takes no memory.
     ///
     /// Where a parcel has come at `right` alone, `world.ready_from(1, 0)` is `Some((serial, right))`, and `world.ready_from(1, serial + 1)` is none.
     pub fn ready_from(&self, node: u8, serial: u64) -> Option<(u64, End)>

@@ -5,7 +5,7 @@ ghost use Rattle.std.specs.FinMap.{get};
 ghost use Rattle.ipcz_base.specs.declared.item.Item.{Item};
 ghost use Rattle.ipcz_seq.specs.Queue.{current_item};
 ghost use Rattle.ipcz_router.specs.Router.{Router as RouterRecord, IsOpenTerminal};
-ghost use Rattle.ipcz_router.specs.Calls.{next_number, put_item, router_put_refusal, router_get_refusal, take_item, sizes_found};
+ghost use Rattle.ipcz_router.specs.Calls.{has_come, next_number, put_item, router_put_refusal, router_get_refusal, take_item, sizes_found};
 ghost use Rattle.ipcz_router.specs.Status.{IsStatus};
 ghost use Rattle.ipcz_router.specs.Arrivals.{has_arrived};
 ghost use Rattle.ipcz_node.specs.Rooms.{put_filed, hold_filed, release_filed, HasQueueRoom};
@@ -17,6 +17,7 @@ ghost use Rattle.ipcz_node.specs.Calls.{got_from, ends_found};
 
 use super::Directory;
 use super::filing::follow;
+use crate::routers::is_ready;
 use ipcz_base::{End, Parcel, PortalStatus, Refusal, Side, Sizes};
 
 impl Directory {
@@ -64,6 +65,8 @@ impl Directory {
         let is = router.is_flagged();
         follow(&mut self.files.flagged, serial, was, is);
         let (n, parcel) = answer?;
+        let has_ended = self.ready.has_ended(serial, router);
+        self.ready.drop_ended(serial, has_ended);
         self.held.insert_all(parcel.ends.as_slice());
         self.ends = self.ends.saturating_sub(parcel.ends.len());
         Ok((n, parcel))
@@ -90,6 +93,16 @@ impl Directory {
         }
     }
 
+    /// Whether something has come at the router of the serial, as `Router::has_come`.
+    pub fn has_come(&self, serial: u64) -> bool
+        ensures { (r : RouterRecord) → get self.now.filed.routers serial ≡ Some r → result ≡ has_come r }
+    {
+        match self.routers.router(serial) {
+            Some(router) => router.has_come(),
+            None => false,
+        }
+    }
+
     /// Whether the router of the serial has arrived, as `Router::has_arrived`.
     pub fn has_arrived(&self, serial: u64) -> bool
         requires { is_some (get self.now.filed.routers serial) ≡ true }
@@ -113,9 +126,12 @@ impl Directory {
     {
         let router = self.routers.router_mut(serial);
         let was = router.filing();
+        let was_ready = is_ready(router);
         let answer = router.close();
         let is = router.filing();
+        let has_ended = was_ready & !is_ready(router);
         self.files.refile(serial, &was, &is);
+        self.ready.drop_ended(serial, has_ended);
         answer
     }
 

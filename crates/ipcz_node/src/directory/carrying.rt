@@ -110,9 +110,13 @@ impl Directory {
     {
         let router = self.routers.router_mut(serial);
         let was = router.is_flagged();
-        let taken = router.take_last(n, item);
+        if !router.take_last(n, item) {
+            return false;
+        }
         let is = router.is_flagged();
         follow(&mut self.files.flagged, serial, was, is);
-        taken
+        let is_new = self.ready.is_new(serial, router, n);
+        self.ready.note(&self.routers, serial, is_new);
+        true
     }
 }

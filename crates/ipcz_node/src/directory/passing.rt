@@ -69,6 +69,8 @@ impl Directory {
         router.accept_from(link, side, n, item)?;
         let is = router.is_flagged();
         follow(&mut self.files.flagged, serial, was, is);
+        let is_new = self.ready.is_new(serial, router, n);
+        self.ready.note(&self.routers, serial, is_new);
         Ok(())
     }
 

@@ -33,8 +33,8 @@ pub(super) fn make_room(
     }
 }
 
-// How many flags to make room for, apart from those that are up: one for each router, if routers are made; else each has its
-// room. None if that is no number.
+// How many serials to make room for in the set of the flagged routers, and in that of the ready ones, apart from those that are there: one for
+// each router, if routers are made; else each has its room. None if that is no number.
 pub(super) fn flags_wanted(len: usize, routers: usize) -> Option<usize>
     ensures some { IfSome result (λ n. 0 < routers → n ≡ len + routers) }
     ensures none { IfNone result (2 ^ 64 ≤ len + routers) }

@@ -1,5 +1,5 @@
 //! Calls of a node's callers: opens, puts, gets, looks and closes.
-ghost use Rattle.std.specs.Prelude.{◌≡◌, [], Some, None, OnOk, OnErr, IfOk, IfErr, IsSomeAnd};
+ghost use Rattle.std.specs.Prelude.{◌≡◌, ◌+◌, ◌<◌, ◌^◌, [], Some, None, OnOk, OnErr, IfOk, IfErr, IfSome, IsSomeAnd};
 ghost use Rattle.std.specs.Prelude.{unwrap_or, is_some, IsOk, not, if◌then◌else◌};
 ghost use Rattle.ipcz_base.specs.Ends.{has_end, end_at};
 ghost use Rattle.ipcz_base.specs.Limits.{is_printable, most_bytes, takes_bytes};
@@ -8,7 +8,7 @@ ghost use Rattle.ipcz_router.specs.Router.{Router as RouterRecord, IsOpenTermina
 ghost use Rattle.ipcz_router.specs.Calls.{router_put_refusal};
 ghost use Rattle.ipcz_node.specs.Node.{router_in, terminal_of, found, holds_end, source_in, word_side};
 ghost use Rattle.ipcz_node.specs.Calls.{serials_refusal, open_node, are_held_once, refusal_at, are_too_many, put_refusal, put_node};
-ghost use Rattle.ipcz_node.specs.Calls.{put_number, get_refusal, got_at, next_sizes, get_node, close_refusal, close_node, close_end};
+ghost use Rattle.ipcz_node.specs.Calls.{put_number, finds_something, get_refusal, got_at, next_sizes, get_node, close_refusal, close_node, close_end};
 ghost use Rattle.ipcz_node.specs.Looking.{IsLook};
 ghost use Rattle.ipcz_node.specs.Arriving.{arrival_of};
 ghost use Rattle.ipcz_node.specs.Acts.{is_quiet, rest_of};
@@ -445,11 +445,26 @@ impl NodeState {
         self.routers.held_from(serial)
     }
 
+    /// Whether a get at this end would find something: a parcel, or that the peer has closed. It takes no memory.
+    #[tactic(auto, unfolding(crate::specs::Calls::get_refusal, crate::specs::Calls::refusal_at, ipcz_router::specs::Calls::item_refusal))]
+    pub fn has_come(&self, at: End) -> bool
+        ensures { result ≡ finds_something (get_refusal self.now.node at) }
+    {
+        if !self.holds(at) {
+            return false;
+        }
+        match self.terminal_serial(at) {
+            Some(serial) => self.routers.has_come(serial),
+            None => false,
+        }
+    }
+
     /// The first held end from a router's serial on where a get isn't `Empty`, as [`NodeState::held_from`]: a parcel has come there, or the peer's
-    /// mark. From 0 on, and then each time from the serial after the last one, it gives all of them by rising serials. It looks at each router
-    /// from there on, and takes no memory.
+    /// mark. From 0 on, and then each time from the serial after the last one, it gives all of them by rising serials. It searches the serials of
+    /// the open terminals where something has come, and passes over those whose ends are in a parcel. It takes no memory.
     pub fn ready_from(&self, serial: u64) -> Option<(u64, End)>
-        ensures { IsNextReady self.now.node serial result }
+        ensures next { IsNextReady self.now.node serial result }
+        ensures below { IfSome result (λ x. x.0 + 1 < 2 ^ 64) }
     {
         self.routers.ready_from(serial)
     }

@@ -1,16 +1,22 @@
 -- A router that is found in a node stands there and passes the test, and one that passes is found.
 use Rattle.ipcz_world.proofs.Vocabulary.{Node, Found, terminal_of, Router, is_terminal, End, same_end, is_terminal_of}
-use Rattle.ipcz_node.specs.Node.{first_where, find_router}
+use Rattle.ipcz_base.specs.declared.item.Item.{Item}
+use Rattle.ipcz_base.specs.declared.refusal.Refusal.TheVariants.{Stranger}
+use Rattle.ipcz_seq.specs.Queue.{current_item}
+use Rattle.ipcz_node.specs.Node.{first_where, find_router, holds_end, router_in}
+use Rattle.ipcz_node.specs.Calls.{finds_something, get_refusal, refusal_at}
+use Rattle.ipcz_node.specs.Finding.{is_ready_in}
 use Rattle.ipcz_router.specs.Router.{is_open_terminal}
-use Rattle.std.specs.Prelude.{not, ◌≡◌, ◌<◌, ℕ, Bool, true, false, cond, T, Some, List, [], ◌∷◌, refl, nat_eq}
-use Rattle.std.proofs.Common.{arith, sym, ◌∙◌, ap}
+use Rattle.ipcz_router.specs.Calls.{item_refusal, router_get_refusal}
+use Rattle.std.specs.Prelude.{not, ◌≡◌, ◌<◌, ℕ, Bool, true, false, if◌then◌else◌, cond, T, Option, Some, None, is_some, List, [], ◌∷◌, refl, nat_eq}
+use Rattle.std.proofs.Common.{arith, sym, ◌∙◌, ap, true≢false}
 use Rattle.std.proofs.lemmas.Bool.Decides.{nat_tests}
 use Rattle.std.specs.Ordering.{nat_cmp, eq_by_cmp, is_lt, is_eq}
 use Rattle.std.specs.Cmp.{nat_cmp_total, tied_itself}
 use Rattle.std.specs.FinMap.{get, entries, entries_sorted, find, get-entries, is_sorted, FinMap, insert, get-insert}
 use Rattle.std.specs.FinMap.Entries.{below_all}
 use Rattle.ipcz_world.proofs.facts.Reaching.{left, less, right}
-use Rattle.ipcz_world.proofs.facts.Tests.{and_first, and_second}
+use Rattle.ipcz_world.proofs.facts.Tests.{and_first, and_second, and_yes}
 use Rattle.ipcz_world.proofs.facts.LinkTests.{same_end-tells}
 
 -- what is found in a list whose keys are above is above
@@ -93,3 +99,40 @@ terminal_tells n end f h =
 
 pub get_inserted : (m : FinMap nat_cmp Router) (i : ℕ) (x : Router) (q : ℕ) → get (insert m i x) q ≡ cond (nat_eq q i) (Some x) (get m q)
 get_inserted m i x q = grind (arith, get-insert nat_cmp_total m i x q, nat_tests)
+
+-- where a get at an end finds something, callers hold the end, and a router is its open terminal and has something
+pub record IsReadyThere (n : Node) (end : End) : Type 0 where
+  pub serial : ℕ
+  pub router : Router
+  pub here : router_in n serial ≡ Some router
+  pub ready : is_ready_in n.held router ≡ true
+  pub end_is : router.end ≡ end
+
+has_item : (o : Option Item) → finds_something (item_refusal o) ≡ true → is_some o ≡ true
+unfolding item_refusal
+has_item None h = h
+has_item (Some x) h = refl
+
+ready_terminal : (n : Node) (end : End) (f : Found) → terminal_of n end ≡ Some f → holds_end n end ≡ true →
+    finds_something (router_get_refusal f.router) ≡ true → IsReadyThere n end
+ready_terminal n end f h held finds =
+    let t = found_tells n (is_terminal_of end) f h in
+    let own : f.router.end ≡ end = same_end-tells f.router.end end (and_second (is_open_terminal f.router) (same_end f.router.end end) t.1) in
+    record {
+      serial = f.serial;
+      router = f.router;
+      here = t.0;
+      ready = and_yes _ _ (has_item (current_item f.router.in_queue) finds)
+          (and_yes _ _ (and_first (is_open_terminal f.router) (same_end f.router.end end) t.1) (ap (holds_end n) own ∙ held));
+      end_is = own;
+    }
+
+pub ready_there : (n : Node) (end : End) → finds_something (get_refusal n end) ≡ true → IsReadyThere n end
+unfolding get_refusal refusal_at
+ready_there n end h = go (holds_end n end) refl (terminal_of n end) refl h
+  where
+    go : (b : Bool) → holds_end n end ≡ b → (o : Option Found) → terminal_of n end ≡ o →
+        finds_something (if not b then Some Stranger else refusal_at o router_get_refusal) ≡ true → IsReadyThere n end
+    go false held o found finds = absurd (true≢false (sym finds))
+    go true held None found finds = absurd (true≢false (sym finds))
+    go true held (Some f) found finds = ready_terminal n end f found held finds

@@ -20,6 +20,10 @@ pub and_second : (a b : Bool) → (a && b) ≡ true → b ≡ true
 and_second true b h = h
 and_second false b h = cc
 
+pub and_yes : (a b : Bool) → a ≡ true → b ≡ true → (a && b) ≡ true
+and_yes true b p q = q
+and_yes false b p q = cc
+
 pub none_is : {X : Type 0} (o : Option X) → is_none o ≡ true → o ≡ None
 none_is None e = refl
 none_is (Some x) e = absurd (grind (arith, e))

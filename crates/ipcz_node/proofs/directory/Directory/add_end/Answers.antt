@@ -9,6 +9,7 @@ use Rattle.ipcz_node.specs.Directories.{ends_inside}
 use Rattle.ipcz_node.proofs.Holding.{hold_added, fresh_inside}
 use Rattle.ipcz_node.proofs.Directories.{filed_added, room_added}
 use Rattle.ipcz_node.proofs.Dryness.{wet_added}
+use Rattle.ipcz_node.proofs.Readiness.{ready_added, fresh_idle}
 use Rattle.ipcz_node.proofs.directory.Directory.add_end.Goals as goal
 
 pub invariant_of-self : goal.invariant_of-self
@@ -35,6 +36,8 @@ invariant_of-self c =
           c.next_serial-serial.ensures.free added (ap ends_inside c.terminal.ensures ∙ fresh_inside 0)
           some c.insert.ensures.room c.self.invariant.1,
       wet_added _ _ _ next w added (ap (λ x. x.dry) c.terminal.ensures) c.self.invariant.2,
+      ready_added _ _ next w _ _ _ c.next_serial-serial.ensures.free added (fresh_idle w 0 (ap (λ r. r.in_queue) c.terminal.ensures)) some
+          c.self.invariant.3,
     )
 
 pub insert-requires : goal.insert-requires

@@ -8,6 +8,7 @@ use Rattle.ipcz_node.specs.Directories.{ends_inside}
 use Rattle.ipcz_node.proofs.Holding.{hold_added, fresh_inside}
 use Rattle.ipcz_node.proofs.Directories.{filed_added, room_added}
 use Rattle.ipcz_node.proofs.Dryness.{wet_added}
+use Rattle.ipcz_node.proofs.Readiness.{ready_added, fresh_idle}
 use Rattle.ipcz_node.proofs.directory.Directory.add_terminal.Goals as goal
 
 pub invariant_of-self : goal.invariant_of-self
@@ -33,4 +34,6 @@ invariant_of-self c =
           c.next_serial-serial.ensures.free added (ap ends_inside c.from_descriptor.ensures ∙ fresh_inside d.next_in) some (omega arith)
           c.self.invariant.1,
       wet_added _ _ _ next w added (ap (λ x. x.dry) c.from_descriptor.ensures) c.self.invariant.2,
+      ready_added _ _ next w _ _ _ c.next_serial-serial.ensures.free added
+          (fresh_idle w d.next_in (ap (λ r. r.in_queue) c.from_descriptor.ensures)) some c.self.invariant.3,
     )

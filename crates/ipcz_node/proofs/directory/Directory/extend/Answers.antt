@@ -1,8 +1,11 @@
-use Rattle.std.proofs.Common.{◌<◌, ◌-◌, ap, sym, subst, arith}
+use Rattle.std.proofs.Common.{◌<◌, ◌-◌, ◌∙◌, ap, sym, subst, arith}
+use Rattle.ipcz_router.specs.Router.{proxy_link}
+use Rattle.ipcz_node.specs.Finding.{is_ready}
 use Rattle.ipcz_node.specs.Directories.{ends_inside}
 use Rattle.ipcz_node.proofs.Holding.{hold_kept}
 use Rattle.ipcz_node.proofs.Refiling.{FilesWithin, can_change, changed, extend_standing}
 use Rattle.ipcz_node.proofs.Dryness.{dry_kept}
+use Rattle.ipcz_node.proofs.Readiness.{ready_closed, extend_ready, ready_filed}
 use Rattle.ipcz_node.proofs.directory.Directory.extend.Goals as goal
 
 pub refile-requires : goal.refile-requires
@@ -27,4 +30,12 @@ invariant_of-self c =
       hold_kept _ c.args.serial r w c.self.inside.ends c.self.inside.room c.self.inside.held.room
           (sym c.router_mut-router.ensures.value) (ap ends_inside c.extend_to-descriptor.ensures.router) c.self.invariant.1,
       dry_kept _ _ c.args.serial r w (sym c.router_mut-router.ensures.value) (ap (λ x. x.dry) c.extend_to-descriptor.ensures.router) c.self.invariant.2,
+      ready_closed _ c.args.serial r w _ _ _ _ c.is_ready-was_ready.result _ (sym c.router_mut-router.ensures.value) c.is_ready-was_ready.ensures
+          (ap is_ready c.extend_to-descriptor.ensures.router ∙ extend_ready r (proxy_link c.args.link c.args.to)) c.drop_ended.ensures.latest c.drop_ended.ensures.members
+          c.drop_ended.ensures.room c.self.invariant.3,
     )
+
+pub drop_ended-requires : goal.drop_ended-requires
+drop_ended-requires c =
+    ready_filed _ c.args.serial c.router_mut-router.result.now.router _ _ _ c.is_ready-was_ready.result (sym c.router_mut-router.ensures.value)
+    (λ is. sym c.is_ready-was_ready.ensures ∙ is) c.self.invariant.3

@@ -1,9 +1,11 @@
 use Rattle.std.proofs.Common.{ap, sym, ◌∙◌, subst}
+use Rattle.ipcz_node.specs.Finding.{is_ready}
 use Rattle.ipcz_node.specs.Directories.{ends_inside}
 use Rattle.ipcz_node.proofs.Holding.{hold_kept}
 use Rattle.ipcz_node.proofs.Refiling.{StaysFiled, flag_was, flag_room, flag_changed, same_stays}
 use Rattle.ipcz_node.proofs.Standings.{hear_stays, hear_inside}
 use Rattle.ipcz_node.proofs.Dryness.{dry_kept, hear_dry}
+use Rattle.ipcz_node.proofs.Readiness.{ready_kept, hear_ready}
 use Rattle.ipcz_node.proofs.directory.Directory.hear_in_place.Goals as goal
 
 pub follow-requires-clause-was : goal.follow-requires-clause-was
@@ -32,4 +34,5 @@ invariant_of-self c =
       hold_kept _ c.args.serial r w c.self.inside.ends c.self.inside.room c.self.inside.held.room (sym c.router_mut-router.ensures.value)
           (ap ends_inside c.hear-answer.ensures.router ∙ hear_inside r c.args.sender m) c.self.invariant.1,
       dry_kept _ _ c.args.serial r w (sym c.router_mut-router.ensures.value) (ap (λ x. x.dry) c.hear-answer.ensures.router ∙ hear_dry r c.args.sender m) c.self.invariant.2,
+      ready_kept _ c.args.serial r w _ _ _ (sym c.router_mut-router.ensures.value) (ap is_ready c.hear-answer.ensures.router ∙ hear_ready r c.args.sender m) c.self.invariant.3,
     )

@@ -1,10 +1,12 @@
 use Rattle.std.proofs.Common.{◌≤◌, ◌-◌, ◌∙◌, ap, sym, subst, arith}
 use Rattle.ipcz_router.specs.Hearing.{links_brought}
+use Rattle.ipcz_node.specs.Finding.{is_ready}
 use Rattle.ipcz_node.specs.Directories.{ends_inside}
 use Rattle.ipcz_node.proofs.Holding.{hold_kept}
 use Rattle.ipcz_node.proofs.Refiling.{FilesWithin, can_change, changed}
 use Rattle.ipcz_node.proofs.Standings.{hear_standing, hear_inside}
 use Rattle.ipcz_node.proofs.Dryness.{dry_kept, hear_dry}
+use Rattle.ipcz_node.proofs.Readiness.{ready_kept, hear_ready}
 use Rattle.ipcz_node.proofs.directory.Directory.hear_on_links.Goals as goal
 
 pub refile-requires : goal.refile-requires
@@ -33,4 +35,5 @@ invariant_of-self c =
       hold_kept _ c.args.serial r w c.self.inside.ends c.self.inside.room c.self.inside.held.room (sym c.router_mut-router.ensures.value)
           (ap ends_inside c.hear-answer.ensures.router ∙ hear_inside r c.args.sender m) c.self.invariant.1,
       dry_kept _ _ c.args.serial r w (sym c.router_mut-router.ensures.value) (ap (λ x. x.dry) c.hear-answer.ensures.router ∙ hear_dry r c.args.sender m) c.self.invariant.2,
+      ready_kept _ c.args.serial r w _ _ _ (sym c.router_mut-router.ensures.value) (ap is_ready c.hear-answer.ensures.router ∙ hear_ready r c.args.sender m) c.self.invariant.3,
     )

@@ -1,9 +1,11 @@
 use Rattle.std.proofs.Common.{◌≡◌, ap, subst, sym, ◌∙◌}
 use Rattle.ipcz_base.specs.declared.item.Item.TheVariants.{Parcel}
+use Rattle.ipcz_node.specs.Finding.{is_ready}
 use Rattle.ipcz_node.specs.Directories.{ends_inside}
 use Rattle.ipcz_node.proofs.Holding.{hold_kept}
 use Rattle.ipcz_node.proofs.Refiling.{StaysFiled, flag_room, flag_changed, put_stays, same_stays}
 use Rattle.ipcz_node.proofs.Dryness.{dry_kept}
+use Rattle.ipcz_node.proofs.Readiness.{ready_kept}
 use Rattle.ipcz_node.proofs.directory.Directory.put.Goals as goal
 
 pub follow-requires-clause-room : goal.follow-requires-clause-room
@@ -25,4 +27,5 @@ invariant_of-self-2 c =
       hold_kept _ c.args.serial r w c.self.inside.ends c.self.inside.room c.self.inside.held.room
           (sym c.router_mut-router.ensures.value) same c.self.invariant.1,
       dry_kept _ _ c.args.serial r w (sym c.router_mut-router.ensures.value) (ap (λ x. x.dry) c.in_ok-n.ensures.ok) c.self.invariant.2,
+      ready_kept _ c.args.serial r w _ _ _ (sym c.router_mut-router.ensures.value) (ap is_ready c.in_ok-n.ensures.ok) c.self.invariant.3,
     )

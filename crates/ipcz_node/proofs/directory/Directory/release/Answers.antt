@@ -8,4 +8,5 @@ invariant_of-self c = (
   hold_more _ _ c.self.inside.ends c.self.inside.room c.self.inside.room c.self.inside.held.room _ refl
       (omega (arith, c.self.invariant.1.room, c.remove_all.ensures.room)) c.self.invariant.1,
   c.self.invariant.2,
+  c.self.invariant.3,
 )

@@ -1,9 +1,10 @@
-use Rattle.std.proofs.Common.{sym, subst, refl, arith}
+use Rattle.std.proofs.Common.{◌∙◌, sym, subst, refl, arith}
 use Rattle.ipcz_node.specs.Directories.{AreFiled, HaveRoom}
 use Rattle.ipcz_node.proofs.Directories.{can_refile, unfiled}
 use Rattle.ipcz_node.proofs.Holding.{hold_dropped}
 use Rattle.ipcz_node.proofs.Refiling.{nowhere, under_nowhere}
 use Rattle.ipcz_node.proofs.Dryness.{dry_dropped}
+use Rattle.ipcz_node.proofs.Readiness.{ready_dropped, ready_filed}
 use Rattle.ipcz_node.proofs.directory.Directory.remove.Goals as goal
 
 pub refile-requires : goal.refile-requires
@@ -25,4 +26,12 @@ invariant_of-self c =
       hold_dropped _ _ c.args.serial c.remove-router.result.router c.self.inside.ends c.self.inside.room c.self.inside.held.room
           (sym c.remove-router.ensures.router) c.remove-router.ensures.routers c.self.invariant.1,
       dry_dropped _ _ _ c.args.serial c.remove-router.ensures.routers c.self.invariant.2,
+      ready_dropped _ _ c.args.serial c.remove-router.result.router _ _ _ _ c.is_ready-was_ready.result _ (sym c.remove-router.ensures.router)
+          c.remove-router.ensures.routers c.is_ready-was_ready.ensures c.drop_ended.ensures.latest c.drop_ended.ensures.members
+          c.drop_ended.ensures.room c.self.invariant.3,
     )
+
+pub drop_ended-requires : goal.drop_ended-requires
+drop_ended-requires c =
+    ready_filed _ c.args.serial c.remove-router.result.router _ _ _ c.is_ready-was_ready.result (sym c.remove-router.ensures.router)
+    (λ is. sym c.is_ready-was_ready.ensures ∙ is) c.self.invariant.3

@@ -1,8 +1,10 @@
 use Rattle.std.proofs.Common.{ap, ◌∙◌, sym, subst}
+use Rattle.ipcz_node.specs.Finding.{is_ready}
 use Rattle.ipcz_node.specs.Directories.{ends_inside}
 use Rattle.ipcz_node.proofs.Holding.{hold_kept}
 use Rattle.ipcz_node.proofs.Refiling.{StaysFiled, flag_was, flag_room, flag_changed, same_stays, rewet_stays}
 use Rattle.ipcz_node.proofs.Dryness.{wet_written}
+use Rattle.ipcz_node.proofs.Readiness.{ready_kept}
 use Rattle.ipcz_node.proofs.directory.Directory.rewet.Goals as goal
 
 pub follow-requires-clause-was : goal.follow-requires-clause-was
@@ -32,4 +34,5 @@ invariant_of-self c =
       hold_kept _ c.args.serial r w c.self.inside.ends c.self.inside.room c.self.inside.held.room
           (sym c.router_mut-router.ensures.value) same c.self.invariant.1,
       wet_written _ _ c.args.serial w (λ _. ap (λ x. x.dry) is) c.self.invariant.2,
+      ready_kept _ c.args.serial r w _ _ _ (sym c.router_mut-router.ensures.value) (ap is_ready is) c.self.invariant.3,
     )

@@ -12,7 +12,7 @@ pub returns-clause-here : goal.returns-clause-here
 unfolding node_at
 returns-clause-here c = λ inside.
     let read = c.node.ensures ∙ ap (λ (w : World). place_at (bare_node 0 0) w.nodes c.args.n) c.self.view_is in
-    subst (λ x. IsNextReady x c.args.serial c.ready_from.result) read c.ready_from.ensures
+    subst (λ x. IsNextReady x c.args.serial c.ready_from.result) read c.ready_from.ensures.next
 
 pub returns-clause-away : goal.returns-clause-away
 returns-clause-away c =

@@ -1,0 +1,204 @@
+//! At which of several portals something has come.
+ghost use Rattle.std.specs.Prelude.{◌≡◌, ◌≢◌, ◌<◌, ◌≤◌, true, false, None, IfOk, IfErr, IfSome, length};
+ghost use Rattle.ipcz_fabric.specs.Portals.{portal_at};
+ghost use Rattle.ipcz_fabric.specs.Readiness.{EachBefore, Finds, IsFirstReady, IsNoneReady, IsThere};
+ghost use Rattle.ipcz_fabric.specs.Stopping.{IsStop};
+
+use crate::deadline::{Deadline, Patience};
+use crate::hub::Hub;
+use crate::missed::Missed;
+use crate::portal::Portal;
+use crate::selecting::{NoneGot, are_empty};
+use ipcz_base::{End, Refusal};
+use ipcz_cell::{Bells, FabricName, NodeSet, Ticket};
+use std::sync::Wait;
+use std::time::{Clock, Duration};
+
+/// The first place below a limit of the portal of an end at a node; the limit if there is none.
+pub(crate) fn place_in<F: FabricName>(
+    portals: &[Portal<F>],
+    limit: usize,
+    node: u8,
+    end: End,
+) -> usize
+    requires { limit ≤ length portals.now }
+    ensures most { result ≤ limit }
+    ensures there { result < limit → IsThere portals.now result (λ p. p ≡ portal_at node end) }
+    ensures first { EachBefore portals.now result (λ p. p ≢ portal_at node end) }
+{
+    for place in 0..limit {
+        let portal = &portals[place];
+        if portal.node() == node && portal.end() == end {
+            return place;
+        }
+    }
+    limit
+}
+
+// What is told where a get at each portal finds nothing: the node of that at a place is stopped, or nothing has come.
+fn none_of(stopped: Option<(usize, Refusal)>) -> NoneGot
+    ensures none { stopped ≡ None → (result.place ≡ None) × (result.why ≡ Missed.Refused Refusal.Empty) }
+    ensures stopped { IfSome stopped (λ s. (result.place ≡ Some s.0) × (result.why ≡ Missed.Stopped s.1)) }
+{
+    match stopped {
+        Some((place, why)) => NoneGot {
+            place: Some(place),
+            why: Missed::Stopped(why),
+        },
+        None => NoneGot {
+            place: None,
+            why: Missed::Refused(Refusal::Empty),
+        },
+    }
+}
+
+/// The node of all of these portals, if they are of one.
+pub(crate) fn only_node<F: FabricName>(portals: &[Portal<F>]) -> Option<u8> {
+    let node = portals.first()?.node();
+    for portal in portals {
+        if portal.node() != node {
+            return None;
+        }
+    }
+    Some(node)
+}
+
+/// Watches the bell of a node, or of all.
+pub(crate) fn watch(bells: &Bells, node: Option<u8>) -> Ticket {
+    match node {
+        Some(node) => bells.watch(node),
+        None => bells.watch_any(),
+    }
+}
+
+/// Sleeps on that bell.
+pub(crate) fn sleep<R: Wait>(
+    rt: &R,
+    bells: &Bells,
+    node: Option<u8>,
+    ticket: Ticket,
+    limit: Duration,
+) {
+    match node {
+        Some(node) => bells.sleep(rt, node, ticket, limit),
+        None => bells.sleep_any(rt, ticket, limit),
+    }
+}
+
+impl<F: FabricName> Hub<F> {
+    // The first of some portals below a limit that is of a node and where a get finds something, by one look under that node's lock; the limit if there
+    // is none. And why the node is stopped, if it is.
+    fn look_at<R: Wait>(
+        &self,
+        rt: &R,
+        node: u8,
+        portals: &[Portal<F>],
+        limit: usize,
+    ) -> (usize, Option<Refusal>)
+        requires inside { node < F.table.count }
+        requires few { limit ≤ length portals.now }
+        ensures most { result.0 ≤ limit }
+        ensures found { result.0 < limit → IsThere portals.now result.0 (Finds F.table true) }
+        ensures none { EachBefore portals.now result.0 (λ p. p.node ≡ node → Finds F.table false p) }
+        ensures stop { IfSome result.1 IsStop }
+    {
+        let desk = self.lock(rt, node);
+        (desk.first_ready(portals, limit), desk.stop())
+    }
+
+    // The first of some portals where a get finds something. Each of their nodes is looked at once.
+    fn first_ready<R: Wait>(&self, rt: &R, portals: &[Portal<F>]) -> Result<usize, NoneGot>
+        ensures ready { IfOk result (IsFirstReady F.table portals.now) }
+        ensures none { IfErr result (λ e. IsNoneReady F.table portals.now e.place e.why) }
+    {
+        let mut looked = NodeSet::none();
+        let mut first = portals.len();
+        let mut stopped = None;
+        let mut place = 0;
+        while place < first {
+            let node = portals[place].place();
+            if !looked.has(node) {
+                looked.add(node);
+                let (found, stop) = self.look_at(rt, node, portals, first);
+                first = found;
+                stopped = stopped_at(stopped, place, stop);
+            }
+            place += 1;
+        }
+        if first < portals.len() {
+            return Ok(first);
+        }
+        Err(none_of(stopped))
+    }
+
+    // The same, asleep while there is none, as long as there is patience.
+    fn wait_patiently<R: Wait, P: Patience>(
+        &self,
+        rt: &R,
+        portals: &[Portal<F>],
+        patience: &P,
+    ) -> Result<usize, NoneGot>
+        ensures ready { IfOk result (IsFirstReady F.table portals.now) }
+        ensures none { IfErr result (λ e. IsNoneReady F.table portals.now e.place e.why) }
+        ensures over { IfErr result (λ e. e.place ≡ None → P.over) }
+    {
+        let news = self.fabric().news();
+        let node = only_node(portals);
+        for _try in rt.forever() {
+            let left = patience.left();
+            let ticket = watch(news, node);
+            let ready = self.first_ready(rt, portals);
+            if left.is_zero() || !are_empty(&ready) {
+                return ready;
+            }
+            sleep(rt, news, node, ticket, left);
+        }
+        unreachable!()
+    }
+
+    /// Sleeps until something has come at one of some portals, a parcel or the close of its peer, and tells which: the place in the list of the first
+    /// of them where a get finds something. Nothing is taken, so that somebody else may get there first. It sleeps no longer than `limit` in all:
+    /// `Duration::MAX` is without end, and `Duration::ZERO` doesn't sleep. The portals may be of several nodes, whose turns workers have to take meanwhile.
+    ///
+    /// Each look takes the lock of each of the portals' nodes once, and searches what has come there, with a walk over the list for each end where something
+    /// has. If all are of one node, a message that is handled there ends the sleep for one look; else one that is handled at any node does. It takes no
+    /// memory, and is no call in the nodes' histories. Who wants all portals to have their turn puts the one that was served last at the end of the list.
+    ///
+    /// Refused with `place` if nothing has come at any of the portals and the last turn of the node of that one was refused, so that its workers have ended
+    /// ([`Missed::Stopped`]). Without a place nothing has come in the time. So of an empty list. At a portal whose end the node's callers don't hold
+    /// nothing ever comes. A clock that can't be read ends the wait.
+    ///
+    /// So `hub.wait_any(rt, &portals, Duration::from_secs(1))` is `Ok(1)` where the first parcel comes at `portals[1]`, and a get follows there.
+    pub fn wait_any<R: Wait + Clock>(
+        &self,
+        rt: &R,
+        portals: &[Portal<F>],
+        limit: Duration,
+    ) -> Result<usize, NoneGot>
+        ensures ready { IfOk result (IsFirstReady F.table portals.now) }
+        ensures none { IfErr result (λ e. IsNoneReady F.table portals.now e.place e.why) }
+    {
+        let first = self.first_ready(rt, portals);
+        if !are_empty(&first) {
+            return first;
+        }
+        self.wait_patiently(rt, portals, &Deadline::new(rt, limit))
+    }
+}
+
+// Which portal's node is stopped, and why: that which was known before, or else that of this place, if it is.
+fn stopped_at(
+    before: Option<(usize, Refusal)>,
+    place: usize,
+    stop: Option<Refusal>,
+) -> Option<(usize, Refusal)>
+    ensures before { IfSome before (λ s. result ≡ Some s) }
+    ensures none { before ≡ None → stop ≡ None → result ≡ None }
+    ensures now { before ≡ None → IfSome stop (λ why. result ≡ Some (place, why)) }
+{
+    match (before, stop) {
+        (Some(before), _) => Some(before),
+        (None, Some(why)) => Some((place, why)),
+        (None, None) => None,
+    }
+}
