@@ -306,8 +306,8 @@ def prefix() -> list[str]:
 def show_threads() -> None:
     before = prefix()
     alone = [("two_nodes", BENCH), ("cells", BENCH_THREADS), ("hub", BENCH_THREADS)]
-    pairs = [(name, BENCH_THREADS) for name in ("cells_on_threads", "hub_on_threads", "round_trips", "hub_round_trips",
-                                                "sleeping_round_trips", "hub_sleeping_round_trips")]
+    pairs = [(name, BENCH_THREADS) for name in ("cells_on_threads", "cells_streaming", "hub_on_threads", "hub_streaming", "round_trips",
+                                                "hub_round_trips", "sleeping_round_trips", "hub_sleeping_round_trips")]
     times: list[list[int]] = [[] for _ in alone + pairs]
     for _ in range(20):
         for (name, program), found in zip(alone + pairs, times):
@@ -344,7 +344,7 @@ def instructions(name: str, rounds: int, program: str = BENCH) -> int:
 
 # What of ours is measured beside other queues: on one thread, between two that poll, and there and back between these.
 OURS = {"one": [("one_node", BENCH), ("two_nodes", BENCH), ("cells", BENCH_THREADS), ("hub", BENCH_THREADS)],
-        "two": [("cells_on_threads", BENCH_THREADS), ("hub_on_threads", BENCH_THREADS)],
+        "two": [(name, BENCH_THREADS) for name in ("cells_on_threads", "cells_streaming", "hub_on_threads", "hub_streaming")],
         "back": [("round_trips", BENCH_THREADS), ("hub_round_trips", BENCH_THREADS)]}
 SAID = {"one": "one thread, put and got in turn", "two": "two threads that poll", "back": "there and back between two threads that poll"}
 
@@ -379,8 +379,12 @@ def show_peers() -> None:
                 print("  %-28s %6d %6d  %5.2f times std's, inline" % (name, found[0], found[8], found[8] / base[8]), flush=True)
 
 
+# The measures on one thread by cells and hubs.
+ON_ONE_THREAD = ("cells", "hub", "cells_in_runs", "hub_in_runs", "hub_waits_1", "hub_waits_100", "hub_asks_1", "hub_asks_100")
+
+
 def show_instructions() -> None:
-    for name, program in [(name, BENCH) for name in MEASURES if name not in BYTES] + [("cells", BENCH_THREADS), ("hub", BENCH_THREADS)]:
+    for name, program in [(name, BENCH) for name in MEASURES if name not in BYTES] + [(name, BENCH_THREADS) for name in ON_ONE_THREAD]:
         each = (instructions(name, 12000, program) - instructions(name, 2000, program)) / 10000
         print("%-14s %8d" % (name, round(each)), flush=True)
 

@@ -11,10 +11,62 @@ pub const LENGTH: usize = 16;
 // How many parcels may wait to be posted.
 const AHEAD: u64 = 4;
 
+// How many parcels are put in a row.
+const RUN: u64 = 16;
+
+// How many parcels may have no acknowledgement.
+const WINDOW: u64 = 256;
+
+// How many parcels an acknowledgement is for.
+const SHARE: u64 = 64;
+
 /// So many times a put at one talker, the acts of both, and a get at the other.
 pub fn pass<T: Talker>(left: &mut T, right: &mut T, rounds: u64) -> bool {
     for _round in 0..rounds {
         if !left.put(LENGTH) || !left.acts() || !right.acts() || !right.get() {
+            return false;
+        }
+    }
+    true
+}
+
+/// So many parcels, or as many more as make the last run whole.
+pub fn whole_runs(rounds: u64) -> u64 {
+    match rounds % RUN {
+        0 => rounds,
+        part => rounds.saturating_add(RUN).saturating_sub(part),
+    }
+}
+
+// A run of puts.
+fn put_run<T: Talker>(talker: &mut T) -> bool {
+    for _parcel in 0..RUN {
+        if !talker.put(LENGTH) {
+            return false;
+        }
+    }
+    true
+}
+
+// A run of gets.
+fn get_run<T: Talker>(talker: &mut T) -> bool {
+    for _parcel in 0..RUN {
+        if !talker.get() {
+            return false;
+        }
+    }
+    true
+}
+
+// The acts of both, which bring a run over. Its first parcel is posted as soon as it is sent, and the others wait until that one was handled.
+fn carry<T: Talker>(left: &mut T, right: &mut T) -> bool {
+    left.acts() && right.acts() && left.acts() && right.acts()
+}
+
+/// So many parcels in whole runs: puts at one talker, the acts of both, and gets at the other.
+pub fn pass_runs<T: Talker>(left: &mut T, right: &mut T, rounds: u64) -> bool {
+    for _run in 0..rounds / RUN {
+        if !put_run(left) || !carry(left, right) || !get_run(right) {
             return false;
         }
     }
@@ -49,6 +101,70 @@ pub fn put_all<T: Talker>(talker: &mut T, rounds: u64) -> bool {
             Ok(Happened::Idle) => {
                 idle = idle.wrapping_add(1);
                 rest(idle);
+            }
+            Ok(_) | Err(_) => {}
+        }
+    }
+    false
+}
+
+/// Puts so many parcels, a window ahead of those that were acknowledged, and takes turns until all are.
+pub fn put_stream<T: Talker>(talker: &mut T, rounds: u64) -> bool {
+    let mut put = 0u64;
+    let mut acknowledged = 0u64;
+    for turn in 0..TURNS {
+        if acknowledged >= rounds {
+            return true;
+        }
+        if put < rounds && put < acknowledged.saturating_add(WINDOW) {
+            if !talker.put(LENGTH) {
+                return false;
+            }
+            put = put.saturating_add(1);
+        }
+        match talker.turn() {
+            Ok(Happened::Hand { .. }) => {
+                if talker.get() {
+                    acknowledged = acknowledged.saturating_add(SHARE);
+                }
+            }
+            Ok(Happened::Idle) => rest(turn),
+            Ok(_) | Err(_) => {}
+        }
+    }
+    false
+}
+
+// Gets a parcel that has come behind so many, and acknowledges it if a share is full with it, or it is the last. How many have come, if all went
+// as it should.
+fn acknowledge<T: Talker>(talker: &mut T, got: u64, rounds: u64) -> Option<u64> {
+    if !talker.get() {
+        return None;
+    }
+    let now = got.saturating_add(1);
+    if now % SHARE != 0 && now != rounds {
+        return Some(now);
+    }
+    talker.put(1).then_some(now)
+}
+
+/// Takes turns until so many parcels were got, and each acknowledgement was posted: a post takes all that wait.
+pub fn get_stream<T: Talker>(talker: &mut T, rounds: u64) -> bool {
+    let mut got = 0u64;
+    let mut waits = false;
+    for turn in 0..TURNS {
+        match talker.turn() {
+            Ok(Happened::Hand { .. }) => match acknowledge(talker, got, rounds) {
+                Some(now) => got = now,
+                None => return false,
+            },
+            Ok(Happened::SendOut { .. }) => waits = true,
+            Ok(Happened::Post(..)) => waits = false,
+            Ok(Happened::Idle) => {
+                if got == rounds && !waits {
+                    return true;
+                }
+                rest(turn);
             }
             Ok(_) | Err(_) => {}
         }

@@ -13,6 +13,8 @@ use std::process::ExitCode;
 const USAGE: &str = "usage: ipcz_bench_threads MEASURE [ROUNDS]
 nanoseconds a parcel of 16 bytes, one thread: cells hub
 nanoseconds a parcel of 16 bytes, a thread puts and another gets: cells_on_threads hub_on_threads
+the same where link words come back, so that a post takes all that waits. One thread, runs of 16: cells_in_runs hub_in_runs
+a thread puts and another gets, with at most 256 that aren't acknowledged: cells_streaming hub_streaming
 nanoseconds for a byte there and back between two threads: round_trips hub_round_trips
 the same where a thread sleeps while it has nothing to do: sleeping_round_trips hub_sleeping_round_trips
 a byte that is put after ROUNDS milliseconds, and got: late hub_late sleeping_late hub_sleeping_late

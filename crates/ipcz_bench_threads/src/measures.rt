@@ -2,10 +2,13 @@
 ghost use Rattle.std.specs.Prelude.{◌≡◌};
 
 use crate::lists::{Asks, Listed, list_behind};
-use crate::loops::{Idly, answer, ask, get_all, get_late, pass, put_all, put_late};
+use crate::loops::{
+    Idly, answer, ask, get_all, get_late, get_stream, pass, pass_runs, put_all, put_late,
+    put_stream, whole_runs,
+};
 use crate::talkers::{Own, Shared, Talker};
 use ipcz_base::{End, Side};
-use ipcz_fabric::{Blank, Fabric, FabricName, Hub, NodeCell, Portal, start};
+use ipcz_fabric::{Blank, Fabric, FabricName, Hub, NodeCell, Portal, start, start_lasting};
 use std::alloc::Global;
 use std::marker::Brand;
 use std::sync::Wait;
@@ -27,8 +30,12 @@ const RIGHT: End = End {
 pub enum Way {
     /// On one thread, one parcel after the other.
     Alone,
+    /// On one thread, runs of parcels one after the other. Link words come back.
+    Runs,
     /// One thread puts, another gets.
     Threads,
+    /// One thread puts, another gets, and acknowledges what it has got. Link words come back.
+    Stream,
     /// A byte there and back, between two threads.
     Trips(Idly),
     /// One thread puts a byte after so many milliseconds, and another gets it.
@@ -53,12 +60,16 @@ impl Measure {
     pub fn named(name: &str) -> Option<Measure> {
         match name {
             "cells" => Some(Measure::Cells(Way::Alone)),
+            "cells_in_runs" => Some(Measure::Cells(Way::Runs)),
+            "cells_streaming" => Some(Measure::Cells(Way::Stream)),
             "cells_on_threads" => Some(Measure::Cells(Way::Threads)),
             "round_trips" => Some(Measure::Cells(Way::Trips(Idly::Turning))),
             "sleeping_round_trips" => Some(Measure::Cells(Way::Trips(Idly::Sleeping))),
             "late" => Some(Measure::Cells(Way::Late(Idly::Turning))),
             "sleeping_late" => Some(Measure::Cells(Way::Late(Idly::Sleeping))),
             "hub" => Some(Measure::Hub(Way::Alone)),
+            "hub_in_runs" => Some(Measure::Hub(Way::Runs)),
+            "hub_streaming" => Some(Measure::Hub(Way::Stream)),
             "hub_on_threads" => Some(Measure::Hub(Way::Threads)),
             "hub_round_trips" => Some(Measure::Hub(Way::Trips(Idly::Turning))),
             "hub_sleeping_round_trips" => Some(Measure::Hub(Way::Trips(Idly::Sleeping))),
@@ -84,6 +95,12 @@ fn talk<R: Threads + Clock + Sync, T: Talker + Send>(
 ) -> bool {
     let (one, two) = match way {
         Way::Alone => (pass(left, right, rounds), true),
+        Way::Runs => (pass_runs(left, right, rounds), true),
+        Way::Stream => join(
+            rt,
+            || put_stream(left, rounds),
+            || get_stream(right, rounds),
+        ),
         Way::Threads => join(rt, || put_all(left, rounds), || get_all(right, rounds)),
         Way::Trips(idly) => join(
             rt,
@@ -95,6 +112,14 @@ fn talk<R: Threads + Clock + Sync, T: Talker + Send>(
     one && two
 }
 
+// So many rounds, or as many more as make the last run whole.
+fn whole(way: Way, rounds: u64) -> u64 {
+    match way {
+        Way::Runs => whole_runs(rounds),
+        _ => rounds,
+    }
+}
+
 // The share of one of so many rounds in nanoseconds, if they went as they should.
 fn timed<R: Threads + Clock + Sync, T: Talker + Send>(
     rt: &R,
@@ -103,6 +128,7 @@ fn timed<R: Threads + Clock + Sync, T: Talker + Send>(
     way: Way,
     rounds: u64,
 ) -> Option<u64> {
+    let rounds = whole(way, rounds);
     let start = Instant::now(rt).ok()?;
     if !talk(rt, left, right, way, rounds) {
         return None;
@@ -271,6 +297,14 @@ fn nanoseconds_of_lists<R: Threads + Wait + Clock + Sync>(
     by_lists::<Brand, R>(rt, alloc, blank, asks, count, rounds)
 }
 
+// A table of two nodes for a way.
+fn table(alloc: Global, way: Way) -> Option<Blank> {
+    match way {
+        Way::Runs | Way::Stream => start_lasting(alloc, 2, 64, u64::MAX).ok(),
+        _ => start(alloc, 2, 4).ok(),
+    }
+}
+
 // What a parcel or a round trip takes between two nodes of a new table.
 fn nanoseconds<R: Threads + Wait + Clock + Sync>(
     rt: &R,
@@ -279,7 +313,7 @@ fn nanoseconds<R: Threads + Wait + Clock + Sync>(
     way: Way,
     rounds: u64,
 ) -> Option<u64> {
-    let blank = start(alloc, 2, 4).ok()?;
+    let blank = table(alloc, way)?;
     if is_hub {
         by_hub::<Brand, R>(rt, alloc, blank, way, rounds)
     } else {
@@ -292,6 +326,8 @@ fn count_all<R: Threads + Wait + Clock + Sync>(rt: &R, alloc: Global, rounds: u6
     let mut count = 0u64;
     let ways = [
         Way::Alone,
+        Way::Runs,
+        Way::Stream,
         Way::Threads,
         Way::Trips(Idly::Turning),
         Way::Trips(Idly::Sleeping),

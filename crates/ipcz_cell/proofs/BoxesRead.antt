@@ -1,5 +1,5 @@
 -- Words, slots and hands that are read one after the other.
-use Rattle.std.specs.Prelude.{◌≡◌, ◌≢◌, ◌⊎◌, ◌≤◌, ◌<◌, ◌+◌, ◌*◌, ◌/◌, ◌%◌, ℕ, zero, suc, Bool, true, false, nat_eq, List, [], ◌∷◌, ◌++◌, length, slice_index, Option, Some, refl}
+use Rattle.std.specs.Prelude.{◌≡◌, ◌≢◌, ◌⊎◌, ◌≤◌, ◌<◌, ◌+◌, ◌*◌, ◌/◌, ◌%◌, ℕ, zero, suc, Bool, true, false, nat_eq, List, [], ◌∷◌, ◌++◌, length, slice_index, Option, Some, None, refl}
 use Rattle.std.proofs.Common.{arith, ap, ◌∙◌, sym, inl, inr, ⊎_elim, set, get_or}
 use Rattle.std.proofs.lemmas.Bool.Decides.{nat_tests}
 use Rattle.std.proofs.lemmas.Nat.{div_below, mod_below, div-add-mod'}
@@ -10,9 +10,10 @@ use lib.ListN.{get_elem?}
 use Rattle.atomic_table.proofs.Lists.{set_here, set_else}
 use Rattle.ipcz_base.specs.Indexed.{place_at}
 use Rattle.ipcz_base.specs.declared.message.Message.{Message}
+use Rattle.ipcz_node.specs.Acts.{first_of}
 use Rattle.ipcz_world.specs.declared.mail.Mail.{Mail}
 use Rattle.ipcz_world.specs.declared.mail.Mail.TheVariants as mails
-use Rattle.ipcz_rule.specs.Rule.{Slot}
+use Rattle.ipcz_rule.specs.Batches.{Batch}
 use Rattle.ipcz_cell.specs.Ending.{Reads, box_of, hand_left, full_of, hand_of}
 
 -- a number of a list
@@ -54,7 +55,7 @@ last_place (y ∷ l) x zero e = absurd (omega (arith, e))
 last_place (y ∷ l) x (suc j) e = last_place l x j (omega (arith, e))
 
 -- the mailboxes below k are read, and the hands that these don't have are as they were
-pub record AreRead (n first : ℕ) (words : List ℕ) (slots : List Slot) (old hands : List (Option Message)) (k : ℕ) (boxes : List Mail) : Type 0 where
+pub record AreRead (n first : ℕ) (words : List ℕ) (slots : List Batch) (old hands : List (Option Message)) (k : ℕ) (boxes : List Mail) : Type 0 where
   pub boxes_are : (mail : ℕ → Mail) → Reads n first words slots old mail → (j : ℕ) → j < k → place_at mails.Empty boxes j ≡ mail j
   pub hands_are : (to : ℕ) → to < n → (get_elem? hands to ≡ get_elem? old to) ⊎
       ((from : ℕ) × (from < n) × (from * n + to < k) × (slice_index words (first + (from * n + to)) ≡ 2))
@@ -70,13 +71,24 @@ row_below n k l = div_below k n n (some_rows n k l) l
 pub column_below : (n k : ℕ) → k < n * n → k % n < n
 column_below n k l = mod_below k n (some_rows n k l)
 
-box_full : (word : ℕ) (slot : Slot) (hand : Option Message) (x : Message) → word ≡ 1 → slot ≡ Some x → box_of word slot hand ≡ mails.Full x
+box_full : (word : ℕ) (slot : Batch) (hand : Option Message) (x : Message) → word ≡ 1 → slot ≡ x ∷ [] → box_of word slot hand ≡ mails.Full x
 box_full word slot hand x e f = ap (λ (n : ℕ). box_of n slot hand) e ∙ ap full_of f
 
-box_hand : (word : ℕ) (slot : Slot) (hand : Option Message) (x : Message) → word ≡ 2 → hand ≡ Some x → box_of word slot hand ≡ mails.Hand x
+-- what is taken first out of a slot
+pub box_first : (word : ℕ) (slot : Batch) (hand r : Option Message) (x : Message) → word ≡ 1 → r ≡ first_of slot → r ≡ Some x → mails.Full x ≡ box_of word slot hand
+unfolding first_of
+box_first word [] hand r x e f g = cc
+box_first word (y ∷ ys) hand r x e f g = let same : y ≡ x = cc in sym (ap (λ (n : ℕ). box_of n (y ∷ ys) hand) e ∙ ap mails.Full same)
+
+pub box_none : (word : ℕ) (slot : Batch) (hand r : Option Message) → word ≡ 1 → r ≡ first_of slot → r ≡ None → mails.Empty ≡ box_of word slot hand
+unfolding first_of
+box_none word [] hand r e f g = sym (ap (λ (n : ℕ). box_of n [] hand) e)
+box_none word (y ∷ ys) hand r e f g = cc
+
+box_hand : (word : ℕ) (slot : Batch) (hand : Option Message) (x : Message) → word ≡ 2 → hand ≡ Some x → box_of word slot hand ≡ mails.Hand x
 box_hand word slot hand x e f = ap (λ (n : ℕ). box_of n slot hand) e ∙ ap hand_of f
 
-box_empty : (word : ℕ) (slot : Slot) (hand : Option Message) → word ≢ 1 → word ≢ 2 → box_of word slot hand ≡ mails.Empty
+box_empty : (word : ℕ) (slot : Batch) (hand : Option Message) → word ≢ 1 → word ≢ 2 → box_of word slot hand ≡ mails.Empty
 box_empty word slot hand a b =
     let not_full : nat_eq word 1 ≡ false = grind (arith, nat_tests, a) in
     let not_hand : nat_eq word 2 ≡ false = grind (arith, nat_tests, b) in
@@ -85,7 +97,7 @@ box_empty word slot hand a b =
 hand_stays : (word : ℕ) (hand : Option Message) → word ≢ 2 → hand_left word hand ≡ hand
 hand_stays word hand b = let not_hand : nat_eq word 2 ≡ false = grind (arith, nat_tests, b) in rw not_hand refl
 
-module _ (n first : ℕ) (words : List ℕ) (slots : List Slot) (old hands after : List (Option Message)) (k : ℕ) (boxes new : List Mail) (word : ℕ) (slot : Slot) (hand : Option Message)
+module _ (n first : ℕ) (words : List ℕ) (slots : List Batch) (old hands after : List (Option Message)) (k : ℕ) (boxes new : List Mail) (word : ℕ) (slot : Batch) (hand : Option Message)
     (l : k < n * n) (was : AreRead n first words slots old hands k boxes) (many : length boxes ≡ k) (at_word : get_elem? words (first + k) ≡ some word) (at_slot : get_elem? slots k ≡ some slot)
     (at_hand : get_elem? hands (k % n) ≡ some hand) (inside : k % n < length hands) (left : after ≡ set hands (k % n) (hand_left word hand)) (more : new ≡ boxes ++ box_of word slot hand ∷ []) where
   row : ℕ
@@ -104,7 +116,7 @@ module _ (n first : ℕ) (words : List ℕ) (slots : List Slot) (old hands after
   box_is : (mail : ℕ → Mail) → Reads n first words slots old mail → box_of word slot hand ≡ mail k
   box_is mail rs = dite (ℕ_discrete word 1)
       (λ one. let t = rs.full k l (word_is ∙ one) in
-      box_full word slot hand t.0 one (some-injective slot (Some t.0) (sym at_slot ∙ t.1)) ∙ sym t.2)
+      box_full word slot hand t.0 one (some-injective slot (t.0 ∷ []) (sym at_slot ∙ t.1)) ∙ sym t.2)
       (λ not_one. dite (ℕ_discrete word 2)
       (λ two. let t = rs.hand (k / n) (k % n) (row_below n k l) (column_below n k l) (word_there ∙ two) in
       let mail_is : mail k ≡ mails.Hand t.0 = ap mail (sym place) ∙ t.2 in
@@ -143,7 +155,7 @@ module _ (n first : ℕ) (words : List ℕ) (slots : List Slot) (old hands after
         (λ other. weaken to (was.hands_are to lt) (after_at to other));
   }
 
-pub none_read : (n first : ℕ) (words : List ℕ) (slots : List Slot) (hands : List (Option Message)) (boxes : List Mail) → AreRead n first words slots hands hands 0 boxes
+pub none_read : (n first : ℕ) (words : List ℕ) (slots : List Batch) (hands : List (Option Message)) (boxes : List Mail) → AreRead n first words slots hands hands 0 boxes
 none_read n first words slots hands boxes = record { boxes_are = λ mail rs j below. absurd (omega (arith, below)); hands_are = λ to lt. inl refl }
 
 -- places of slots, of which one is emptied

@@ -1,14 +1,16 @@
 -- The steps on the claim count.
-use Rattle.std.specs.Prelude.{None, ◌≡◌, ◌≤◌, ℕ, List, [], ◌∷◌, Option, MatchBool, eqb, slice_index, Bool}
+use Rattle.std.specs.Prelude.{not, None, ◌≡◌, ◌≤◌, ℕ, List, [], ◌∷◌, Option, MatchBool, eqb, Bool}
 use Rattle.std.proofs.Common.{ap, sym, subst, ◌∙◌, refl, arith}
 use Rattle.ipcz_router.specs.declared.act.Answer.TheVariants as answers
 use Rattle.ipcz_router.specs.declared.act.RouterAct.TheVariants as router_acts
 use Rattle.ipcz_node.specs.declared.act.Act.TheVariants as acts
 use Rattle.ipcz_world.proofs.Whole.{lists_have_lengths}
-use Rattle.ipcz_rule.specs.Rule.{Mine, saw}
+use Rattle.ipcz_rule.specs.Rule.{saw}
+use Rattle.ipcz_rule.specs.Batches.{BatchMine}
 use Rattle.ipcz_rule.specs.Steps.{act_part}
-use Rattle.ipcz_rule.proofs.Claiming.{loads_for_claim}
-use Rattle.ipcz_rule.proofs.RuleLaws.{counts_were_reached}
+use Rattle.ipcz_rule.proofs.BatchPlainKinds.{loads_for_claim}
+use Rattle.ipcz_rule.proofs.BatchedLaws.{counts_reached}
+use Rattle.ipcz_rule.proofs.Lasts.{count_is}
 use Rattle.ipcz_cell.specs.TableNames.{TableName}
 use Rattle.ipcz_cell.specs.CellStates.{part_in, change_part}
 use Rattle.ipcz_cell.specs.Outcomes.{Tells, IsPicked}
@@ -24,31 +26,31 @@ use Rattle.ipcz_cell.proofs.Seating.{may_by, reseated, touched_cell}
 use Rattle.ipcz_cell.specs.Seats.{Keeps}
 
 -- a step at the claim count tells that what it finds is at most the number of words, and at least each count that was seen
-pub counts_told : (all : Bool) (count size slots id : ℕ) (m : Mine) (f : ℕ → ℕ) (then : ℕ → Mine → Type 0) → Keeps all count size slots id m size f then →
+pub counts_told : (all : Bool) (count size slots id : ℕ) (m : BatchMine) (f : ℕ → ℕ) (then : ℕ → BatchMine → Type 0) → Keeps all count size slots id m size f then →
     Keeps all count size slots id m size f (λ n m'. (n ≤ size) × AreReached size m.0.seen n × then n m')
-counts_told all count size slots id m f then may s r deep at small =
-    let h = may s r deep at small in
-    let most = (lists_have_lengths r.world r.books r.routes r.lawful).claimed in
-    let is = ap (slice_index s.words) (sym r.words) ∙ r.shows.claims in
-    let size_is = r.words in
-    (h.0, h.1, h.2, h.3, (omega (arith, most, is, size_is), (λ k earlier e. (counts_were_reached count size s r id m.0 k earlier at e).0), h.4))
+counts_told all count size slots id m f then may s b deep at small =
+    let h = may s b deep at small in
+    let most = (lists_have_lengths b.rules.world b.rules.books b.rules.routes b.rules.lawful).claimed in
+    let is = count_is count size s b in
+    let size_is = b.rules.words in
+    (h.0, h.1, h.2, h.3, (omega (arith, most, is, size_is), (λ k earlier e. (counts_reached count size (not all) s b id m.0 k earlier at e).0), h.4))
 
-pub count_may : (t : TableName) (id word serial : ℕ) (m : Mine) (told : Tells) → IsPicked told (counted t.size serial) → m.0.parts ≡ part_in m.0 ∷ [] → CanClaim (part_in m.0).state serial → t.size ≡ word →
+pub count_may : (t : TableName) (id word serial : ℕ) (m : BatchMine) (told : Tells) → IsPicked told (counted t.size serial) → m.0.parts ≡ part_in m.0 ∷ [] → CanClaim (part_in m.0).state serial → t.size ≡ word →
     Keeps t.reuses t.count t.size t.id.slots id m word (λ n. n) (told m)
 count_may t id word serial m told picked whole can at =
     may_by t.reuses t.count t.size t.id.slots id m word (λ n. n) told (counted t.size serial) picked
     (subst (λ (i : ℕ). Keeps t.reuses t.count t.size t.id.slots id m i (λ n. n) (counted t.size serial m)) at
     (counts_told t.reuses t.count t.size t.id.slots id m (λ n. n) (λ n m'. MatchBool (eqb n t.size) (m' ≡ (change_part (act_part (acts.Router serial router_acts.Claim) answers.NoWord) (saw t.size n m.0), m.1)) (m' ≡ (saw t.size n m.0, m.1)))
-    (loads_for_claim t.reuses t.count t.size t.id.slots id m (part_in m.0) serial can.0 whole can.1)))
+    (loads_for_claim (not t.reuses) t.reuses t.count t.size t.id.slots id m (part_in m.0) serial can.0 whole can.1)))
 
-module _ (t : TableName) (n : Node) (hand : Option Message) (tos : List ℕ) (id : TableId) (me : Mine) (was : IsCell t n hand tos id me) (id' : TableId) (me' : Mine) (same : id' ≡ id) (sound : AreSound t.count t.size me'.0) where
+module _ (t : TableName) (n : Node) (hand : Option Message) (tos senders : List ℕ) (id : TableId) (me : BatchMine) (was : IsCell t n hand tos senders id me) (id' : TableId) (me' : BatchMine) (same : id' ≡ id) (sound : AreSound t.count t.size me'.0) where
   -- a cell after loads, and then a claim
   pub claimed_cell : (n' : Node) (serial : ℕ) (seen : List (ℕ × ℕ)) (answer : Answer) → me' ≡ (change_part (act_part (acts.Router serial router_acts.Claim) answer) (record { parts = me.0.parts; seen = seen; announced = None; caller = me.0.caller }), me.1) →
-      n' ≡ commit n (acts.Router serial router_acts.Claim) answer → IsCell t n' hand tos id' me'
+      n' ≡ commit n (acts.Router serial router_acts.Claim) answer → IsCell t n' hand tos senders id' me'
   claimed_cell n' serial seen answer done e =
       let a = acts.Router serial router_acts.Claim in
       let p' = act_part a answer (part_in me.0) in
       let v' = change_part (act_part a answer) (record { parts = me.0.parts; seen = seen; announced = None; caller = me.0.caller }) in
       let state : p'.state ≡ n' = act_state a answer (part_in me.0) ∙ (ap (λ (z : Node). commit z a answer) was.seated.state ∙ sym e) in
-      touched_cell t n n' hand tos id id' me me' p' v' was
+      touched_cell t n n' hand tos senders id id' me me' p' v' was
       (reseated t n id me was.seated n' id' me' p' v' me.1 same done refl state sound) done refl (router_act_keeps serial router_acts.Claim answer (part_in me.0))

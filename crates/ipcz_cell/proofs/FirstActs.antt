@@ -1,5 +1,5 @@
 -- What the loads of a turn have found, and which act comes first by it.
-use Rattle.std.specs.Prelude.{◌≡◌, ◌≢◌, ◌≤◌, ◌<◌, ◌+◌, ℕ, zero, suc, Bool, true, false, not, ◌&&◌, List, [], ◌∷◌, ◌++◌, replicate, eqb, MatchBool, Option, Some, None}
+use Rattle.std.specs.Prelude.{◌≡◌, ◌≢◌, ◌⊎◌, ◌≤◌, ◌<◌, ◌+◌, ℕ, zero, suc, Bool, true, false, not, ◌&&◌, List, [], ◌∷◌, ◌++◌, ◌||◌, replicate, eqb, unwrap_or, MatchBool, MatchOption, Option, Some, None}
 use Rattle.std.proofs.Common.{inl, inr, ⊎_elim, ap, sym, subst, ◌∙◌, refl, arith, append_assoc, append-nil}
 use Rattle.std.proofs.lemmas.Bool.Decides.{nat_tests}
 use Rattle.std.specs.Int.{bit_at}
@@ -14,8 +14,13 @@ use Rattle.ipcz_node.specs.Acts.{are_empty, has_mail_for, first_number, next, no
 use Rattle.ipcz_node.proofs.Mailing.{no_mail_for}
 use Rattle.ipcz_rule.specs.declared.view.Part.{Part}
 use Rattle.ipcz_rule.specs.Rule.{has_number}
+use Rattle.ipcz_rule.specs.Batches.{BatchMine}
+use Rattle.ipcz_base.specs.declared.message.Message.{Message}
+use Rattle.atomic_table.specs.Seated.{TableId}
 use Rattle.ipcz_cell.specs.TableNames.{TableName}
-use Rattle.ipcz_cell.specs.CellStates.{CellState}
+use Rattle.ipcz_cell.specs.CellStates.{CellState, part_in}
+use Rattle.ipcz_cell.specs.Cells.{IsCell, has_batch, is_hand_of}
+use Rattle.ipcz_cell.proofs.Posting.{below_has}
 use Rattle.ipcz_cell.specs.Mails.{HasSeen, mail_word, inbox_word}
 use Rattle.ipcz_cell.specs.Turns.{WasFound, WasFoundClear, WasFoundOther, IsLast, NoneFull, NoneEmpty, IsOpen, IsShut, nothing_seen, IsFirstElse, IsFirst, HasLooked, Chooses, FindsFull, CanPost, FindsEmpty}
 
@@ -52,8 +57,17 @@ last_later first found word n w = record {
 clear_more : (t : TableName) (node sender : ℕ) (found more : Loads) → WasFoundClear t node sender found → WasFoundClear t node sender (found ++ more)
 clear_more t node sender found more c = record { at = c.at; clear = c.clear; load = found_more found more (inbox_word t node) c.at c.load }
 
-none_full_more : (t : TableName) (node end : ℕ) (found more : Loads) → NoneFull t node end found → NoneFull t node end (found ++ more)
-none_full_more t node end found more h sender low = ⊎_elim (λ w. inl (other_more found more (mail_word t sender node) 1 w)) (λ c. inr (clear_more t node sender found more c)) (h sender low)
+-- the mailbox to a node from each below another was loaded, and wasn't found full, or the sender's bit wasn't set
+abbrev NoneLoaded : TableName → ℕ → ℕ → Loads → Type 0
+NoneLoaded t node end found = (from : ℕ) → from < end → WasFoundOther found (mail_word t from node) 1 ⊎ WasFoundClear t node from found
+
+none_loaded_more : (t : TableName) (node end : ℕ) (found more : Loads) → NoneLoaded t node end found → NoneLoaded t node end (found ++ more)
+none_loaded_more t node end found more h sender low = ⊎_elim (λ w. inl (other_more found more (mail_word t sender node) 1 w)) (λ c. inr (clear_more t node sender found more c)) (h sender low)
+
+none_full_more : (t : TableName) (p : Part) (end : ℕ) (found more : Loads) → NoneFull t p end found → NoneFull t p end (found ++ more)
+none_full_more t p end found more h sender low =
+    let w = h sender low in
+    (w.0, ⊎_elim (λ w. inl (other_more found more (mail_word t sender p.node) 1 w)) (λ c. inr (clear_more t p.node sender found more c)) w.1)
 
 shut_more : (t : TableName) (p : Part) (to : ℕ) (found more : Loads) → IsShut t p to found → IsShut t p to (found ++ more)
 shut_more t p to found more h mail = let w = h mail in (w.0, other_more found more (mail_word t p.node to) 0 w.1)
@@ -84,7 +98,7 @@ looked_one word n a b h = record { part = h.part; room = h.room; looked = h.look
 pub record LooksFull (t : TableName) (old now : CellState) (inbox end : ℕ) : Type 0 where
   pub found : Loads
   pub looked : HasLooked found old now
-  pub none : NoneFull t old.part.node end found
+  pub none : NoneLoaded t old.part.node end found
   pub clear : (from : ℕ) → bit_at inbox from ≡ 0 → WasFoundClear t old.part.node from found
 
 -- at first the inbox is loaded
@@ -119,20 +133,65 @@ module _ (t : TableName) (a b c : CellState) (inbox end n node : ℕ) (own : nod
     looked = looked_more l.found one a b c l.looked seen;
     none = λ sender low. dite (ℕ_discrete sender end)
         (λ same. inl (subst (λ (k : ℕ). WasFoundOther (l.found ++ one) (mail_word t k a.part.node) 1) (sym same) (record { at = n; other = other; load = record { before = l.found; after = []; there = refl } })))
-        (λ apart. none_full_more t a.part.node end l.found one l.none sender (omega (arith, low, apart)));
+        (λ apart. none_loaded_more t a.part.node end l.found one l.none sender (omega (arith, low, apart)));
     clear = λ sender bit. clear_more t a.part.node sender l.found one (l.clear sender bit);
   }
 
   -- or found it full
-  pub full_found : n ≡ 1 → end < t.count → FindsFull t a (Some end) c
-  full_found is low = record {
+  pub full_found : n ≡ 1 → end < t.count → ((sender : ℕ) → sender ≤ end → has_batch a.part sender ≡ false) → FindsFull t a (Some end) c
+  full_found is low none_left = record {
     found = l.found ++ one;
     looked = looked_more l.found one a b c l.looked seen;
-    first = (low, none_full_more t a.part.node end l.found one l.none, record { before = l.found; last = λ j. l.found ++ (mail_word t end a.part.node, is j) ∷ [] });
+    first = (
+      low,
+      (λ sender below. (none_left sender (omega (arith, below)), none_loaded_more t a.part.node end l.found one l.none sender below)),
+      subst (λ (d : Bool). MatchBool d (Unit {0}) (IsLast (l.found ++ one) (mail_word t end a.part.node) 1)) (sym (none_left end (omega arith)))
+          (record { before = l.found; last = λ j. l.found ++ (mail_word t end a.part.node, is j) ∷ [] }),
+    );
   }
 
-pub full_end : (t : TableName) (a b : CellState) (inbox end : ℕ) → t.count ≤ end → LooksFull t a b inbox end → FindsFull t a None b
-full_end t a b inbox end most l = record { found = l.found; looked = l.looked; first = λ sender low. l.none sender (omega (arith, low, most)) }
+-- the lowest sender of whose batch something is left, if there is one
+pub record IsLowest (t : TableName) (p : Part) (lowest : Option ℕ) : Type 0 where
+  pub below : (sender : ℕ) → sender < unwrap_or lowest t.count → has_batch p sender ≡ false
+  pub is : (sender : ℕ) → lowest ≡ Some sender → (has_batch p sender ≡ true) × (sender < t.count)
+  pub inside : unwrap_or lowest t.count ≤ t.count
+
+pub full_end : (t : TableName) (a b : CellState) (inbox end : ℕ) (lowest : Option ℕ) → IsLowest t a.part lowest → unwrap_or lowest t.count ≤ end → LooksFull t a b inbox end → FindsFull t a lowest b
+full_end t a b inbox end None low most l =
+    record { found = l.found; looked = l.looked; first = λ sender below. (low.below sender below, l.none sender (omega (arith, below, most))) }
+full_end t a b inbox end (Some lowest) low most l = let at = low.is lowest refl in record {
+  found = l.found;
+  looked = l.looked;
+  first = (
+    at.1,
+    (λ sender below. (low.below sender below, l.none sender (omega (arith, below, most)))),
+    subst (λ (d : Bool). MatchBool d (Unit {0}) (IsLast l.found (mail_word t lowest a.part.node) 1)) (sym at.0) tt,
+  );
+}
+
+-- the senders whose slots a cell has without a message in hand are those of whose batches something is left
+module _ (t : TableName) (n : Node) (hand : Option Message) (tos senders : List ℕ) (id : TableId) (me : BatchMine) (was : IsCell t n hand tos senders id me) (a : CellState) (part : part_in me.0 ≡ a.part)
+    (idle : a.part.state.hand ≡ None) where
+  has_left : (s : ℕ) → has_number senders s ≡ has_batch a.part s
+  has_left s =
+      let none : n.hand ≡ None = ap (λ (z : Node). z.hand) (sym was.seated.state) ∙ (ap (λ (p : Part). p.state.hand) part ∙ idle) in
+      was.held s ∙ λ j. is_hand_of (none j) s || has_batch (part j) s
+
+  pub lowest_is : (lowest : Option ℕ) → MatchOption lowest (senders ≡ []) (λ low. (has_number senders low ≡ true) × ((j : ℕ) → has_number senders j ≡ true → low ≤ j)) → IsLowest t a.part lowest
+  lowest_is None none = record {
+    below = λ s l. sym (has_left s) ∙ ap (λ (xs : List ℕ). has_number xs s) none;
+    is = λ s e. absurd cc;
+    inside = omega arith;
+  }
+  lowest_is (Some low) h = let inside = below_has t.count senders low was.within h.0 in record {
+    below = λ s l. sym (has_left s) ∙ missing (has_number senders s) (λ e. let up = h.1 s e in omega (arith, up, l));
+    is = λ s e. let same : low ≡ s = cc in subst (λ (k : ℕ). (has_batch a.part k ≡ true) × (k < t.count)) same (sym (has_left low) ∙ h.0, inside);
+    inside = omega (arith, inside);
+  }
+    where
+      missing : (b : Bool) → (b ≡ true → ⊥) → b ≡ false
+      missing true f = absurd (f refl)
+      missing false f = refl
 
 -- to no node below another can a message be posted
 pub record LooksEmpty (t : TableName) (old now : CellState) (end : ℕ) : Type 0 where
@@ -250,7 +309,7 @@ module _ (t : TableName) (a b c : CellState) (o q : Option ℕ) (none : o ≡ No
         first = record {
           inside = h.first.0;
           idle = idle;
-          none = none_full_more t a.part.node t.count before.found h.found before.first;
+          none = none_full_more t a.part t.count before.found h.found before.first;
           lowest = λ k low. shut_later t a.part k before.found h.found (subst (λ (p : Part). IsShut t p k h.found) same (h.first.1 k low));
           can = open_later t a.part to before.found h.found (subst (λ (p : Part). IsOpen t p to h.found) same h.first.2);
         };
@@ -266,7 +325,7 @@ module _ (t : TableName) (a b c : CellState) (o q : Option ℕ) (none : o ≡ No
       is ∙ ap (λ (p : Part). close_turn p.state.pending (router_turn (flagged_router p.state))) looked.part in
       let first : IsFirstElse t a.part found act = record {
         idle = idle;
-        none = none_full_more t a.part.node t.count before.found h.found before.first;
+        none = none_full_more t a.part t.count before.found h.found before.first;
         lowest = λ k low. shut_later t a.part k before.found h.found (subst (λ (p : Part). IsShut t p k h.found) same (h.first k low));
         first = own ∙ sym (next_is a.part.state idle);
       } in

@@ -1,5 +1,5 @@
 -- The cells of a table that is made, one after the other.
-use Rattle.std.specs.Prelude.{◌≡◌, ◌<◌, ◌+◌, ◌-◌, ℕ, zero, suc, List, [], ◌∷◌, ◌++◌, map, length, replicate, Option, Some, None, is_some, option_to_list, refl}
+use Rattle.std.specs.Prelude.{◌≡◌, ◌<◌, ◌+◌, ◌-◌, ◌||◌, ℕ, zero, suc, false, nat_eq, not, List, [], ◌∷◌, ◌++◌, map, length, replicate, Option, Some, None, is_some, option_to_list, refl}
 use Rattle.std.proofs.Common.{arith, ap, ◌∙◌, sym, subst}
 use Rattle.std.proofs.lemmas.List.{map-append, length-map, replicate_more}
 use mathlib.Core.Option.{some, some-injective, some-ne-none}
@@ -11,13 +11,15 @@ use Rattle.ipcz_world.specs.World.{numbers_from}
 use Rattle.ipcz_world.specs.Soundness.{IsSound}
 use Rattle.ipcz_rule.specs.declared.view.View.{View}
 use Rattle.ipcz_rule.specs.declared.view.Part.{Part}
-use Rattle.ipcz_rule.specs.Rule.{Mine}
+use Rattle.ipcz_rule.specs.Rule.{has_number}
+use Rattle.ipcz_rule.specs.Batches.{Batch, BatchMine}
 use Rattle.ipcz_rule.specs.Start.{opening_part, opening_parts, dealt}
+use Rattle.ipcz_rule.proofs.BatchedStart.{nothing_from}
 use Rattle.ipcz_rule.proofs.Starting.{new_hand, starts_sound}
 use Rattle.ipcz_rule.proofs.Dealing.{dealt_opening}
 use Rattle.ipcz_cell.specs.TableNames.{TableName, IsLaidOut}
 use Rattle.ipcz_cell.specs.CellStates.{CellState, first_part, part_in}
-use Rattle.ipcz_cell.specs.Cells.{IsCell, AreBelow, held_slots, hand_slots}
+use Rattle.ipcz_cell.specs.Cells.{IsCell, AreBelow, has_batch, held_slots, is_hand_of}
 use Rattle.ipcz_cell.specs.Making.{BodyValue, opening_body, AreBodies, AreFirst}
 
 -- so many numbers and one more
@@ -79,9 +81,9 @@ body-taken count n old new r b below left taken is =
     (ap (head_or b) both, ap tail_of both)
 
 -- a node's first cell keeps what a cell keeps
-pub first-cell : (t : TableName) → IsLaidOut t → (n : ℕ) → n < t.count → (node : Node) (probed : List ℕ) (id : TableId) (me : Mine) (v : View) → id ≡ t.id →
-    me ≡ (dealt v, []) → v.parts ≡ opening_parts t.count n (t.count - n) → node ≡ new_node n t.count → probed ≡ [] → IsCell t node None probed id me
-first-cell t out n below node probed id me v own at is fresh empty = record {
+pub first-cell : (t : TableName) → IsLaidOut t → (n : ℕ) → n < t.count → (node : Node) (probed held : List ℕ) (id : TableId) (me : BatchMine) (v : View) → id ≡ t.id →
+    me ≡ (dealt v, []) → v.parts ≡ opening_parts t.count n (t.count - n) → node ≡ new_node n t.count → probed ≡ [] → held ≡ [] → IsCell t node None probed held id me
+first-cell t out n below node probed held id me v own at is fresh empty none = record {
   seated = record {
     named = own;
     whole = alone ∙ ap (λ (p : Part). p ∷ []) (sym part);
@@ -90,16 +92,25 @@ first-cell t out n below node probed id me v own at is fresh empty = record {
   };
   message = ap (λ (p : Part). p.message) part;
   probed = ap (λ (p : Part). p.probed) part ∙ sym empty;
-  slots = ap (λ (m : Mine). m.1) at ∙ sym (ap (held_slots t.count) part ∙ ap (hand_slots t.count n) (new_hand n t.count));
+  slots = ap (λ (m : BatchMine). m.1) at ∙ sym (λ j. held_slots t.count (part j) (none j));
   holding = ap is_some (sym (new_hand n t.count)) ∙ ap (λ (x : Node). is_some x.hand) (sym fresh);
   below = subst (AreBelow t.count) (sym empty) tt;
+  held = λ s. ap (λ (l : List ℕ). has_number l s) none ∙ sym ((λ j. is_hand_of (idle j) s || has_batch (part j) s) ∙ nothing_left s);
+  within = subst (AreBelow t.count) (sym none) tt;
+  alone = λ e s. ap (λ (q : Part). has_batch q s) part ∙ nothing_left s;
 }
   where
     alone : me.0.parts ≡ opening_part t.count n ∷ []
-    alone = ap (λ (m : Mine). m.0.parts) at ∙ dealt_opening t.count v n below is
+    alone = ap (λ (m : BatchMine). m.0.parts) at ∙ dealt_opening t.count v n below is
 
     part : part_in me.0 ≡ opening_part t.count n
     part = ap first_part alone
+
+    idle : node.hand ≡ None
+    idle = ap (λ (x : Node). x.hand) fresh ∙ new_hand n t.count
+
+    nothing_left : (s : ℕ) → has_batch (opening_part t.count n) s ≡ false
+    nothing_left s = ap (λ (xs : Batch). not (nat_eq (length xs) 0)) (nothing_from s)
 
     one : (k : ℕ) (p : Part) → get_elem? (opening_part t.count n ∷ []) k ≡ some p → (p.node < t.count) × IsSound t.count t.size p.node p.state
     one zero p e = subst (λ (q : Part). (q.node < t.count) × IsSound t.count t.size q.node q.state) (some-injective (opening_part t.count n) p e)

@@ -29,7 +29,7 @@ put_hand n None q = refl
 put_hand n (Some f) q = refl
 
 pub put_keeps : (at : End) (bytes : List ℕ) (ends : List End) (p : Part) → KeepsHands p (put_part at bytes ends p)
-put_keeps at bytes ends p = record { node = refl; hand = put_hand p.state (terminal_of p.state at) (record { bytes = bytes; ends = ends }); message = refl; probed = refl }
+put_keeps at bytes ends p = record { node = refl; hand = put_hand p.state (terminal_of p.state at) (record { bytes = bytes; ends = ends }); message = refl; probed = refl; batches = refl }
 
 get_hand : (n : Node) (f : Option Found) → (on_found n f (get_at_router n)).hand ≡ n.hand
 unfolding on_found
@@ -37,8 +37,8 @@ get_hand n None = refl
 get_hand n (Some f) = refl
 
 got_keeps : (at : End) (o : Option (ℕ × parcels.Parcel)) (p : Part) → KeepsHands p (part_got at o p)
-got_keeps at None p = record { node = refl; hand = refl; message = refl; probed = refl }
-got_keeps at (Some g) p = record { node = refl; hand = get_hand p.state (terminal_of p.state at); message = refl; probed = refl }
+got_keeps at None p = record { node = refl; hand = refl; message = refl; probed = refl; batches = refl }
+got_keeps at (Some g) p = record { node = refl; hand = get_hand p.state (terminal_of p.state at); message = refl; probed = refl; batches = refl }
 
 pub get_keeps : (at : End) (p : Part) → KeepsHands p (got_part at p)
 get_keeps at p = got_keeps at (got_at p.state at) p
@@ -49,7 +49,7 @@ close_hand n None = refl
 close_hand n (Some f) = refl
 
 pub close_keeps : (at : End) (p : Part) → KeepsHands p (close_part at p)
-close_keeps at p = record { node = refl; hand = close_hand (release_ends p.state (at ∷ [])) (terminal_of (release_ends p.state (at ∷ [])) at); message = refl; probed = refl }
+close_keeps at p = record { node = refl; hand = close_hand (release_ends p.state (at ∷ [])) (terminal_of (release_ends p.state (at ∷ [])) at); message = refl; probed = refl; batches = refl }
 
 -- a send leaves the hand
 move_found_hand : (m : Transfer) (to : ℕ) (f : Option Found) → (move_found m to f).node.hand ≡ m.node.hand
@@ -77,19 +77,19 @@ router_hand n serial act answer None = refl
 router_hand n serial act answer (Some r) = send_hand (keep_or_drop n serial (apply r act answer) (leaves_by r act)) (output_of r act) ∙ keep_hand n serial (apply r act answer) (leaves_by r act)
 
 same_hands : (p : Part) → KeepsHands p p
-same_hands p = record { node = refl; hand = refl; message = refl; probed = refl }
+same_hands p = record { node = refl; hand = refl; message = refl; probed = refl; batches = refl }
 
 dropped_keeps : (r : Option Router) (p : Part) → KeepsHands p (dropped_part r p)
 dropped_keeps None p = same_hands p
-dropped_keeps (Some r) p = record { node = refl; hand = refl; message = refl; probed = refl }
+dropped_keeps (Some r) p = record { node = refl; hand = refl; message = refl; probed = refl; batches = refl }
 
 retired_keeps : (r : Option Router) (p : Part) → KeepsHands p (retired_part r p)
 retired_keeps None p = same_hands p
-retired_keeps (Some r) p = record { node = refl; hand = refl; message = refl; probed = refl }
+retired_keeps (Some r) p = record { node = refl; hand = refl; message = refl; probed = refl; batches = refl }
 
 -- what is written into the books leaves the hand
 pub written_keeps : (n : Node) (act : Act) (p : Part) → KeepsHands p (written_part n act p)
-written_keeps n (acts.Close e) p = record { node = refl; hand = refl; message = refl; probed = refl }
+written_keeps n (acts.Close e) p = record { node = refl; hand = refl; message = refl; probed = refl; batches = refl }
 written_keeps n (acts.Router serial router_acts.Discard) p = dropped_keeps (router_in n serial) p
 written_keeps n (acts.Router serial router_acts.Retire) p = retired_keeps (router_in n serial) p
 written_keeps n other p = same_hands p
@@ -114,7 +114,7 @@ act_state act answer p = written_state p.state act (with_state (commit p.state a
 acted_keeps : (act : Act) (answer : Answer) (p : Part) → (commit p.state act answer).hand ≡ p.state.hand → KeepsHands p (act_part act answer p)
 acted_keeps act answer p hand =
     let k = written_keeps p.state act (with_state (commit p.state act answer) p) in
-    record { node = k.node; hand = k.hand ∙ hand; message = k.message; probed = k.probed }
+    record { node = k.node; hand = k.hand ∙ hand; message = k.message; probed = k.probed; batches = k.batches }
 
 pub router_act_keeps : (serial : ℕ) (act : RouterAct) (answer : Answer) (p : Part) → KeepsHands p (act_part (acts.Router serial act) answer p)
 unfolding commit

@@ -2,6 +2,8 @@ pub mod Forms
 pub mod Telling
 pub mod Seating
 pub mod Keeping
+pub mod LeftSlots
+pub mod Spent
 pub mod Few
 pub mod Inboxing
 pub mod Onces

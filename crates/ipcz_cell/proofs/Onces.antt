@@ -17,6 +17,28 @@ pub without_absent : (xs : List ℕ) (i : ℕ) → has_number xs i ≡ false →
 without_absent [] i e = refl
 without_absent (j ∷ js) i e = without_by j js i (nat_eq i j) refl e (λ h. without_absent js i h)
 
+-- a number stands in a list that has it behind others
+has_middle : (xs after : List ℕ) (i : ℕ) → has_number (xs ++ i ∷ after) i ≡ true
+has_middle [] after i = let same : nat_eq i i ≡ true = grind (arith, nat_tests) in ap (λ (b : Bool). b || has_number after i) same
+has_middle (x ∷ xs) after i = or_true (nat_eq i x) (has_number (xs ++ i ∷ after) i) (has_middle xs after i)
+  where
+    or_true : (a b : Bool) → b ≡ true → (a || b) ≡ true
+    or_true true b e = refl
+    or_true false b e = e
+
+-- one that stands there once stands neither before itself nor behind
+pub once_after : (before after : List ℕ) (i : ℕ) → AreOnce (before ++ i ∷ after) → has_number after i ≡ false
+once_after [] after i once = once.0
+once_after (j ∷ js) after i once = once_after js after i once.1
+
+pub once_before : (before after : List ℕ) (i : ℕ) → AreOnce (before ++ i ∷ after) → has_number before i ≡ false
+once_before [] after i once = refl
+once_before (j ∷ js) after i once = by (nat_eq i j) refl (once_before js after i once.1)
+  where
+    by : (b : Bool) → nat_eq i j ≡ b → has_number js i ≡ false → (b || has_number js i) ≡ false
+    by true h k = absurd (let same : j ≡ i = grind (arith, nat_tests, h) in let has = has_middle js after i in let none = subst (λ (k : ℕ). has_number (js ++ i ∷ after) k ≡ false) same once.0 in grind (arith, has, none))
+    by false h k = k
+
 -- what a number leaves that stands there once
 pub without_split : (before after : List ℕ) (i : ℕ) → AreOnce (before ++ i ∷ after) → without_number (before ++ i ∷ after) i ≡ before ++ after
 without_split [] after i once = let same : nat_eq i i ≡ true = grind (arith, nat_tests) in ap (λ (b : Bool). cond b (without_number after i) (i ∷ without_number after i)) same ∙ without_absent after i once.0
@@ -24,16 +46,8 @@ without_split (j ∷ js) after i once =
     let other : nat_eq j i ≡ false = apart (nat_eq j i) refl in
     ap (λ (b : Bool). cond b (without_number (js ++ i ∷ after) i) (j ∷ without_number (js ++ i ∷ after) i)) other ∙ ap (λ l. j ∷ l) (without_split js after i once.1)
   where
-    there : (xs : List ℕ) (k : ℕ) → has_number (xs ++ i ∷ after) i ≡ true
-    there [] k = let same : nat_eq i i ≡ true = grind (arith, nat_tests) in ap (λ (b : Bool). b || has_number after i) same
-    there (x ∷ xs) k = or_true (nat_eq i x) (has_number (xs ++ i ∷ after) i) (there xs k)
-      where
-        or_true : (a b : Bool) → b ≡ true → (a || b) ≡ true
-        or_true true b e = refl
-        or_true false b e = e
-
     apart : (b : Bool) → nat_eq j i ≡ b → nat_eq j i ≡ false
-    apart true h = absurd (let same : j ≡ i = grind (arith, nat_tests, h) in let has = there js 0 in let hasnt : has_number (js ++ i ∷ after) i ≡ false = subst (λ (k : ℕ). has_number (js ++ i ∷ after) k ≡ false) same once.0 in grind (arith, has, hasnt))
+    apart true h = absurd (let same : j ≡ i = grind (arith, nat_tests, h) in let has = has_middle js after i in let hasnt : has_number (js ++ i ∷ after) i ≡ false = subst (λ (k : ℕ). has_number (js ++ i ∷ after) k ≡ false) same once.0 in grind (arith, has, hasnt))
     apart false h = h
 
 -- parts of a list of which none stands twice
@@ -76,3 +90,29 @@ split_at xs i d e same = let t = split_in xs i e in let next : suc (place_in xs 
 -- one that isn't there is left out, so they are fewer
 pub fewer : (n to : ℕ) (xs : List ℕ) → AreOnce xs → AreBelow n xs → to < n → has_number xs to ≡ false → length xs < n
 fewer n to xs once low small absent = few n (to ∷ xs) (absent, once) (small, low)
+
+-- with one number more, as the last
+pub has_last : (xs : List ℕ) (y s : ℕ) → has_number (xs ++ y ∷ []) s ≡ (nat_eq s y || has_number xs s)
+has_last [] y s = refl
+has_last (x ∷ xs) y s = ap (λ (b : Bool). nat_eq s x || b) (has_last xs y s) ∙ swap (nat_eq s x) (nat_eq s y) (has_number xs s)
+  where
+    swap : (a b c : Bool) → (a || (b || c)) ≡ (b || (a || c))
+    swap true true c = refl
+    swap true false c = refl
+    swap false b c = refl
+
+pub below_last : (n : ℕ) (xs : List ℕ) (y : ℕ) → AreBelow n xs → y < n → AreBelow n (xs ++ y ∷ [])
+below_last n [] y h low = (low, tt)
+below_last n (x ∷ xs) y h low = (h.0, below_last n xs y h.1 low)
+
+pub once_last : (xs : List ℕ) (y : ℕ) → AreOnce xs → has_number xs y ≡ false → AreOnce (xs ++ y ∷ [])
+once_last [] y once absent = (refl, tt)
+once_last (x ∷ xs) y once absent = (has_last xs y x ∙ none (nat_eq y x) (nat_eq x y) (has_number xs y) (has_number xs x) (λ e. grind (arith, nat_tests, e)) absent once.0, once_last xs y once.1 (behind (nat_eq y x) (has_number xs y) absent))
+  where
+    none : (a b c d : Bool) → (a ≡ false → b ≡ false) → (a || c) ≡ false → d ≡ false → (b || d) ≡ false
+    none true b c d f e g = absurd cc
+    none false b c d f e g = ap (λ (z : Bool). z || d) (f refl) ∙ g
+
+    behind : (a c : Bool) → (a || c) ≡ false → c ≡ false
+    behind true c e = absurd cc
+    behind false c e = e

@@ -1,5 +1,5 @@
 -- The loads of the claim count and of link words, and the steps of an open.
-use Rattle.std.specs.Prelude.{◌≡◌, ◌<◌, ◌+◌, ℕ, Bool, true, false, List, [], ◌∷◌, ◌++◌, Option, Some, None, Result, Ok, Err, eqb, is_some, ◌==◌, ◌||◌, ◌&&◌}
+use Rattle.std.specs.Prelude.{not, ◌≡◌, ◌<◌, ◌+◌, ℕ, Bool, true, false, List, [], ◌∷◌, ◌++◌, Option, Some, None, Result, Ok, Err, eqb, is_some, ◌==◌, ◌||◌, ◌&&◌}
 use Rattle.std.proofs.Common.{ap, sym, subst, ◌∙◌, refl, arith, append_assoc, ⊎_elim}
 use Rattle.std.proofs.lemmas.Bool.Decides.{nat_tests}
 use prog.Atomic.{either}
@@ -15,10 +15,9 @@ use Rattle.ipcz_node.specs.Node.{Node}
 use Rattle.ipcz_node.specs.Calls.{serials_refusal}
 use Rattle.ipcz_node.specs.RoomyNodes.{CanOpen, RoomyNode, NodeRoom}
 use Rattle.ipcz_rule.specs.declared.view.Part.{Part}
-use Rattle.ipcz_rule.specs.Rule.{Mine}
+use Rattle.ipcz_rule.specs.Batches.{BatchMine}
 use Rattle.ipcz_rule.specs.Steps.{claimed_part, open_part}
-use Rattle.ipcz_rule.proofs.WordKinds.{loads}
-use Rattle.ipcz_rule.proofs.Opening.{opens}
+use Rattle.ipcz_rule.proofs.BatchPlainKinds.{loads, opens}
 use Rattle.ipcz_cell.specs.TableNames.{TableName}
 use Rattle.ipcz_cell.specs.CellStates.{CellState, part_in, change_part, roomy}
 use Rattle.ipcz_cell.specs.Cells.{AreSound, IsCell}
@@ -32,47 +31,47 @@ use Rattle.ipcz_cell.proofs.Counting.{counts_told}
 use Rattle.ipcz_cell.proofs.Wording.{words_told}
 use Rattle.ipcz_cell.specs.Seats.{Keeps}
 
-pub count_load_may : (t : TableName) (id word : ℕ) (m : Mine) → m.0.parts ≡ part_in m.0 ∷ [] → t.size ≡ word →
+pub count_load_may : (t : TableName) (id word : ℕ) (m : BatchMine) → m.0.parts ≡ part_in m.0 ∷ [] → t.size ≡ word →
     Keeps t.reuses t.count t.size t.id.slots id m word (λ n. n) (count_loaded t.size m)
 count_load_may t id word m whole at =
     subst (λ (i : ℕ). Keeps t.reuses t.count t.size t.id.slots id m i (λ n. n) (count_loaded t.size m)) at
-    (counts_told t.reuses t.count t.size t.id.slots id m (λ n. n) (loaded t.size m) (loads t.reuses t.count t.size t.id.slots id t.size m (part_in m.0) whole))
+    (counts_told t.reuses t.count t.size t.id.slots id m (λ n. n) (loaded t.size m) (loads (not t.reuses) t.reuses t.count t.size t.id.slots id t.size m (part_in m.0) whole))
 
-pub word_load_may : (t : TableName) (id i : ℕ) (m : Mine) → m.0.parts ≡ part_in m.0 ∷ [] → i < t.size →
+pub word_load_may : (t : TableName) (id i : ℕ) (m : BatchMine) → m.0.parts ≡ part_in m.0 ∷ [] → i < t.size →
     Keeps t.reuses t.count t.size t.id.slots id m i (λ n. n) (word_loaded i m)
 word_load_may t id i m whole inside =
-    let told = words_told t.reuses t.count t.size t.id.slots id i None m (λ n. n) (loaded i m) inside (λ s r at. tt) (loads t.reuses t.count t.size t.id.slots id i m (part_in m.0) whole) in
+    let told = words_told t.reuses t.count t.size t.id.slots id i None m (λ n. n) (loaded i m) inside (λ s r at. tt) (loads (not t.reuses) t.reuses t.count t.size t.id.slots id i m (part_in m.0) whole) in
     λ s r deep at small. let h = told s r deep at small in (h.0, h.1, h.2, h.3, (h.4.0, h.4.2))
 
 open_bits : bits_of open_word ≡ 3
 unfolding open_word bits_of sets_bits source_bits has both no_sides
 open_bits = refl
 
-pub open_may : (t : TableName) (id i : ℕ) (m : Mine) → m.0.parts ≡ part_in m.0 ∷ [] → (part_in m.0).state.opening ≡ Some i → serials_refusal (part_in m.0).state ≡ None →
+pub open_may : (t : TableName) (id i : ℕ) (m : BatchMine) → m.0.parts ≡ part_in m.0 ∷ [] → (part_in m.0).state.opening ≡ Some i → serials_refusal (part_in m.0).state ≡ None →
     Keeps t.reuses t.count t.size t.id.slots id m i (λ n. either (eqb n 0) 3 n) (opened i m)
 open_may t id i m whole is fine =
     subst (λ (w : ℕ). Keeps t.reuses t.count t.size t.id.slots id m i (λ n. either (eqb n 0) w n) (opened i m)) open_bits
-    (opens t.reuses t.count t.size t.id.slots id i m (part_in m.0) whole is fine)
+    (opens (not t.reuses) t.reuses t.count t.size t.id.slots id i m (part_in m.0) whole is fine)
 
 -- a node with room for a pair has the serials for it
 pub serials_left : (k : RoomyNode) → CanOpen k → serials_refusal k.node ≡ None
 serials_left k can = let yes : has_serials k.node.next_router 2 ≡ true = grind (arith, nat_tests, can.1) in rw yes refl
 
-module _ (t : TableName) (n : Node) (hand : Option Message) (tos : List ℕ) (id : TableId) (me : Mine) (was : IsCell t n hand tos id me) (id' : TableId) (me' : Mine) (same : id' ≡ id) (sound : AreSound t.count t.size me'.0) where
+module _ (t : TableName) (n : Node) (hand : Option Message) (tos senders : List ℕ) (id : TableId) (me : BatchMine) (was : IsCell t n hand tos senders id me) (id' : TableId) (me' : BatchMine) (same : id' ≡ id) (sound : AreSound t.count t.size me'.0) where
   -- a cell after a change of its part that leaves the hand, and steps that have seen something
   pub changed_cell : (f : Part → Part) (seen : List (ℕ × ℕ)) (n' : Node) → me' ≡ (change_part f (record { parts = me.0.parts; seen = seen; announced = None; caller = me.0.caller }), me.1) →
-      (f (part_in me.0)).state ≡ n' → KeepsHands (part_in me.0) (f (part_in me.0)) → IsCell t n' hand tos id' me'
+      (f (part_in me.0)).state ≡ n' → KeepsHands (part_in me.0) (f (part_in me.0)) → IsCell t n' hand tos senders id' me'
   changed_cell f seen n' done state keeps =
       let v' = change_part f (record { parts = me.0.parts; seen = seen; announced = None; caller = me.0.caller }) in
-      touched_cell t n n' hand tos id id' me me' (f (part_in me.0)) v' was
+      touched_cell t n n' hand tos senders id id' me me' (f (part_in me.0)) v' was
       (reseated t n id me was.seated n' id' me' (f (part_in me.0)) v' me.1 same done refl state sound) done refl keeps
 
 -- a claim for an open leaves the hand, and so does an open
 pub claim_keeps : (c : ℕ) (p : Part) → KeepsHands p (claimed_part c p)
-claim_keeps c p = record { node = refl; hand = refl; message = refl; probed = refl }
+claim_keeps c p = record { node = refl; hand = refl; message = refl; probed = refl; batches = refl }
 
 pub open_keeps : (i : ℕ) (p : Part) → KeepsHands p (open_part i p)
-open_keeps i p = record { node = refl; hand = refl; message = refl; probed = refl }
+open_keeps i p = record { node = refl; hand = refl; message = refl; probed = refl; batches = refl }
 
 -- a load of the claim count, and then an exchange of it
 pub for_open : (t : TableName) (c : ℕ) (s0 s1 s2 : CellState) (answer : Result ℕ Refusal) → c < t.size → AreReached t.size s0.seen c → HasSeen t.size c s0 s1 → ClaimsAt t c s1 answer s2 → ClaimsForOpen t s0 s2 answer
@@ -97,7 +96,7 @@ one_more t from n s0 s1 s2 rest load more = record {
 }
 
 -- the room of a cell, at its own state
-pub ready_here : {l : List ℕ} (n : Node) (room : NodeRoom) (me : Mine) (old : CellState) → record { part = part_in me.0; seen = me.0.seen; room = room; looked = l } ≡ old → (part_in me.0).state ≡ n → CanOpen (roomy old) →
+pub ready_here : {l : List ℕ} (n : Node) (room : NodeRoom) (me : BatchMine) (old : CellState) → record { part = part_in me.0; seen = me.0.seen; room = room; looked = l } ≡ old → (part_in me.0).state ≡ n → CanOpen (roomy old) →
     CanOpen (record { node = n; room = room })
 ready_here {l} n room me old view state can =
     subst (λ (z : Node). CanOpen (record { node = z; room = room })) state (subst (λ (o : CellState). CanOpen (roomy o)) (sym view) can)

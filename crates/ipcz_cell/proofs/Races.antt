@@ -1,5 +1,5 @@
 -- A call that is answered Raced was overtaken.
-use Rattle.std.specs.Prelude.{◌≡◌, ◌≢◌, ◌≤◌, ◌⊎◌, ◌+◌, ℕ, suc, [], ◌∷◌, ◌++◌, List, length, Some, None, Result, Err, unwrap_or}
+use Rattle.std.specs.Prelude.{◌≡◌, ◌≢◌, ◌≤◌, ◌⊎◌, ◌+◌, ℕ, suc, not, [], ◌∷◌, ◌++◌, List, length, Some, None, Result, Err, unwrap_or}
 use Rattle.std.proofs.Common.{arith, ap, sym, ◌∙◌, inl, inr, append_assoc}
 use Rattle.std.proofs.lemmas.List.{length-append}
 use Rattle.ipcz_base.specs.declared.end.End.{End}
@@ -22,9 +22,9 @@ use Rattle.ipcz_cell.specs.Opens.{ClaimsForOpen}
 use Rattle.ipcz_cell.specs.Races.{IsRunOf, IsOvertakenCall, RacedTurnIsOvertaken, RacedTryIsOvertaken, RacedClaimIsOvertaken, RacedOpenIsOvertaken}
 
 -- the numbers that a call has seen end with two of one word
-module _ (t : TableName) (id : ℕ) (p q : Ruled t.count t.size) (steps : List (List (ℕ × Act))) (run : AreSteps t.count t.size p steps q)
+module _ (t : TableName) (id : ℕ) (p q : Ruled t.count t.size (not t.reuses)) (steps : List (List (ℕ × Act))) (run : AreSteps t.count t.size (not t.reuses) p steps q)
     (old new : CellState) (call : IsRunOf t id p steps q run old new) where
-  more : (loads : List (ℕ × ℕ)) → new.seen ≡ old.seen ++ loads → HasSeenMore t.count t.size id p steps q run call.first call.last loads
+  more : (loads : List (ℕ × ℕ)) → new.seen ≡ old.seen ++ loads → HasSeenMore t.count t.size (not t.reuses) id p steps q run call.first call.last loads
   more loads e = record {
     loads = call.loads;
     first = call.before;
@@ -39,7 +39,7 @@ module _ (t : TableName) (id : ℕ) (p q : Ruled t.count t.size) (steps : List (
     is_shared = low;
     earlier = suc (length before);
     all = ap length e ∙ (length-append old.seen (before ++ (i, n) ∷ (i, found) ∷ []) ∙ count);
-    overtaken = raced_is_overtaken t.count t.size id i n found p q steps run call.first call.last before (more _ e) low apart;
+    overtaken = raced_is_overtaken t.count t.size (not t.reuses) id i n found p q steps run call.first call.last before (more _ e) low apart;
   }
     where
       count : length old.seen + length (before ++ (i, n) ∷ (i, found) ∷ []) ≡ length old.seen + suc (suc (length before))
@@ -47,7 +47,7 @@ module _ (t : TableName) (id : ℕ) (p q : Ruled t.count t.size) (steps : List (
 
   unraced : {X : Type 0} (before : List (ℕ × ℕ)) (i n found : ℕ) → new.seen ≡ old.seen ++ (before ++ (i, n) ∷ (i, found) ∷ []) → found ≢ n →
       IsWaitedFor t.count t.size old.part i n → X
-  unraced before i n found e apart waits = absurd (apart (waited_for_stays t.count t.size id i n found p q steps run call.first call.last old.part before
+  unraced before i n found e apart waits = absurd (apart (waited_for_stays t.count t.size (not t.reuses) id i n found p q steps run call.first call.last old.part before
       (more _ e) call.part waits))
 
   two : (i n found : ℕ) → new.seen ≡ (old.seen ++ (i, n) ∷ []) ++ (i, found) ∷ [] → new.seen ≡ old.seen ++ ([] ++ (i, n) ∷ (i, found) ∷ [])

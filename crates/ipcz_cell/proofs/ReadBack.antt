@@ -19,7 +19,8 @@ use Rattle.ipcz_world.specs.Lawfulness.{IsLawful}
 use Rattle.ipcz_world.specs.Parts.{world_of_parts}
 use Rattle.ipcz_rule.specs.declared.view.View.{View}
 use Rattle.ipcz_rule.specs.declared.view.Part.{Part}
-use Rattle.ipcz_rule.specs.Rule.{Slot, St, Rules, InParts, puts_of, gets_of, drops_of}
+use Rattle.ipcz_rule.specs.Rule.{InParts, puts_of, gets_of, drops_of}
+use Rattle.ipcz_rule.specs.Batches.{Batch, BatchSt, Batched}
 use Rattle.ipcz_rule.specs.End.{AreAll, IsShown, rested, view_of, states_of}
 use Rattle.ipcz_rule.proofs.Ending.{some_inside, part_of, is_shown, world_is, is_table, full_box, hand_box, empty_box, homes_many}
 use Rattle.ipcz_cell.specs.CellStates.{CellState}
@@ -32,18 +33,18 @@ messages_of ps = map (λ p. p.message) ps
 same_sender : (a b : ℕ) → ◌≡◌ {A = Option ℕ} (Some a) (Some b) → a ≡ b
 same_sender a b e = grind (arith, e)
 
-module _ (count size id : ℕ) (v : View) (ws : List ℕ) (xs : List Slot) (last : Final (Seen (Rules count size) id v) ws xs) (all : AreAll count v.parts) where
-  abbrev s : St
+module _ (count size id : ℕ) (v : View) (ws : List ℕ) (xs : List Batch) (last : Final (Seen (Batched count size true) id v) ws xs) (all : AreAll count v.parts) where
+  abbrev s : BatchSt
   s = last.0
 
-  abbrev r : Rules count size s
+  abbrev r : Batched count size true s
   r = last.1.0
 
   back : (i n : ℕ) → slice_index ws i ≡ n → slice_index s.words i ≡ n
   back i n e = ap (λ (l : List ℕ). slice_index l i) last.2 ∙ e
 
   -- the mailboxes are read
-  pub reads : Reads count (size + 1 + count) ws xs (messages_of v.parts) (mail_at r.world)
+  pub reads : Reads count (size + 1 + count) ws xs (messages_of v.parts) (mail_at r.rules.world)
   reads = record {
     full = λ k l e. let there = some_inside xs k (omega (arith, l, sym last.3, homes_many count size s r)) in
         let t = full_box count size s r id v last.1.1 all k l (back _ 1 e) xs there.0 (λ y h. last.4 k y h) there.1 in (t.0, there.1 ∙ ap some t.1, t.2);
@@ -66,15 +67,15 @@ module _ (count size id : ℕ) (v : View) (ws : List ℕ) (xs : List Slot) (last
     pub is_word_table : IsWithinLimits count size → IsTable bits claimed
     is_word_table limits = is_table count size s r id v last.1.1 all bits many read_first limits claimed claims_first
 
-    module _ (boxes : List Mail) (boxes_many : length boxes ≡ count * count) (same : (k : ℕ) → k < count * count → place_at mails.Empty boxes k ≡ mail_at r.world k) where
+    module _ (boxes : List Mail) (boxes_many : length boxes ≡ count * count) (same : (k : ℕ) → k < count * count → place_at mails.Empty boxes k ≡ mail_at r.rules.world k) where
       abbrev after : World
       after = world_of_parts (states_of v.parts) boxes (map word_of_bits bits) claimed
 
-      is_after : r.world ≡ after
+      is_after : r.rules.world ≡ after
       is_after = world_is count size s r id v last.1.1 all bits many read_first boxes claimed claims_first boxes_many same
 
       pub is_lawful : IsLawful after
-      is_lawful = subst IsLawful is_after (record { books = r.books; routes = r.routes; lawful = r.lawful })
+      is_lawful = subst IsLawful is_after (record { books = r.rules.books; routes = r.rules.routes; lawful = r.rules.lawful })
 
       pub after_shown : IsShown count size v.parts after
       after_shown = subst (IsShown count size v.parts) is_after (is_shown count size s r id v last.1.1 all)
@@ -183,20 +184,16 @@ shown_before count size ps w is = let j = is.joined in record {
   };
 }
 
--- the rule for as many nodes and words
-pub resized : (n n' m m' id : ℕ) (v : View) (ws : List ℕ) (xs : List Slot) → n ≡ n' → m ≡ m' → Final (Seen (Rules n m) id v) ws xs → Final (Seen (Rules n' m') id v) ws xs
-resized n n' m m' id v ws xs e f last = subst (λ (k : ℕ). Final (Seen (Rules n' k) id v) ws xs) f (subst (λ (k : ℕ). Final (Seen (Rules k m) id v) ws xs) e last)
-
 -- all that is read, with the states of the nodes, is the world that was shown
-pub comes_back : (count size id : ℕ) (v : View) (ws : List ℕ) (xs : List Slot) → Final (Seen (Rules count size) id v) ws xs → AreAll count v.parts →
+pub comes_back : (count size id : ℕ) (v : View) (ws : List ℕ) (xs : List Batch) → Final (Seen (Batched count size true) id v) ws xs → AreAll count v.parts →
     (states : List Node) → states ≡ states_of v.parts → (hands : List (Option Message)) → hands ≡ messages_of v.parts →
     (bits : List ℕ) → length bits ≡ size → ((i : ℕ) → i < size → slice_index bits i ≡ slice_index ws i) → (claimed : ℕ) → claimed ≡ slice_index ws size →
     (boxes : List Mail) → length boxes ≡ count * count →
     ((mail : ℕ → Mail) → Reads count (size + 1 + count) ws xs hands mail → (k : ℕ) → k < count * count → place_at mails.Empty boxes k ≡ mail k) →
     IsLawful (world_of_parts states boxes (map word_of_bits bits) claimed) × IsShown count size v.parts (world_of_parts states boxes (map word_of_bits bits) claimed)
 comes_back count size id v ws xs last all states states_is hands hands_is bits many read claimed claims boxes boxes_many boxes_read =
-    let rs = subst (λ (h : List (Option Message)). Reads count (size + 1 + count) ws xs h (mail_at last.1.0.world)) (sym hands_is) (reads count size id v ws xs last all) in
-    let same = boxes_read (mail_at last.1.0.world) rs in
+    let rs = subst (λ (h : List (Option Message)). Reads count (size + 1 + count) ws xs h (mail_at last.1.0.rules.world)) (sym hands_is) (reads count size id v ws xs last all) in
+    let same = boxes_read (mail_at last.1.0.rules.world) rs in
     let after : List Node → World = λ ns. world_of_parts ns boxes (map word_of_bits bits) claimed in (
       subst (λ (ns : List Node). IsLawful (after ns)) (sym states_is) (is_lawful count size id v ws xs last all bits many read claimed claims boxes boxes_many same),
       subst (λ (ns : List Node). IsShown count size v.parts (after ns)) (sym states_is) (after_shown count size id v ws xs last all bits many read claimed claims boxes boxes_many same),

@@ -15,7 +15,7 @@ use Rattle.ipcz_slots.proofs.Folding.{view_at}
 use Rattle.ipcz_base.specs.declared.side.Side.{Side}
 use Rattle.ipcz_router.specs.declared.act.RouterAct.{RouterAct}
 use Rattle.ipcz_rule.specs.declared.view.View.{View}
-use Rattle.ipcz_rule.specs.Rule.{Slot, Mine}
+use Rattle.ipcz_rule.specs.Batches.{Batch, BatchMine}
 use Rattle.ipcz_rule.specs.Steps.{old_word}
 use Rattle.ipcz_rule.specs.Lasting.{LastingRules, virtual}
 use Rattle.ipcz_rule.specs.LastingCalls.{keeping}
@@ -30,7 +30,7 @@ use Rattle.ipcz_cell.specs.Seats.{mine_of, sizes_of, Keeps, IsSlotted, Taken, Em
 use Rattle.ipcz_cell.proofs.Telling.{tells, at_inside, sound_at}
 
 -- what a step tells of a seat, and that its slots stay
-abbrev pub Told : TableName → (ℕ → Mine → Type 0) → Me Slot (Own View) → ℕ → Me Slot (Own View) → Type 0
+abbrev pub Told : TableName → (ℕ → BatchMine → Type 0) → Me Batch (Own View) → ℕ → Me Batch (Own View) → Type 0
 Told t told m n m' = told n (mine_of m') × AreSound t.count t.size m'.0.view × (m'.0.dirty ≡ m.0.dirty) × (m'.0.free ≡ m.0.free) × (m'.0.looked ≡ m.0.looked)
 
 pub are_sizes : (t : TableName) → IsLaidOut t → AreSizes (sizes_of t)
@@ -42,7 +42,7 @@ pub allowed : {S V : Type 0} (x : Virtual S V) (z : Sizes) (g : Known x) (slots 
 allowed x z g slots id me i f told steps s l deep at small = let h = steps s l deep at small in (h.0, h.1, h.2, h.3.0, h.4)
 
 -- the same at the table's own numbers
-pub at_own : (n w k : ℕ) (r : Bool) (slots : ℕ) (t : TableName) (id : ℕ) (m : Me Slot (Own View)) (i : ℕ) (f : ℕ → ℕ) (then : ℕ → Me Slot (Own View) → Type 0) →
+pub at_own : (n w k : ℕ) (r : Bool) (slots : ℕ) (t : TableName) (id : ℕ) (m : Me Batch (Own View)) (i : ℕ) (f : ℕ → ℕ) (then : ℕ → Me Batch (Own View) → Type 0) →
     n ≡ t.count → w ≡ t.size → k ≡ t.slots → r ≡ t.reuses → slots ≡ t.id.slots → Allows (LastingRules t.count t.size t.slots t.reuses) t.id.slots id m i f then →
     Allows (LastingRules n w k r) slots id m i f then
 at_own n w k r slots t id m i f then en ew ek er es may =
@@ -53,26 +53,26 @@ at_own n w k r slots t id m i f then en ew ek er es may =
     (subst (λ (z : ℕ). Allows (LastingRules t.count t.size t.slots t.reuses) z id m i f then) (sym es) may))))
 
 -- a step on the word of a number that has a slot
-pub link_may : (n w k : ℕ) (r : Bool) (slots word : ℕ) (t : TableName) (id : ℕ) (m : Me Slot (Own View)) (i : ℕ) (f : ℕ → ℕ) (told : ℕ → Mine → Type 0) →
+pub link_may : (n w k : ℕ) (r : Bool) (slots word : ℕ) (t : TableName) (id : ℕ) (m : Me Batch (Own View)) (i : ℕ) (f : ℕ → ℕ) (told : ℕ → BatchMine → Type 0) →
     n ≡ t.count → w ≡ t.size → k ≡ t.slots → r ≡ t.reuses → slots ≡ t.id.slots → word ≡ i % t.slots → IsLaidOut t → IsSlotted t id m.0.view i →
     Keeps t.reuses t.count t.size t.id.slots id (mine_of m) i f told → Allows (LastingRules n w k r) slots id m word f (Told t told m)
 link_may n w k r slots word t id m i f told en ew ek er es at laid has may =
     at_own n w k r slots t id m word f (Told t told m) en ew ek er es
     (subst (λ (z : ℕ). Allows (LastingRules t.count t.size t.slots t.reuses) t.id.slots id m z f (Told t told m)) (sym at)
     (λ s l deep there small.
-    let h = allowed (virtual t.count t.size) (sizes_of t) (keeping t.reuses t.count t.size) t.id.slots id m (i % t.slots) f (same_own m.0 (λ j m'. told j m' × AreSound t.count t.size m'.0))
+    let h = allowed (virtual t.count t.size t.reuses) (sizes_of t) (keeping t.reuses t.count t.size) t.id.slots id m (i % t.slots) f (same_own m.0 (λ j m'. told j m' × AreSound t.count t.size m'.0))
     (slot_kept t.slots t.reuses m.0.dirty m.0.free m.0.looked t.count t.size t.id.slots id (mine_of m) i f (λ j. []) (λ j m'. told j m' × AreSound t.count t.size m'.0) has (tells t.reuses t.count t.size t.id.slots id i (mine_of m) f told may) (are_sizes t laid)) s l deep there small in
     (h.0, h.1, h.2, h.3, (h.4.0.0, h.4.0.1, h.4.1, h.4.2, h.4.3))))
 
 -- a step on a word behind the link words, which leaves the claim count
-pub other_may : (n w k : ℕ) (r : Bool) (slots word : ℕ) (t : TableName) (id : ℕ) (m : Me Slot (Own View)) (j : ℕ) (f : ℕ → ℕ) (told : ℕ → Mine → Type 0) →
+pub other_may : (n w k : ℕ) (r : Bool) (slots word : ℕ) (t : TableName) (id : ℕ) (m : Me Batch (Own View)) (j : ℕ) (f : ℕ → ℕ) (told : ℕ → BatchMine → Type 0) →
     n ≡ t.count → w ≡ t.size → k ≡ t.slots → r ≡ t.reuses → slots ≡ t.id.slots → word ≡ t.slots + j → IsLaidOut t → j < 1 + t.count + t.count * t.count →
     (j ≡ 0 → (i : ℕ) → f i ≡ i) → Keeps t.reuses t.count t.size t.id.slots id (mine_of m) (t.size + j) f told → Allows (LastingRules n w k r) slots id m word f (Told t told m)
 other_may n w k r slots word t id m j f told en ew ek er es at laid inside leaves may =
     at_own n w k r slots t id m word f (Told t told m) en ew ek er es
     (subst (λ (z : ℕ). Allows (LastingRules t.count t.size t.slots t.reuses) t.id.slots id m z f (Told t told m)) (sym at)
     (λ s l deep there small.
-    let h = allowed (virtual t.count t.size) (sizes_of t) (keeping t.reuses t.count t.size) t.id.slots id m (t.slots + j) f (same_own m.0 (λ i m'. told i m' × AreSound t.count t.size m'.0))
+    let h = allowed (virtual t.count t.size t.reuses) (sizes_of t) (keeping t.reuses t.count t.size) t.id.slots id m (t.slots + j) f (same_own m.0 (λ i m'. told i m' × AreSound t.count t.size m'.0))
     (behind_kept t.slots t.reuses m.0.dirty m.0.free m.0.looked t.count t.size t.id.slots id (mine_of m) (t.size + j) f (λ i. []) (λ i m'. told i m' × AreSound t.count t.size m'.0) (λ e. leaves (omega (arith, e)))
     (tells t.reuses t.count t.size t.id.slots id (t.size + j) (mine_of m) f told may) (are_sizes t laid) j (omega arith) inside) s l deep there small in
     (h.0, h.1, h.2, h.3, (h.4.0.0, h.4.0.1, h.4.1, h.4.2, h.4.3))))
@@ -95,7 +95,7 @@ pub whole_slotted : (t : TableName) (id i : ℕ) (v : View) → t.reuses ≡ fal
 whole_slotted t id i v order below = inr (order, below)
 
 -- a slot that both sides have let go may be taken
-pub take_may : (n w k : ℕ) (r : Bool) (slots word : ℕ) (t : TableName) (id : ℕ) (m : Me Slot (Own View)) (p : ℕ) →
+pub take_may : (n w k : ℕ) (r : Bool) (slots word : ℕ) (t : TableName) (id : ℕ) (m : Me Batch (Own View)) (p : ℕ) →
     n ≡ t.count → w ≡ t.size → k ≡ t.slots → r ≡ t.reuses → slots ≡ t.id.slots → word ≡ let_go_word (sizes_of t) p → t.reuses ≡ true → p < t.slots →
     Allows (LastingRules n w k r) slots id m word (λ j. either (eqb j 3) 0 j) (Taken t word m)
 take_may n w k r slots word t id m p en ew ek er es at again low =
@@ -107,7 +107,7 @@ take_may n w k r slots word t id m p en ew ek er es at again low =
     (h.0, h.1, h.2, h.3.0, (p, refl, h.4)))))
 
 -- the word of a slot that was taken may be emptied
-pub empty_may : (n w k : ℕ) (r : Bool) (slots : ℕ) (t : TableName) (id : ℕ) (m : Me Slot (Own View)) (p : ℕ) →
+pub empty_may : (n w k : ℕ) (r : Bool) (slots : ℕ) (t : TableName) (id : ℕ) (m : Me Batch (Own View)) (p : ℕ) →
     n ≡ t.count → w ≡ t.size → k ≡ t.slots → r ≡ t.reuses → slots ≡ t.id.slots → t.reuses ≡ true → p < t.slots → has_number m.0.dirty p ≡ true →
     Allows (LastingRules n w k r) slots id m p (λ j. 0) (λ j m'. Emptied p m m')
 empty_may n w k r slots t id m p en ew ek er es again low has =
@@ -118,7 +118,7 @@ empty_may n w k r slots t id m p en ew ek er es again low has =
     (h.0, h.1, h.2, h.3.0, h.4)))
 
 -- a slot that is the seat's may be given back
-pub return_may : (n w k : ℕ) (r : Bool) (slots word : ℕ) (t : TableName) (id : ℕ) (m : Me Slot (Own View)) (p : ℕ) →
+pub return_may : (n w k : ℕ) (r : Bool) (slots word : ℕ) (t : TableName) (id : ℕ) (m : Me Batch (Own View)) (p : ℕ) →
     n ≡ t.count → w ≡ t.size → k ≡ t.slots → r ≡ t.reuses → slots ≡ t.id.slots → word ≡ let_go_word (sizes_of t) p → t.reuses ≡ true → p < t.slots →
     (has_number m.0.dirty p ≡ true) ⊎ (has_number m.0.free p ≡ true) → Allows (LastingRules n w k r) slots id m word (λ j. 3) (λ j m'. Returned t word m m')
 return_may n w k r slots word t id m p en ew ek er es at again low had =
@@ -130,7 +130,7 @@ return_may n w k r slots word t id m p en ew ek er es at again low had =
     (h.0, h.1, h.2, h.3.0, (p, refl, h.4)))))
 
 -- a step on the word z tells that the seat's nodes are sound
-pub seat_may : (n w k : ℕ) (r : Bool) (slots word z : ℕ) (t : TableName) (id : ℕ) (m : Me Slot (Own View)) (f : ℕ → ℕ) (told Kept : ℕ → Me Slot (Own View) → Type 0) →
+pub seat_may : (n w k : ℕ) (r : Bool) (slots word z : ℕ) (t : TableName) (id : ℕ) (m : Me Batch (Own View)) (f : ℕ → ℕ) (told Kept : ℕ → Me Batch (Own View) → Type 0) →
     n ≡ t.count → w ≡ t.size → k ≡ t.slots → r ≡ t.reuses → slots ≡ t.id.slots → word ≡ z →
     Allows (LastingRules t.count t.size t.slots t.reuses) t.id.slots id m z f (λ j m'. told j m' × Kept j m') →
     Allows (LastingRules n w k r) slots id m word f (λ j m'. told j m' × AreSound t.count t.size m'.0.view × Kept j m')
@@ -139,12 +139,12 @@ seat_may n w k r slots word z t id m f told Kept en ew ek er es at may =
     (subst (λ (y : ℕ). Allows (LastingRules t.count t.size t.slots t.reuses) t.id.slots id m y f (λ j m'. told j m' × AreSound t.count t.size m'.0.view × Kept j m')) (sym at)
     (λ s l deep there small.
     let h = may s l deep there small in
-    let s' : State Slot (Own View) = stepped s z (f (slice_index s.words z)) id m.1 h.0 h.1 in
+    let s' : State Batch (Own View) = stepped s z (f (slice_index s.words z)) id m.1 h.0 h.1 in
     let here : get_elem? s'.views id ≡ some h.0 = set_here s.views id h.0 (at_inside s.views id m.0 there) in
-    (h.0, h.1, h.2, h.3, (h.4.0, sound_at t.count t.size h.3.0 h.3.1 id h.0.view (view_at (virtual t.count t.size) (sizes_of t) s' h.3.0 h.3.1 h.3.2 id h.0 here), h.4.1))))
+    (h.0, h.1, h.2, h.3, (h.4.0, sound_at t.count t.size h.3.0 h.3.1 id h.0.view (view_at (virtual t.count t.size t.reuses) (sizes_of t) s' h.3.0 h.3.1 h.3.2 id h.0 here), h.4.1))))
 
 -- a step on the word z that leaves the seat these slots
-pub slots_are : (n w k : ℕ) (r : Bool) (slots word z : ℕ) (t : TableName) (id : ℕ) (m : Me Slot (Own View)) (f : ℕ → ℕ) (told : ℕ → Mine → Type 0) (dirty free looked : List ℕ) →
+pub slots_are : (n w k : ℕ) (r : Bool) (slots word z : ℕ) (t : TableName) (id : ℕ) (m : Me Batch (Own View)) (f : ℕ → ℕ) (told : ℕ → BatchMine → Type 0) (dirty free looked : List ℕ) →
     n ≡ t.count → w ≡ t.size → k ≡ t.slots → r ≡ t.reuses → slots ≡ t.id.slots → word ≡ z →
     Allows (LastingRules t.count t.size t.slots t.reuses) t.id.slots id m z f (λ j m'. told j (mine_of m') × (m'.0.dirty ≡ dirty) × (m'.0.free ≡ free) × (m'.0.looked ≡ looked)) →
     Allows (LastingRules n w k r) slots id m word f (λ j m'. told j (mine_of m') × AreSound t.count t.size m'.0.view × (m'.0.dirty ≡ dirty) × (m'.0.free ≡ free) × (m'.0.looked ≡ looked))
@@ -158,8 +158,8 @@ pub none_then : {d f l d' f' l' : List ℕ} → (d' ≡ d) × (f' ≡ f) × (l' 
 none_then stay none = (stay.0 ∙ none.0, stay.1 ∙ none.1)
 
 -- nor where its view stays
-pub none_with : (o : Own View) (m : Me Slot (Own View)) (held : List (ℕ × Slot)) → m ≡ (o, held) → HasNoSlots o → HasNoSlots m.0
-none_with o m held e none = subst (λ (q : Me Slot (Own View)). HasNoSlots q.0) (sym e) none
+pub none_with : (o : Own View) (m : Me Batch (Own View)) (held : List (ℕ × Batch)) → m ≡ (o, held) → HasNoSlots o → HasNoSlots m.0
+none_with o m held e none = subst (λ (q : Me Batch (Own View)). HasNoSlots q.0) (sym e) none
 
 -- nor behind a claim that found its count
 pub none_claimed : (k count : ℕ) (A B : Type 0) → k ≡ count → MatchBool (eqb k count) A B → A

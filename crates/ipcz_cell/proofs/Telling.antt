@@ -1,16 +1,13 @@
 -- A step of any kind tells its seat that its nodes are sound.
 use Rattle.std.specs.Prelude.{◌≡◌, ◌<◌, ℕ, zero, suc, List, [], ◌∷◌, length, Bool}
-use Rattle.std.proofs.Common.{sym, subst, arith}
+use Rattle.std.proofs.Common.{sym, arith}
 use mathlib.Core.Option.{some, some-ne-none}
 use lib.ListN.{get_elem?}
 use Rattle.atomic_table.proofs.Lists.{set_here}
-use Rattle.ipcz_node.specs.Node.{Node}
-use Rattle.ipcz_world.specs.World.{node_at}
-use Rattle.ipcz_world.specs.Soundness.{IsSound}
 use Rattle.ipcz_rule.specs.declared.view.View.{View}
-use Rattle.ipcz_rule.specs.Rule.{St, Mine, Rules}
+use Rattle.ipcz_rule.specs.Batches.{BatchMine, BatchSt, Batched}
+use Rattle.ipcz_rule.proofs.BatchedLaws.{parts_sound}
 use Rattle.ipcz_cell.specs.Cells.{AreSound}
-use Rattle.ipcz_world.proofs.Whole.{nodes_are_sound}
 use Rattle.ipcz_cell.specs.Seats.{Keeps}
 
 -- a seat's view is inside
@@ -20,16 +17,10 @@ at_inside (x ∷ xs) zero v e = omega arith
 at_inside (x ∷ xs) (suc i) v e = let h = at_inside xs i v e in omega arith
 
 -- the nodes of a seat are sound
-pub sound_at : (count size : ℕ) (s : St) (r : Rules count size s) (id : ℕ) (v : View) → get_elem? s.views id ≡ some v → AreSound count size v
-sound_at count size s r id v at k p there =
-    let t = r.shows.parts id v k p at there in
-    let inside = t.1.inside in
-    let known = nodes_are_sound r.world r.books r.routes p.node r.lawful inside in
-    let counted = subst (λ (z : ℕ). IsSound z r.world.size p.node (node_at r.world p.node)) r.nodes known in
-    let sized = subst (λ (z : ℕ). IsSound count z p.node (node_at r.world p.node)) r.words counted in
-    (omega (arith, inside, r.nodes), subst (λ (n : Node). IsSound count size p.node n) t.1.state sized)
+pub sound_at : {alone : Bool} (count size : ℕ) (s : BatchSt) → Batched count size alone s → (id : ℕ) (v : View) → get_elem? s.views id ≡ some v → AreSound count size v
+sound_at {alone} count size s b id v at k p there = let h = parts_sound count size alone s b id v k p at there in (h.0, h.1)
 
-pub tells : (all : Bool) (count size slots id i : ℕ) (m : Mine) (f : ℕ → ℕ) (then : ℕ → Mine → Type 0) → Keeps all count size slots id m i f then →
+pub tells : (all : Bool) (count size slots id i : ℕ) (m : BatchMine) (f : ℕ → ℕ) (then : ℕ → BatchMine → Type 0) → Keeps all count size slots id m i f then →
     Keeps all count size slots id m i f (λ n m'. then n m' × AreSound count size m'.0)
 tells all count size slots id i m f then may s r deep at small =
     let t = may s r deep at small in

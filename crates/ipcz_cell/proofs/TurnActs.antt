@@ -20,12 +20,15 @@ use Rattle.ipcz_node.specs.Acts.{act_lacks_serials, stand_in}
 use Rattle.ipcz_node.specs.Preparing.{act_grows}
 use Rattle.ipcz_node.specs.Events.{event_of}
 use Rattle.ipcz_rule.specs.declared.view.Part.{Part}
+use Rattle.ipcz_base.specs.declared.message.Message.{Message}
 use Rattle.ipcz_rule.specs.Rule.{has_number}
-use Rattle.ipcz_rule.specs.Steps.{act_part, post_part, probe_part}
+use Rattle.ipcz_rule.specs.Batches.{batch_from}
+use Rattle.ipcz_cell.specs.Cells.{has_batch}
+use Rattle.ipcz_rule.specs.Steps.{act_part, probe_part}
 use Rattle.ipcz_cell.specs.TableNames.{TableName}
 use Rattle.ipcz_cell.specs.CellStates.{CellState}
 use Rattle.ipcz_rule.specs.Steps.{is_touch_act}
-use Rattle.ipcz_cell.specs.Mails.{Probes, IsProbed, Looks, IsTold, mail_word}
+use Rattle.ipcz_cell.specs.Mails.{Probes, IsProbed, Looks, IsTold, mail_word, posted_part}
 use Rattle.ipcz_cell.specs.TurnEnds.{IsAnswered, IsDone, IsTaken, IsLost, IsRefused, NoSerials, NoMemory, LostIt, lacks_serials, IsSeenBefore, may_grow, LooksFor, Acts}
 
 abbrev Seen : Type 0
@@ -60,44 +63,55 @@ looks_none t other l l' = tt
 pub acts_whole : (t : TableName) (act : Act) (old new : CellState) (event : Happened) (seen : Seen) → new.seen ≡ old.seen ++ seen → LooksFor t act seen old.looked new.looked → IsDone t old.part act event new.part seen → Acts t act old (Ok event) new
 acts_whole t act old new event seen e looks done = record { found = seen; seen = e; looks = looks; outcome = record { taken = act; which = inl refl; done = done } }
 
--- a look
+-- a look: what it has seen, and which message it has taken
+abbrev look_seen : Bool → ℕ → Seen
+look_seen b word = if b then [] else (word, 1) ∷ []
+
+look_at : (b : Bool) (i from : ℕ) (old new : CellState) (x : Message) (xs : List Message) → has_batch old.part from ≡ b → MatchBool b ((batch_from old.part from ≡ x ∷ xs) × (new.seen ≡ old.seen)) (new.seen ≡ old.seen ++ (i, 1) ∷ []) →
+    (new.seen ≡ old.seen ++ look_seen b i) × (has_batch old.part from ≡ true → batch_from old.part from ≡ x ∷ xs)
+look_at true i sender old new x xs e h = (h.1 ∙ sym (append-nil old.seen), λ some_left. h.0)
+look_at false i sender old new x xs e h = (h, λ some_left. absurd cc)
+
 pub look_acts : (t : TableName) (from : ℕ) (old new : CellState) → Looks (mail_word t from old.part.node) from old true new → Acts t (acts.Look from) old (Ok (events.Look from)) new
 unfolding event_of
-look_acts t sender old new h = acts_whole t (acts.Look sender) old new (events.Look sender) ((mail_word t sender old.part.node, 1) ∷ []) h.2 tt
-    (record { answer = answers.Plain; answered = (refl, refl); part = (h.0, h.1); event_is = refl })
+look_acts t sender old new h =
+    let word = mail_word t sender old.part.node in
+    let b = has_batch old.part sender in
+    let k = look_at b word sender old new h.0 h.1 refl h.3 in
+    acts_whole t (acts.Look sender) old new (events.Look sender) (look_seen b word) k.0 tt (record { answer = answers.Plain; answered = (refl, refl); part = (h.0, h.1, h.2, k.1); event_is = refl })
 
 pub look_lost : (t : TableName) (from : ℕ) (old new : CellState) → Looks (mail_word t from old.part.node) from old false new → Acts t (acts.Look from) old (Err refusals.Raced) new
 look_lost t sender old new h = record {
-  found = (mail_word t sender old.part.node, h.0) ∷ [];
-  seen = h.2.seen;
+  found = (mail_word t sender old.part.node, h.1) ∷ [];
+  seen = h.3.seen;
   looks = tt;
-  outcome = (h.2.part, LostIt refl (h.0, h.1, refl));
+  outcome = (h.3.part, LostIt refl (h.1, h.2, h.0, refl));
 }
 
 -- a post: the mailbox is probed, and then has the message
 abbrev probe_seen : Bool → ℕ → Seen
 probe_seen b word = if b then [] else (word, 0) ∷ []
 
-probed_there : (b : Bool) (i to : ℕ) (old mid : CellState) → has_number old.part.probed to ≡ b → IsProbed i to old mid → (mid.seen ≡ old.seen ++ probe_seen b i) × (post_part to mid.part ≡ post_part to old.part) × (has_number mid.part.probed to ≡ true) × (mid.part.state ≡ old.part.state)
-probed_there true i to old mid e h =
+probed_there : (t : TableName) (b : Bool) (i to : ℕ) (old mid : CellState) → has_number old.part.probed to ≡ b → IsProbed i to old mid → (mid.seen ≡ old.seen ++ probe_seen b i) × (posted_part t to mid.part ≡ posted_part t to old.part) × (has_number mid.part.probed to ≡ true) × (mid.part.state ≡ old.part.state)
+probed_there t true i to old mid e h =
     let k = subst (λ (b : Bool). MatchBool b ((mid.part ≡ old.part) × (mid.seen ≡ old.seen)) ((mid.part ≡ probe_part to old.part) × (mid.seen ≡ old.seen ++ (i, 0) ∷ []))) e h in
-    (k.1 ∙ sym (append-nil old.seen), ap (post_part to) k.0, ap (λ (p : Part). has_number p.probed to) k.0 ∙ e, ap (λ (p : Part). p.state) k.0)
-probed_there false i to old mid e h =
+    (k.1 ∙ sym (append-nil old.seen), ap (posted_part t to) k.0, ap (λ (p : Part). has_number p.probed to) k.0 ∙ e, ap (λ (p : Part). p.state) k.0)
+probed_there t false i to old mid e h =
     let k = subst (λ (b : Bool). MatchBool b ((mid.part ≡ old.part) × (mid.seen ≡ old.seen)) ((mid.part ≡ probe_part to old.part) × (mid.seen ≡ old.seen ++ (i, 0) ∷ []))) e h in
     let own : nat_eq to to ≡ true = grind (arith, nat_tests) in
-    (k.1, ap (post_part to) k.0 ∙ posted own, ap (λ (p : Part). has_number p.probed to) k.0 ∙ ap (λ (b : Bool). b || has_number old.part.probed to) own, ap (λ (p : Part). p.state) k.0)
+    (k.1, ap (posted_part t to) k.0 ∙ posted own, ap (λ (p : Part). has_number p.probed to) k.0 ∙ ap (λ (b : Bool). b || has_number old.part.probed to) own, ap (λ (p : Part). p.state) k.0)
   where
-    posted : nat_eq to to ≡ true → post_part to (probe_part to old.part) ≡ post_part to old.part
+    posted : nat_eq to to ≡ true → posted_part t to (probe_part to old.part) ≡ posted_part t to old.part
     posted own = rw own refl
 
-pub probed_can : (i to : ℕ) (old mid : CellState) → Probes i to old true mid → (has_number mid.part.probed to ≡ true) × (mid.part.state ≡ old.part.state)
-probed_can i to old mid h = let k = probed_there (has_number old.part.probed to) i to old mid refl h in (k.2, k.3)
+pub probed_can : (t : TableName) (i to : ℕ) (old mid : CellState) → Probes i to old true mid → (has_number mid.part.probed to ≡ true) × (mid.part.state ≡ old.part.state)
+probed_can t i to old mid h = let k = probed_there t (has_number old.part.probed to) i to old mid refl h in (k.2, k.3)
 
-pub post_acts : (t : TableName) (to : ℕ) (old mid new : CellState) → Probes (mail_word t old.part.node to) to old true mid → new.part ≡ post_part to mid.part → new.seen ≡ mid.seen → Acts t (acts.Post to) old (Ok (events.Post to)) new
+pub post_acts : (t : TableName) (to : ℕ) (old mid new : CellState) → Probes (mail_word t old.part.node to) to old true mid → new.part ≡ posted_part t to mid.part → new.seen ≡ mid.seen → Acts t (acts.Post to) old (Ok (events.Post to)) new
 unfolding event_of
 post_acts t to old mid new h part seen =
     let word = mail_word t old.part.node to in
-    let k = probed_there (has_number old.part.probed to) word to old mid refl h in
+    let k = probed_there t (has_number old.part.probed to) word to old mid refl h in
     acts_whole t (acts.Post to) old new (events.Post to) (probe_seen (has_number old.part.probed to) word) (seen ∙ k.0) tt (record { answer = answers.Plain; answered = (refl, refl); part = part ∙ k.1; event_is = refl })
 
 pub post_lost : (t : TableName) (to : ℕ) (old new : CellState) → Probes (mail_word t old.part.node to) to old false new → Acts t (acts.Post to) old (Err refusals.Raced) new

@@ -1,10 +1,11 @@
 -- Turns of a cell one after the other, whose events aren't told.
-use Rattle.std.specs.Prelude.{◌≡◌, ◌≢◌, ◌≤◌, ◌<◌, ◌+◌, ◌⊎◌, ◌||◌, ℕ, Bool, true, false, List, [], ◌∷◌, ◌++◌, length, Option, Some, None, Ok, Err}
+use Rattle.std.specs.Prelude.{◌≡◌, ◌≢◌, ◌≤◌, ◌<◌, ◌+◌, ◌⊎◌, ◌||◌, ℕ, Bool, true, false, List, [], ◌∷◌, ◌++◌, length, if◌then◌else◌, Option, Some, None, Ok, Err}
 use Rattle.std.proofs.Common.{ap, sym, subst, ◌∙◌, refl, inl, inr, arith, append-nil}
 use Rattle.std.proofs.lemmas.List.{length-append}
 use Rattle.ipcz_base.specs.declared.message.Message.{Message}
 use Rattle.ipcz_base.specs.declared.message.Message.TheVariants as messages
 use Rattle.ipcz_base.specs.declared.refusal.Refusal.{Refusal}
+use Rattle.ipcz_base.specs.declared.refusal.Refusal.TheVariants.{NumbersEnd, OutOfMemory}
 use Rattle.ipcz_node.specs.declared.act.Act.{Act}
 use Rattle.ipcz_node.specs.declared.act.Act.TheVariants as acts
 use Rattle.ipcz_node.specs.declared.happened.Happened.{Happened}
@@ -12,7 +13,7 @@ use Rattle.ipcz_node.specs.declared.happened.Happened.TheVariants as events
 use Rattle.ipcz_node.specs.Node.{Node}
 use Rattle.ipcz_node.specs.Acts.{stand_in}
 use Rattle.ipcz_node.specs.Events.{event_of, hand_event}
-use Rattle.ipcz_node.specs.Hands.{is_unfit}
+use Rattle.ipcz_node.specs.Hands.{is_unfit, message_lacks_serials}
 use Rattle.ipcz_rule.specs.Steps.{old_word, trusted}
 use Rattle.ipcz_cell.specs.TableNames.{TableName}
 use Rattle.ipcz_cell.specs.CellStates.{CellState}
@@ -52,6 +53,18 @@ item_handled size sender old new x is none part seen = record {
   loaded = subst (λ (o : Option ℕ). OldLoaded size o []) (sym none) refl;
   seen = seen ∙ sym (append-nil old.seen);
   outcome = (refl, part ∙ ap (λ (o : Option Message). part_handed sender None o old.part) is);
+}
+
+-- nor one for which no memory is found
+pub item_refused : (size from : ℕ) (old new : CellState) (x : Message) (why : Refusal) → old.part.message ≡ Some x → old_word x ≡ None →
+    (y : Message) × (old.part.message ≡ Some y) × (why ≡ OutOfMemory) × (message_lacks_serials old.part.state from y None ≡ false) → new.part ≡ old.part → new.seen ≡ old.seen → Handles size from old (Err why) new
+item_refused size sender old new x why is none h part seen = record {
+  message = h.0;
+  in_hand = h.1;
+  found = [];
+  loaded = subst (λ (o : Option ℕ). OldLoaded size o []) (sym (ap old_named (sym h.1 ∙ is) ∙ none)) refl;
+  seen = seen ∙ sym (append-nil old.seen);
+  outcome = (h.2 ∙ sym (ap (λ (b : Bool). if b then NumbersEnd else OutOfMemory) h.3), part);
 }
 
 module _ (t : TableName) (first : CellState) (before : NodeSet) where

@@ -1,5 +1,5 @@
 -- A turn from its parts: the choice of an act, and the act.
-use Rattle.std.specs.Prelude.{◌≡◌, ◌≢◌, ℕ, Bool, true, false, if◌then◌else◌, List, [], ◌∷◌, ◌++◌, Option, Some, None, Result, Ok, Err, MatchResult}
+use Rattle.std.specs.Prelude.{◌≡◌, ◌≢◌, ℕ, Bool, true, false, if◌then◌else◌, List, [], ◌∷◌, ◌++◌, Option, Some, None, Result, Ok, Err, MatchBool, MatchResult}
 use Rattle.std.proofs.Common.{ap, sym, subst, ◌∙◌, refl, inl, inr, arith, append_assoc, append-nil}
 use Rattle.ipcz_base.specs.declared.message.Message.{Message}
 use Rattle.ipcz_base.specs.declared.refusal.Refusal.{Refusal}
@@ -23,7 +23,7 @@ use Rattle.ipcz_cell.specs.CellStates.{CellState}
 use Rattle.ipcz_rule.specs.Steps.{old_word}
 use Rattle.ipcz_cell.specs.Claims.{FindsNone, Answered, Got as Claimed, Dry as WasDry, Slotless as HadNoSlot, Lost as WasLost}
 use Rattle.ipcz_cell.specs.Mails.{mail_word, old_named, OldLoaded, source_found, Handles}
-use Rattle.ipcz_cell.specs.Turns.{IsFirst, Chooses, IsInside}
+use Rattle.ipcz_cell.specs.Turns.{IsFirst, IsLast, Chooses, IsInside}
 use Rattle.ipcz_rule.specs.Races.{IsWaitedFor}
 use Rattle.ipcz_cell.specs.TurnEnds.{IsTaken, IsLost, IsRefused, NoSerials, NoMemory, LostIt, hand_lacks_serials, LooksFor, Acts, EndsRaced, IsLostTurn, Turns, Got, Dry, NoSlot}
 use Rattle.ipcz_cell.proofs.TurnWords.{seen_two}
@@ -147,7 +147,9 @@ ends_with t p loads found before word n m waits other last is = record {
 }
 
 lost_ends : (t : TableName) (p : Part) (loads found : Seen) (act : Act) → IsFirst t p loads act → IsLost t p act found → EndsRaced t p (loads ++ found)
-lost_ends t p loads found (acts.Look sender) first lost = ends_with t p loads found first.full.before (mail_word t sender p.node) 1 lost.0 (inl (sender, first.inside, refl, refl)) lost.1 first.full.last lost.2
+lost_ends t p loads found (acts.Look sender) first lost =
+    let full = subst (λ (b : Bool). MatchBool b (Unit {0}) (IsLast loads (mail_word t sender p.node) 1)) lost.2 first.full in
+    ends_with t p loads found full.before (mail_word t sender p.node) 1 lost.0 (inl (sender, first.inside, refl, refl)) lost.1 full.last lost.3
 lost_ends t p loads found (acts.Post to) first lost = let load = first.can.free lost.2 in ends_with t p loads found load.before (mail_word t p.node to) 0 lost.0 (inr (to, first.inside, refl, refl)) lost.1 load.last lost.3
 lost_ends t p loads found (acts.Router serial router_acts.Lock) first lost = record { before = loads; word = lost.0; loaded = lost.1; exchanged = lost.2; differ = lost.6; of = inl (let l = lost.5 in omega (arith, l)); last = ap (λ (l : Seen). loads ++ l) lost.7 }
 lost_ends t p loads found (acts.Router serial router_acts.Claim) first lost = record { before = loads; word = t.size; loaded = lost.0; exchanged = lost.1; differ = lost.2; of = inl (omega arith); last = ap (λ (l : Seen). loads ++ l) lost.3 }

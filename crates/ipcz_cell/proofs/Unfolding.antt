@@ -11,7 +11,7 @@ use Rattle.ipcz_slots.specs.declared.own.Own.{Own}
 use Rattle.ipcz_slots.specs.Slots.{of_none, let_go_word}
 use Rattle.ipcz_slots.proofs.Folding.{view_at, shows_slot}
 use Rattle.ipcz_rule.specs.declared.view.View.{View}
-use Rattle.ipcz_rule.specs.Rule.{Slot, Rules}
+use Rattle.ipcz_rule.specs.Batches.{Batch, Batched}
 use Rattle.ipcz_rule.specs.Lasting.{LastingRules, virtual, sizes}
 use Rattle.ipcz_base.specs.Indexed.{place_at}
 use Rattle.ipcz_word.specs.Layout.{word_of_bits}
@@ -27,18 +27,18 @@ use Rattle.ipcz_cell.specs.Ending.{Reads}
 use Rattle.ipcz_cell.proofs.ReadBack.{messages_of, is_word_table, comes_back}
 
 -- the table that was folded, at its end: its words are these, up to the last mailbox's
-pub record IsUnfolded (count size id : ℕ) (v : View) (ws : List ℕ) (xs : List Slot) : Type 0 where
+pub record IsUnfolded (count size id : ℕ) (v : View) (ws : List ℕ) (xs : List Batch) : Type 0 where
   pub words : List ℕ
-  pub last : Final (Seen (Rules count size) id v) words xs
+  pub last : Final (Seen (Batched count size true) id v) words xs
   pub same : (i : ℕ) → i < size + (1 + count + count * count) → slice_index words i ≡ slice_index ws i
 
-pub unfolded : (count size id : ℕ) (o : Own View) (ws : List ℕ) (xs : List Slot) → Final (Seen (LastingRules count size size false) id o) ws xs → IsUnfolded count size id o.view ws xs
+pub unfolded : (count size id : ℕ) (o : Own View) (ws : List ℕ) (xs : List Batch) → Final (Seen (LastingRules count size size false) id o) ws xs → IsUnfolded count size id o.view ws xs
 unfolded count size id o ws xs last =
     let s = last.0 in
     let l = last.1.0 in
     let t = l.0 in
     let f = l.2 in
-    let x = virtual count size in
+    let x = virtual count size false in
     let z = sizes count size size false in
     let whole = f.whole refl in
     let link : (i : ℕ) → i < size → slice_index t.words i ≡ slice_index ws i = λ i low.
@@ -53,7 +53,7 @@ unfolded count size id o ws xs last =
     }
 
 -- what is read of the words is read of those
-pub reads_same : (n first : ℕ) (words words' : List ℕ) (xs : List Slot) (hands : List (Option Message)) (mail : ℕ → Mail) → ((k : ℕ) → k < n * n → slice_index words (first + k) ≡ slice_index words' (first + k)) →
+pub reads_same : (n first : ℕ) (words words' : List ℕ) (xs : List Batch) (hands : List (Option Message)) (mail : ℕ → Mail) → ((k : ℕ) → k < n * n → slice_index words (first + k) ≡ slice_index words' (first + k)) →
     ((from to : ℕ) → from < n → to < n → from * n + to < n * n) → Reads n first words xs hands mail → Reads n first words' xs hands mail
 reads_same n first words words' xs hands mail same below r = record {
   full = λ k l e. r.full k l (same k l ∙ e);
@@ -63,7 +63,7 @@ reads_same n first words words' xs hands mail same below r = record {
 }
 
 -- the rule of a table in which each number has its slot, for as many nodes and words
-pub whole_sized : (n n' m m' k : ℕ) (b : Bool) (id : ℕ) (o : Own View) (ws : List ℕ) (xs : List Slot) → n ≡ n' → m ≡ m' → k ≡ m' → b ≡ false →
+pub whole_sized : (n n' m m' k : ℕ) (b : Bool) (id : ℕ) (o : Own View) (ws : List ℕ) (xs : List Batch) → n ≡ n' → m ≡ m' → k ≡ m' → b ≡ false →
     Final (Seen (LastingRules n m k b) id o) ws xs → Final (Seen (LastingRules n' m' m' false) id o) ws xs
 whole_sized n n' m m' k b id o ws xs e f g h last =
     subst (λ (c : Bool). Final (Seen (LastingRules n' m' m' c) id o) ws xs) h (subst (λ (j : ℕ). Final (Seen (LastingRules n' m' j b) id o) ws xs) g
@@ -72,7 +72,7 @@ whole_sized n n' m m' k b id o ws xs e f g h last =
 below_square : (a b c : ℕ) → a < c → b < c → a * c + b < c * c
 below_square a b c la lb = grind (arith, la, lb)
 
-module _ (count size id : ℕ) (o : Own View) (ws : List ℕ) (xs : List Slot) (last : Final (Seen (LastingRules count size size false) id o) ws xs) (all : AreAll count o.view.parts)
+module _ (count size id : ℕ) (o : Own View) (ws : List ℕ) (xs : List Batch) (last : Final (Seen (LastingRules count size size false) id o) ws xs) (all : AreAll count o.view.parts)
     (bits : List ℕ) (many : length bits ≡ size) (read : (i : ℕ) → i < size → slice_index bits i ≡ slice_index ws i) (claimed : ℕ) (claims : claimed ≡ slice_index ws size) where
   u : IsUnfolded count size id o.view ws xs
   u = unfolded count size id o ws xs last

@@ -1,5 +1,5 @@
 -- The way back from a table to a world: what its steps tell, and what is read of the words and slots.
-use Rattle.std.specs.Prelude.{◌≡◌, ◌≢◌, ◌<◌, ◌+◌, ◌*◌, ℕ, Bool, nat_eq, nat_lt, ◌&&◌, if◌then◌else◌, List, [], ◌∷◌, map, slice_index}
+use Rattle.std.specs.Prelude.{◌≡◌, ◌≢◌, ◌<◌, ◌⊎◌, ◌+◌, ◌*◌, ℕ, Bool, nat_eq, nat_lt, ◌&&◌, if◌then◌else◌, List, [], ◌∷◌, map, slice_index}
 use Rattle.std.specs.Prelude.{Option, Some, None, MatchBool}
 use mathlib.Core.Option.{some}
 use lib.ListN.{get_elem?}
@@ -11,7 +11,8 @@ use Rattle.ipcz_world.specs.declared.mail.Mail.{Mail}
 use Rattle.ipcz_world.specs.declared.mail.Mail.TheVariants as mails
 use Rattle.ipcz_rule.specs.declared.view.View.{View}
 use Rattle.ipcz_rule.specs.declared.view.Part.{Part}
-use Rattle.ipcz_rule.specs.Rule.{Slot, saw}
+use Rattle.ipcz_rule.specs.Rule.{saw}
+use Rattle.ipcz_rule.specs.Batches.{Batch, batch_from}
 use Rattle.ipcz_rule.specs.Steps.{unprobe_part}
 use Rattle.ipcz_cell.specs.TableNames.{TableName}
 use Rattle.ipcz_cell.specs.CellStates.{CellState, change_part}
@@ -25,6 +26,10 @@ unprobed to m n m' = m' ≡ (change_part (unprobe_part to) m.0, rest m.1)
 abbrev pub given_back : ℕ → Tells
 given_back i m n m' = m' ≡ (saw i n m.0, rest m.1)
 
+-- a seat has the slot of a sender's batch: a message of it is in hand, or left
+abbrev pub HasSlotOf : Part → ℕ → Type 0
+HasSlotOf p sender = (p.state.hand ≡ Some sender) ⊎ (batch_from p sender ≢ [])
+
 -- the parts of these cells
 abbrev pub parts_of : List CellState → List Part
 parts_of cells = map (λ c. c.part) cells
@@ -34,10 +39,10 @@ abbrev pub is_in_order : ℕ → ℕ → List CellState → Bool
 is_in_order count i [] = nat_eq i count
 is_in_order count i (c ∷ cells) = nat_eq c.part.node i && (nat_lt i count && is_in_order count (i + 1) cells)
 
--- a mailbox that is full
-abbrev pub full_of : Slot → Mail
-full_of None = mails.Empty
-full_of (Some m) = mails.Full m
+-- a mailbox that is full: of a batch it has the first message
+abbrev pub full_of : Batch → Mail
+full_of [] = mails.Empty
+full_of (m ∷ ms) = mails.Full m
 
 -- a mailbox whose message is in hand
 abbrev pub hand_of : Option Message → Mail
@@ -45,7 +50,7 @@ hand_of None = mails.Empty
 hand_of (Some m) = mails.Hand m
 
 -- a mailbox, from its word, its slot and the message in its receiver's hand
-abbrev pub box_of : ℕ → Slot → Option Message → Mail
+abbrev pub box_of : ℕ → Batch → Option Message → Mail
 box_of word slot hand = if nat_eq word 1 then full_of slot else if nat_eq word 2 then hand_of hand else mails.Empty
 
 -- what of the message is left in the receiver's hand
@@ -53,8 +58,8 @@ abbrev pub hand_left : ℕ → Option Message → Option Message
 hand_left word hand = if nat_eq word 2 then None else hand
 
 -- the words of the mailboxes from one on, the slots and the messages in the nodes' hands come to these mailboxes, of so many nodes
-pub record Reads (n first : ℕ) (words : List ℕ) (slots : List Slot) (hands : List (Option Message)) (mail : ℕ → Mail) : Type 0 where
-  pub full : (k : ℕ) → k < n * n → slice_index words (first + k) ≡ 1 → (x : Message) × (get_elem? slots k ≡ some (Some x)) ×
+pub record Reads (n first : ℕ) (words : List ℕ) (slots : List Batch) (hands : List (Option Message)) (mail : ℕ → Mail) : Type 0 where
+  pub full : (k : ℕ) → k < n * n → slice_index words (first + k) ≡ 1 → (x : Message) × (get_elem? slots k ≡ some (x ∷ [])) ×
       (mail k ≡ mails.Full x)
   pub hand : (from to : ℕ) → from < n → to < n → slice_index words (first + (from * n + to)) ≡ 2 →
       (x : Message) × (get_elem? hands to ≡ some (Some x)) × (mail (from * n + to) ≡ mails.Hand x)
@@ -77,6 +82,7 @@ outside count v = change_part (λ p. record {
   state = p.state;
   message = p.message;
   probed = p.probed;
+  batches = p.batches;
   put = p.put;
   got = p.got;
   gone = p.gone;

@@ -1,6 +1,6 @@
 -- The mailboxes of a cell: what the calls on them answer and leave.
 use Rattle.std.specs.Prelude.{◌≡◌, ◌≢◌, ◌<◌, ◌+◌, ◌*◌, ℕ, [], ◌∷◌, ◌++◌, Bool, false, nat_lt, if◌then◌else◌, List, Option, Some, None}
-use Rattle.std.specs.Prelude.{MatchBool, IfSome, Result, Ok, Err, MatchResult}
+use Rattle.std.specs.Prelude.{option_to_list, MatchBool, IfSome, Result, Ok, Err, MatchResult}
 use Rattle.ipcz_base.specs.declared.message.Message.{Message}
 use Rattle.ipcz_base.specs.declared.refusal.Refusal.{Refusal}
 use Rattle.ipcz_base.specs.declared.refusal.Refusal.TheVariants.{NumbersEnd, OutOfMemory}
@@ -10,7 +10,13 @@ use Rattle.ipcz_node.specs.Events.{hand_event}
 use Rattle.ipcz_node.specs.Hands.{message_lacks_serials}
 use Rattle.ipcz_world.specs.Coding.{IsLinkNumber}
 use Rattle.ipcz_rule.specs.Rule.{has_number}
+use Rattle.ipcz_rule.specs.declared.view.Part.{Part}
 use Rattle.ipcz_rule.specs.Steps.{probe_part, look_part, old_word, trusted, hand_part}
+use Rattle.ipcz_rule.specs.Batches.{Batch, batch_from, with_batch}
+use Rattle.ipcz_rule.specs.BatchKinds.{batch_post_part}
+use Rattle.ipcz_node.specs.Acts.{first_of, rest_of}
+use Rattle.ipcz_node.specs.Node.{Node, outbox}
+use Rattle.ipcz_cell.specs.Cells.{has_batch}
 use Rattle.ipcz_cell.specs.TableNames.{TableName}
 use Rattle.ipcz_cell.specs.CellStates.{CellState}
 
@@ -89,8 +95,36 @@ abbrev pub IsTold : {X : Type 0} → (Happened → X → Type 0) → (Result Hap
 IsTold tells Done (Ok told) = (event : Happened) × tells event told × Done (Ok event)
 IsTold tells Done (Err why) = Done (Err why)
 
--- what a look answers and leaves: it fails only if the mailbox was found at another value than 1
+-- the part with a message of a sender in hand, and with these of its batch left
+abbrev pub looked_part : ℕ → Message → List Message → Part → Part
+looked_part from x xs p = look_part from x (with_batch from xs p)
+
+-- a message was taken into the hand: the next of a batch that the seat has, or the first of one, whose mailbox was found full
+abbrev pub HasTaken : ℕ → ℕ → CellState → CellState → Type 0
+HasTaken i from old new = (x : Message) × (xs : List Message) × (new.part ≡ looked_part from x xs old.part) ×
+    MatchBool (has_batch old.part from) ((batch_from old.part from ≡ x ∷ xs) × (new.seen ≡ old.seen)) (new.seen ≡ old.seen ++ (i, 1) ∷ [])
+
+-- what a look answers and leaves: it fails only if nothing is left of a batch, and the mailbox was found at another value than 1
 abbrev pub Looks : ℕ → ℕ → CellState → Bool → CellState → Type 0
-Looks i from old answer new = MatchBool answer ((x : Message) × (new.part ≡ look_part from x old.part) ×
-    (new.seen ≡ old.seen ++ (i, 1) ∷ []))
-    ((n : ℕ) × (n ≢ 1) × HasSeen i n old new)
+Looks i from old answer new = MatchBool answer (HasTaken i from old new) ((has_batch old.part from ≡ false) × (n : ℕ) × (n ≢ 1) × HasSeen i n old new)
+
+-- the messages that a post to a node takes: all that wait, or the first alone where slots aren't used again
+abbrev pub posted_batch : TableName → ℕ → Node → Batch
+posted_batch t to n = if t.reuses then outbox n to else option_to_list (first_of (outbox n to))
+
+-- and those that wait still
+abbrev pub posted_rest : TableName → ℕ → Node → List Message
+posted_rest t to n = if t.reuses then [] else rest_of (outbox n to)
+
+-- the part after a post
+abbrev pub posted_part : TableName → ℕ → Part → Part
+posted_part t to p = batch_post_part to (posted_rest t to p.state) p
+
+-- the part after a look at what is left of this batch of a sender
+abbrev pub part_looked_on : ℕ → Batch → Part → Part
+part_looked_on from [] p = p
+part_looked_on from (x ∷ xs) p = looked_part from x xs p
+
+-- the part after a look at what is left of the batch of a sender
+abbrev pub looked_on_part : ℕ → Part → Part
+looked_on_part from p = part_looked_on from (batch_from p from) p

@@ -6,14 +6,15 @@ use Rattle.ipcz_world.specs.World.{numbers_from}
 use Rattle.ipcz_rule.specs.Start.{opening_parts}
 use Rattle.ipcz_cell.specs.CellStates.{CellState}
 
--- what a cell has in addition to its seat: its node, and the mailboxes that it has probed
+-- what a cell has in addition to its seat: its node, the mailboxes that it has probed, and the senders whose slots it has
 pub record BodyValue : Type 0 where
   pub node : Node
   pub probed : List ℕ
+  pub held : List ℕ
 
 -- what the cell of a node at the start has
 abbrev pub opening_body : ℕ → ℕ → BodyValue
-opening_body count n = record { node = new_node n count; probed = [] }
+opening_body count n = record { node = new_node n count; probed = []; held = [] }
 
 -- these are of the first so many nodes
 abbrev pub AreBodies : ℕ → ℕ → List BodyValue → Type 0

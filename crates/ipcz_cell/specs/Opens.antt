@@ -1,5 +1,5 @@
 -- The claim count, a link word and an open at a cell: what the calls on them answer and leave.
-use Rattle.std.specs.Prelude.{◌≡◌, ◌≢◌, ◌<◌, ◌≤◌, ◌⊎◌, ◌+◌, ℕ, [], ◌∷◌, ◌++◌, Bool, true, ◌&&◌, ◌||◌, ◌==◌, List, length, is_some, Option, Some}
+use Rattle.std.specs.Prelude.{◌≡◌, ◌≢◌, ◌<◌, ◌≤◌, ◌⊎◌, ◌+◌, ℕ, zero, suc, [], ◌∷◌, ◌++◌, Bool, true, not, ◌&&◌, ◌||◌, ◌==◌, List, length, is_some, Option, Some}
 use Rattle.std.specs.Prelude.{None}
 use Rattle.std.specs.Prelude.{Result, Ok, Err, MatchBool, MatchOption, MatchResult, eqb, unwrap_or}
 use Rattle.ipcz_base.specs.declared.end.End.{End}
@@ -17,7 +17,9 @@ use Rattle.ipcz_node.specs.RoomyNodes.{IsPossibleAct}
 use Rattle.ipcz_rule.specs.Rule.{saw}
 use Rattle.ipcz_rule.specs.Steps.{claimed_part, open_part}
 use Rattle.ipcz_cell.specs.TableNames.{TableName}
+use Rattle.ipcz_rule.specs.declared.view.Part.{Part}
 use Rattle.ipcz_cell.specs.CellStates.{CellState, change_part}
+use Rattle.ipcz_cell.specs.Cells.{has_batch}
 use Rattle.ipcz_cell.specs.Outcomes.{Tells, loaded}
 use Rattle.ipcz_cell.specs.Mails.{mail_word, HasSeen}
 use Rattle.ipcz_cell.specs.Claims.{AreReached, IsNumberAt, FindsNone, Answered}
@@ -136,11 +138,16 @@ pub record FindsFree (t : TableName) (from : ℕ) (old : CellState) (answer : Bo
   pub room : new.room ≡ old.room
   pub seen : new.seen ≡ old.seen ++ box_loads t old.part.node from found
 
+-- whether nothing is left of the batches of the senders below a number
+abbrev pub are_spent : Part → ℕ → Bool
+are_spent p zero = true
+are_spent p (suc n) = not (has_batch p n) && are_spent p n
+
 -- whether a node is quiet by its own part and by what the loads of all mailboxes to it have found, and what is left
 pub record FindsQuiet (t : TableName) (old : CellState) (answer : Bool) (new : CellState) : Type 0 where
   pub found : List ℕ
   pub many : length found ≡ t.count
-  pub answer_is : answer ≡ (is_quiet old.part.state && are_free found)
+  pub answer_is : answer ≡ (is_quiet old.part.state && are_spent old.part t.count && are_free found)
   pub part : new.part ≡ old.part
   pub room : new.room ≡ old.room
   pub seen : new.seen ≡ old.seen ++ box_loads t old.part.node 0 found

@@ -1,5 +1,5 @@
 -- What each kind of step tells of its seat, which has had m and has m' now, if n was found.
-use Rattle.std.specs.Prelude.{◌≡◌, ℕ, zero, suc, ◌∷◌, Bool, true, eqb, List, Option, Some, None, MatchBool, if◌then◌else◌}
+use Rattle.std.specs.Prelude.{◌≡◌, ℕ, zero, suc, [], ◌∷◌, Bool, true, eqb, List, Option, Some, MatchBool, if◌then◌else◌}
 use Rattle.std.specs.Int.{bit_at}
 use Rattle.atomic_table.specs.Table.{rest, turned}
 use Rattle.ipcz_base.specs.declared.side.Side.{Side}
@@ -15,21 +15,24 @@ use Rattle.ipcz_rule.specs.declared.history.Call.{Call}
 use Rattle.ipcz_rule.specs.declared.history.CallerView.{CallerView}
 use Rattle.ipcz_rule.specs.declared.view.View.{View}
 use Rattle.ipcz_rule.specs.declared.view.Part.{Part}
-use Rattle.ipcz_rule.specs.Rule.{Slot, Mine, saw, announcing, forgetting}
+use Rattle.ipcz_rule.specs.Rule.{saw, announcing, forgetting}
+use Rattle.ipcz_rule.specs.Batches.{Batch, BatchMine}
 use Rattle.ipcz_rule.specs.Kinds.{is_refusal}
 use Rattle.ipcz_rule.specs.Histories.{IsNoted}
-use Rattle.ipcz_rule.specs.Steps.{act_part, probe_part, post_part, look_part}
+use Rattle.ipcz_rule.specs.Steps.{act_part, probe_part}
 use Rattle.ipcz_cell.specs.CellStates.{change_part, part_in}
 use Rattle.ipcz_cell.specs.Parts.{handed_part}
+use Rattle.ipcz_cell.specs.Mails.{looked_part, posted_part}
+use Rattle.ipcz_cell.specs.TableNames.{TableName}
 
 -- what a step tells
 abbrev pub Tells : Type 1
-Tells = Mine → ℕ → Mine → Type 0
+Tells = BatchMine → ℕ → BatchMine → Type 0
 
 -- what a step tells is this, by another name
 pub record IsPicked (t u : Tells) : Type 0 where
-  pub says : (m : Mine) (n : ℕ) (m' : Mine) → t m n m' → u m n m'
-  pub said : (m : Mine) (n : ℕ) (m' : Mine) → u m n m' → t m n m'
+  pub says : (m : BatchMine) (n : ℕ) (m' : BatchMine) → t m n m' → u m n m'
+  pub said : (m : BatchMine) (n : ℕ) (m' : BatchMine) → u m n m' → t m n m'
 
 abbrev pub is_itself : (t : Tells) → IsPicked t t
 is_itself t = record { says = λ m n m' h. h; said = λ m n m' h. h }
@@ -44,7 +47,7 @@ loaded i m n m' = m' ≡ (saw i n m.0, m.1)
 
 -- an exchange 0 to 3 of the mailbox word i
 abbrev pub probed : ℕ → ℕ → ℕ → Tells
-probed i k to m n m' = MatchBool (eqb n 0) (m' ≡ (change_part (probe_part to) (saw i n m.0), (k, None) ∷ m.1)) (m' ≡ (saw i n m.0, m.1))
+probed i k to m n m' = MatchBool (eqb n 0) (m' ≡ (change_part (probe_part to) (saw i n m.0), (k, []) ∷ m.1)) (m' ≡ (saw i n m.0, m.1))
 
 -- a load of a node's inbox before a post to it, and whether the sender's bit was found set there
 abbrev pub peeked : ℕ → ℕ → Tells
@@ -63,12 +66,12 @@ abbrev pub cleared : Tells
 cleared m n m' = m' ≡ (forgetting m.0, m.1)
 
 -- a store 1 at a mailbox that was probed
-abbrev pub posted : ℕ → Tells
-posted to m n m' = m' ≡ (change_part (post_part to) m.0, rest m.1)
+abbrev pub posted : TableName → ℕ → Tells
+posted t to m n m' = m' ≡ (change_part (posted_part t to) m.0, rest m.1)
 
--- an exchange 1 to 2 of the mailbox word i
-abbrev pub looked : ℕ → ℕ → ℕ → Tells
-looked i k from m n m' = MatchBool (eqb n 1) ((x : Message) × (m' ≡ (change_part (look_part from x) (saw i n m.0), (k, Some x) ∷ m.1)))
+-- an exchange 1 to 2 of the mailbox word i, in a table where each batch is of one message if `alone`
+abbrev pub looked : (alone : Bool) → ℕ → ℕ → ℕ → Tells
+looked alone i k from m n m' = MatchBool (eqb n 1) ((x : Message) × (xs : List Message) × (alone ≡ true → xs ≡ []) × (m' ≡ (change_part (looked_part from x xs) (saw i n m.0), (k, x ∷ xs) ∷ m.1)))
     (m' ≡ (saw i n m.0, m.1))
 
 -- a load of the old link's word i before an AcceptBypass from a node is handled: it is the word of a link, and names this node
@@ -98,6 +101,6 @@ abbrev pub always : ℕ → Bool
 always n = true
 
 -- a list with so many of its first elements behind the others
-abbrev pub turned_by : ℕ → List (ℕ × Slot) → List (ℕ × Slot)
+abbrev pub turned_by : ℕ → List (ℕ × Batch) → List (ℕ × Batch)
 turned_by zero c = c
 turned_by (suc n) c = turned_by n (turned c)

@@ -1,6 +1,6 @@
 -- A call that is answered Raced was overtaken: between the last two numbers that it has found another seat has taken an act. A call is seen in
 -- a run of the table, of which it is told what its cell was before and after.
-use Rattle.std.specs.Prelude.{◌≡◌, ◌≤◌, ◌+◌, ℕ, suc, [], ◌∷◌, List, length, Option, Err}
+use Rattle.std.specs.Prelude.{◌≡◌, ◌≤◌, ◌+◌, ℕ, suc, not, [], ◌∷◌, List, length, Option, Err}
 use mathlib.Core.Option.{some}
 use lib.ListN.{get_elem?}
 use Rattle.ipcz_base.specs.declared.refusal.Refusal.TheVariants.{Raced}
@@ -16,9 +16,9 @@ use Rattle.ipcz_cell.specs.TurnEnds.{Turns}
 
 -- a run of the table from before a call of a cell to behind it, in which the seat's steps are loads: so are those of a call that changes
 -- nothing but what was seen
-pub record IsRunOf (t : TableName) (id : ℕ) (p : Ruled t.count t.size) (steps : List (List (ℕ × Act))) (q : Ruled t.count t.size)
-    (run : AreSteps t.count t.size p steps q) (old new : CellState) : Type 0 where
-  pub loads : OnlyLoads t.count t.size id p steps q run
+pub record IsRunOf (t : TableName) (id : ℕ) (p : Ruled t.count t.size (not t.reuses)) (steps : List (List (ℕ × Act))) (q : Ruled t.count t.size (not t.reuses))
+    (run : AreSteps t.count t.size (not t.reuses) p steps q) (old new : CellState) : Type 0 where
+  pub loads : OnlyLoads t.count t.size (not t.reuses) id p steps q run
   pub first : View
   pub last : View
   pub before : get_elem? p.0.views id ≡ some first
@@ -28,18 +28,18 @@ pub record IsRunOf (t : TableName) (id : ℕ) (p : Ruled t.count t.size) (steps 
   pub seen_behind : last.seen ≡ new.seen
 
 -- another seat has taken an act on a link word, or on the claim count, behind all but the last of what the call has seen, and before that
-pub record IsOvertakenCall (t : TableName) (id : ℕ) (p : Ruled t.count t.size) (steps : List (List (ℕ × Act))) (q : Ruled t.count t.size)
-    (run : AreSteps t.count t.size p steps q) (old new : CellState) : Type 0 where
+pub record IsOvertakenCall (t : TableName) (id : ℕ) (p : Ruled t.count t.size (not t.reuses)) (steps : List (List (ℕ × Act))) (q : Ruled t.count t.size (not t.reuses))
+    (run : AreSteps t.count t.size (not t.reuses) p steps q) (old new : CellState) : Type 0 where
   pub word : ℕ
   pub is_shared : word ≤ t.size
   pub earlier : ℕ
   pub all : length new.seen ≡ length old.seen + suc earlier
-  pub overtaken : IsOvertaken t.count t.size id word earlier p steps q run
+  pub overtaken : IsOvertaken t.count t.size (not t.reuses) id word earlier p steps q run
 
 -- what follows of a call that is answered so
 abbrev pub Overtakes : (TableName → CellState → CellState → Type 0) → Type 0
 Overtakes IsRaced =
-    (t : TableName) (id : ℕ) (p q : Ruled t.count t.size) (steps : List (List (ℕ × Act))) (run : AreSteps t.count t.size p steps q)
+    (t : TableName) (id : ℕ) (p q : Ruled t.count t.size (not t.reuses)) (steps : List (List (ℕ × Act))) (run : AreSteps t.count t.size (not t.reuses) p steps q)
     (old new : CellState) → IsRunOf t id p steps q run old new → IsRaced t old new → IsOvertakenCall t id p steps q run old new
 
 -- of a turn, a try for the lock, the claim of a word, and the open of a pair

@@ -28,11 +28,13 @@ use Rattle.ipcz_world.specs.WordAnswers.{word_answer}
 use Rattle.ipcz_rule.specs.declared.view.Part.{Part}
 use Rattle.ipcz_rule.specs.Rule.{has_number}
 use Rattle.ipcz_rule.specs.Races.{IsWaitedFor}
-use Rattle.ipcz_rule.specs.Steps.{act_part, post_part, look_part, hand_part}
+use Rattle.ipcz_rule.specs.Batches.{batch_from}
+use Rattle.ipcz_rule.specs.Steps.{act_part, hand_part}
 use Rattle.ipcz_cell.specs.TableNames.{TableName}
 use Rattle.ipcz_cell.specs.CellStates.{CellState}
 use Rattle.ipcz_cell.specs.Claims.{IsNumberAt, FindsNone}
-use Rattle.ipcz_cell.specs.Mails.{mail_word, old_named, OldLoaded, source_found}
+use Rattle.ipcz_cell.specs.Cells.{has_batch}
+use Rattle.ipcz_cell.specs.Mails.{mail_word, old_named, OldLoaded, source_found, looked_part, posted_part}
 use Rattle.ipcz_cell.specs.Words.{lock_seen}
 use Rattle.ipcz_cell.specs.Turns.{IsFirst}
 
@@ -74,7 +76,7 @@ try_event serial word found plans.Refused = events.Refused serial (Central word)
 -- an act is answered so, by what its steps have seen
 abbrev pub IsAnswered : TableName → Part → Act → Answer → List (ℕ × ℕ) → Type 0
 IsAnswered t p (acts.Hand from) answer seen = (answer ≡ answers.Plain) × OldLoaded t.size (old_named p.message) seen
-IsAnswered t p (acts.Look from) answer seen = (answer ≡ answers.Plain) × (seen ≡ (mail_word t from p.node, 1) ∷ [])
+IsAnswered t p (acts.Look from) answer seen = (answer ≡ answers.Plain) × (seen ≡ (if has_batch p from then [] else (mail_word t from p.node, 1) ∷ []))
 IsAnswered t p (acts.Post to) answer seen = (answer ≡ answers.Plain) ×
     (seen ≡ (if has_number p.probed to then [] else (mail_word t p.node to, 0) ∷ []))
 IsAnswered t p (acts.Router serial router_acts.Mark) answer seen = FoundWord p.state serial router_acts.Mark answer seen
@@ -85,11 +87,12 @@ IsAnswered t p (acts.Router serial router_acts.Claim) answer seen = CountedWord 
 IsAnswered t p other answer seen = (answer ≡ answers.Plain) × (seen ≡ [])
 
 -- the part of the node is this one after an act that has seen so much
-abbrev pub IsAfter : Act → Answer → List (ℕ × ℕ) → Part → Part → Type 0
-IsAfter (acts.Hand from) answer seen p p' = (x : Message) × (p.message ≡ Some x) × (p' ≡ hand_part from (source_found seen) x p)
-IsAfter (acts.Look from) answer seen p p' = (x : Message) × (p' ≡ look_part from x p)
-IsAfter (acts.Post to) answer seen p p' = p' ≡ post_part to p
-IsAfter other answer seen p p' = p' ≡ act_part other answer p
+abbrev pub IsAfter : TableName → Act → Answer → List (ℕ × ℕ) → Part → Part → Type 0
+IsAfter t (acts.Hand from) answer seen p p' = (x : Message) × (p.message ≡ Some x) × (p' ≡ hand_part from (source_found seen) x p)
+IsAfter t (acts.Look from) answer seen p p' = (x : Message) × (xs : List Message) × (p' ≡ looked_part from x xs p) ×
+    (has_batch p from ≡ true → batch_from p from ≡ x ∷ xs)
+IsAfter t (acts.Post to) answer seen p p' = p' ≡ posted_part t to p
+IsAfter t other answer seen p p' = p' ≡ act_part other answer p
 
 -- an act is told so
 abbrev pub IsEvent : Act → Answer → List (ℕ × ℕ) → Part → Happened → Type 0
@@ -101,7 +104,7 @@ IsEvent other answer seen p event = event ≡ event_of p.state other answer
 pub record IsDone (t : TableName) (p : Part) (act : Act) (event : Happened) (p' : Part) (seen : List (ℕ × ℕ)) : Type 0 where
   pub answer : Answer
   pub answered : IsAnswered t p act answer seen
-  pub part : IsAfter act answer seen p p'
+  pub part : IsAfter t act answer seen p p'
   pub event_is : IsEvent act answer seen p event
 
 -- whether an act may want memory
@@ -133,7 +136,7 @@ IsSeenBefore size p other seen = seen ≡ []
 -- an act was lost to another thread: an exchange found another number than the one that it was for. A look, a post, a try for the lock and
 -- a claim can be, and no other act
 abbrev pub IsLost : TableName → Part → Act → List (ℕ × ℕ) → Type 0
-IsLost t p (acts.Look from) seen = (n : ℕ) × (n ≢ 1) × (seen ≡ (mail_word t from p.node, n) ∷ [])
+IsLost t p (acts.Look from) seen = (n : ℕ) × (n ≢ 1) × (has_batch p from ≡ false) × (seen ≡ (mail_word t from p.node, n) ∷ [])
 IsLost t p (acts.Post to) seen = (n : ℕ) × (n ≢ 0) × (has_number p.probed to ≡ false) × (seen ≡ (mail_word t p.node to, n) ∷ [])
 IsLost t p (acts.Router serial router_acts.Lock) seen = (word n found : ℕ) × (side : Side) × (word_side p.state serial ≡ Some (word, side)) ×
     (word < t.size) × (found ≢ n) × (seen ≡ (word, n) ∷ (word, found) ∷ [])

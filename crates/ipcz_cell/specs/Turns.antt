@@ -10,6 +10,7 @@ use Rattle.ipcz_rule.specs.declared.view.Part.{Part}
 use Rattle.ipcz_rule.specs.Rule.{has_number}
 use Rattle.ipcz_cell.specs.TableNames.{TableName}
 use Rattle.ipcz_cell.specs.CellStates.{CellState}
+use Rattle.ipcz_cell.specs.Cells.{has_batch}
 use Rattle.ipcz_cell.specs.Mails.{mail_word, inbox_word}
 
 -- one of these loads found the word at a number
@@ -35,9 +36,14 @@ pub record WasFoundClear (t : TableName) (node from : ℕ) (found : List (ℕ ×
   pub clear : bit_at at from ≡ 0
   pub load : WasFound found (inbox_word t node) at
 
--- the mailbox to a node from each that is below another was loaded, and was not found full, or the sender's bit wasn't set
-abbrev pub NoneFull : TableName → ℕ → ℕ → List (ℕ × ℕ) → Type 0
-NoneFull t node end found = (from : ℕ) → from < end → WasFoundOther found (mail_word t from node) 1 ⊎ WasFoundClear t node from found
+-- of the batch of each sender below a number nothing is left, and its mailbox was loaded, and not found full, or the sender's bit wasn't set
+abbrev pub NoneFull : TableName → Part → ℕ → List (ℕ × ℕ) → Type 0
+NoneFull t p end found = (from : ℕ) → from < end → (has_batch p from ≡ false) ×
+    (WasFoundOther found (mail_word t from p.node) 1 ⊎ WasFoundClear t p.node from found)
+
+-- something is left of the batch of a sender, or the last load has found its mailbox full
+abbrev pub IsFull : TableName → Part → ℕ → List (ℕ × ℕ) → Type 0
+IsFull t p from found = MatchBool (has_batch p from) (Unit {0}) (IsLast found (mail_word t from p.node) 1)
 
 -- messages wait for a node whose mailbox is this node's already, or was found empty by the last load
 pub record IsOpen (t : TableName) (p : Part) (to : ℕ) (found : List (ℕ × ℕ)) : Type 0 where
@@ -52,19 +58,19 @@ IsShut t p to found = has_mail_for p.state to ≡ true → (has_number p.probed 
 abbrev pub NoneEmpty : TableName → Part → ℕ → List (ℕ × ℕ) → Type 0
 NoneEmpty t p end found = (to : ℕ) → to < end → IsShut t p to found
 
--- to look into a mailbox comes first: nothing is in hand, no mailbox of a lower sender is full, and this one is, by the last load
+-- to look into a mailbox comes first: nothing is in hand, there is nothing of a lower sender, and there is of this one
 pub record IsFirstLook (t : TableName) (p : Part) (found : List (ℕ × ℕ)) (from : ℕ) : Type 0 where
   pub inside : from < t.count
   pub idle : p.state.hand ≡ None
-  pub none : NoneFull t p.node from found
-  pub full : IsLast found (mail_word t from p.node) 1
+  pub none : NoneFull t p from found
+  pub full : IsFull t p from found
 
 -- to post to a node comes first: nothing is in hand, no mailbox to this node is full, and this is the lowest destination that a message can
 -- be posted to
 pub record IsFirstPost (t : TableName) (p : Part) (found : List (ℕ × ℕ)) (to : ℕ) : Type 0 where
   pub inside : to < t.count
   pub idle : p.state.hand ≡ None
-  pub none : NoneFull t p.node t.count found
+  pub none : NoneFull t p t.count found
   pub lowest : NoneEmpty t p to found
   pub can : IsOpen t p to found
 
@@ -76,7 +82,7 @@ nothing_seen = record { full = replicate 64 false; empty = replicate 64 false }
 -- is what comes first without any
 pub record IsFirstElse (t : TableName) (p : Part) (found : List (ℕ × ℕ)) (act : Act) : Type 0 where
   pub idle : p.state.hand ≡ None
-  pub none : NoneFull t p.node t.count found
+  pub none : NoneFull t p t.count found
   pub lowest : NoneEmpty t p t.count found
   pub first : act ≡ next p.state nothing_seen
 
@@ -110,8 +116,8 @@ pub record Chooses (t : TableName) (old : CellState) (act : Act) (new : CellStat
 pub record FindsFull (t : TableName) (old : CellState) (answer : Option ℕ) (new : CellState) : Type 0 where
   pub found : List (ℕ × ℕ)
   pub looked : HasLooked found old new
-  pub first : MatchOption answer (NoneFull t old.part.node t.count found)
-      (λ from. (from < t.count) × NoneFull t old.part.node from found × IsLast found (mail_word t from old.part.node) 1)
+  pub first : MatchOption answer (NoneFull t old.part t.count found)
+      (λ from. (from < t.count) × NoneFull t old.part from found × IsFull t old.part from found)
 
 -- whether a message can be posted to a node
 pub record CanPost (t : TableName) (to : ℕ) (old : CellState) (answer : Bool) (new : CellState) : Type 0 where

@@ -18,8 +18,8 @@ ghost use Rattle.ipcz_cell.specs.Outcomes.{IsPicked, touched};
 
 use crate::fabric::{Fabric, FabricName};
 use crate::letting::{GivenUp, act_step, given_up};
+use crate::node_list::NodeList;
 use crate::plays::{Outcome, load_step};
-use crate::probed::Probed;
 use crate::seat::TableSeat;
 use ipcz_base::{Bytes, End, Ends, Message, Parcel, Profile, Refusal};
 use ipcz_node::{Act, Happened, NodeState, PutRefused, Told};
@@ -31,7 +31,9 @@ use std::marker::{Brand, Model, PhantomData};
 pub struct NodeCell<F: FabricName> {
     pub(crate) state: NodeState,
     pub(crate) message: Option<Message>,
-    pub(crate) probed: Probed,
+    pub(crate) probed: NodeList,
+    // The senders whose slot the seat has: of the message in hand, and of what is left of batches. The newest is the last.
+    pub(crate) held: NodeList,
     pub(crate) seat: TableSeat,
     pub(crate) of: PhantomData<F>,
 }
@@ -51,7 +53,7 @@ impl<F: FabricName> Model for NodeCell<F> {
 
     ghost view = { λ c. record { part = part_in c.seat.me.0.view; seen = c.seat.me.0.view.seen; room = c.state.room; looked = c.seat.me.0.looked } };
 
-    ghost invariant = { λ c. IsCell F.table c.state.node c.message c.probed c.seat.table_id (mine_of c.seat.me) × HasNoSlots c.seat.me.0 };
+    ghost invariant = { λ c. IsCell F.table c.state.node c.message c.probed c.held c.seat.table_id (mine_of c.seat.me) × HasNoSlots c.seat.me.0 };
 }
 
 /// A step on the node's inbox, which it leaves as it is.

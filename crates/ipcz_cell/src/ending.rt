@@ -1,11 +1,12 @@
 //! The way back from a table to a world.
 ghost use Rattle.ipcz_cell.specs.Seats.{mine_of};
-ghost use Rattle.std.specs.Prelude.{◌≡◌, ◌≤◌, ◌<◌, ◌+◌, ◌*◌, ◌++◌, ℕ, true, false, [], ◌∷◌, IfOk, IfErr, Some, None};
-ghost use Rattle.std.specs.Prelude.{length, map, vec_len, vec_capacity, slice_index};
+ghost use Rattle.std.specs.Prelude.{◌≡◌, ◌≤◌, ◌<◌, ◌+◌, ◌*◌, ◌++◌, ℕ, true, false, [], ◌∷◌, IfOk, IfErr};
+ghost use Rattle.std.specs.Prelude.{length, List, map, vec_len, vec_capacity, slice_index};
 ghost use Rattle.std.specs.Slots.{slots_items, slots_len, IsFull};
 ghost use mathlib.Core.Option.{some};
 ghost use Rattle.atomic_table.specs.Table.{rest};
 ghost use Rattle.ipcz_base.specs.Indexed.{place_at};
+ghost use Rattle.ipcz_base.specs.declared.message.Message.{Message as MessageData};
 ghost use Rattle.ipcz_world.specs.declared.mail.Mail.{Mail as MailValue};
 ghost use Rattle.ipcz_world.specs.declared.mail.Mail.TheVariants as mails;
 ghost use Rattle.ipcz_rule.specs.Rule.{has_number};
@@ -13,20 +14,20 @@ ghost use Rattle.ipcz_rule.specs.Steps.{unprobe_part};
 ghost use Rattle.ipcz_rule.specs.Kinds.{together};
 ghost use Rattle.ipcz_rule.specs.End.{AreAll, IsShown, rested, states_of};
 ghost use Rattle.ipcz_cell.specs.CellStates.{part_in, change_part};
-ghost use Rattle.ipcz_cell.specs.Cells.{AreBelow, IsSoundCell, hand_slots, probed_slots};
+ghost use Rattle.ipcz_cell.specs.Cells.{AreBelow, IsSoundCell, batch_slots, probed_slots};
 ghost use Rattle.ipcz_cell.specs.Outcomes.{IsPicked};
 ghost use Rattle.ipcz_cell.specs.TableNames.{IsLaidOut};
-ghost use Rattle.ipcz_cell.specs.Ending.{unprobed, given_back, is_in_order, parts_of, Reads, GivesNoWorld, box_of, hand_left};
+ghost use Rattle.ipcz_cell.specs.Ending.{unprobed, given_back, HasSlotOf, is_in_order, parts_of, Reads, GivesNoWorld, box_of, hand_left};
 
 use crate::cell::NodeCell;
 use crate::fabric::{Fabric, FabricName};
 use crate::mail::{place_of, slot_of};
+use crate::node_list::NodeList;
 use crate::plays::{Outcome, Together, load_step, store_step};
-use crate::probed::Probed;
 use crate::seat::TableSeat;
 use atomic_table::{Closed, Table};
 use ipcz_base::{Message, Refusal};
-use ipcz_node::NodeState;
+use ipcz_node::{Batch, NodeState};
 use ipcz_rule::{FabricLaw, Size, View};
 use ipcz_slots::Own;
 use ipcz_world::{Mail, World};
@@ -41,7 +42,7 @@ fn unprobe<F: FabricName, X: Outcome>(seat: &mut TableSeat, fabric: &Fabric<F>, 
     requires whole { seat.old.me.0.view.parts ≡ part_in seat.old.me.0.view ∷ [] }
     requires node { ((part_in seat.old.me.0.view).node ≡ node) × (node < F.table.count) }
     requires to { (to < F.table.count) × (has_number (part_in seat.old.me.0.view).probed to ≡ true) }
-    requires slot { seat.old.me.1 ≡ (node * F.table.count + to, None) ∷ rest seat.old.me.1 }
+    requires slot { seat.old.me.1 ≡ (node * F.table.count + to, []) ∷ rest seat.old.me.1 }
     ensures table { seat.new.table_id ≡ F.table.id }
     ensures done { (mine_of seat.new.me) ≡ (change_part (unprobe_part to) seat.old.me.0.view, rest seat.old.me.1) }
 {
@@ -55,7 +56,7 @@ fn unprobe_one<F: FabricName>(seat: &mut TableSeat, fabric: &Fabric<F>, node: u8
     requires whole { seat.old.me.0.view.parts ≡ part_in seat.old.me.0.view ∷ [] }
     requires node { ((part_in seat.old.me.0.view).node ≡ node) × (node < F.table.count) }
     requires to { (to < F.table.count) × (has_number (part_in seat.old.me.0.view).probed to ≡ true) }
-    requires slot { seat.old.me.1 ≡ (node * F.table.count + to, None) ∷ rest seat.old.me.1 }
+    requires slot { seat.old.me.1 ≡ (node * F.table.count + to, []) ∷ rest seat.old.me.1 }
     ensures table { seat.new.table_id ≡ F.table.id }
     ensures done { (mine_of seat.new.me) ≡ (change_part (unprobe_part to) seat.old.me.0.view, rest seat.old.me.1) }
 {
@@ -67,18 +68,19 @@ fn unprobe_all<F: FabricName>(
     seat: &mut TableSeat,
     fabric: &Fabric<F>,
     node: u8,
-    mut probed: Probed,
+    mut probed: NodeList,
+    held: &NodeList,
 )
     requires own { seat.old.table_id ≡ F.table.id }
     requires whole { seat.old.me.0.view.parts ≡ part_in seat.old.me.0.view ∷ [] }
     requires node { ((part_in seat.old.me.0.view).node ≡ node) × (node < F.table.count) }
     requires probed { ((part_in seat.old.me.0.view).probed ≡ probed) × AreBelow F.table.count probed }
-    requires slots { seat.old.me.1 ≡ probed_slots F.table.count node probed ++ hand_slots F.table.count node
-        (part_in seat.old.me.0.view).state.hand }
+    requires slots { seat.old.me.1 ≡ probed_slots F.table.count node probed ++ batch_slots F.table.count (part_in seat.old.me.0.view) held.now }
     ensures table { seat.new.table_id ≡ F.table.id }
     ensures done { seat.new.me.0.view.parts ≡ rested (part_in seat.old.me.0.view) ∷ [] }
-    ensures slots { seat.new.me.1 ≡ hand_slots F.table.count node (part_in seat.old.me.0.view).state.hand }
+    ensures slots { seat.new.me.1 ≡ batch_slots F.table.count (part_in seat.old.me.0.view) held.now }
 {
+    let _held = held;
     let count = probed.len();
     for _done in 0..count {
         let Some(to) = probed.take_first() else {
@@ -88,7 +90,7 @@ fn unprobe_all<F: FabricName>(
     }
 }
 
-// Gives the slot of the message in hand back. X is what the step tells.
+// Gives the first slot back, which is that of a sender's batch. X is what the step tells.
 fn give_back<F: FabricName, X: Outcome>(
     seat: &mut TableSeat,
     fabric: &Fabric<F>,
@@ -99,13 +101,50 @@ fn give_back<F: FabricName, X: Outcome>(
     requires own { seat.old.table_id ≡ F.table.id }
     requires whole { seat.old.me.0.view.parts ≡ part_in seat.old.me.0.view ∷ [] }
     requires node { ((part_in seat.old.me.0.view).node ≡ node) × (node < F.table.count) }
-    requires from { (from < F.table.count) × ((part_in seat.old.me.0.view).state.hand ≡ Some from) }
-    requires slot { seat.old.me.1 ≡ (from * F.table.count + node, None) ∷ [] }
+    requires from { (from < F.table.count) × HasSlotOf (part_in seat.old.me.0.view) from }
+    requires slot { (batch : List MessageData) × (seat.old.me.1 ≡ (from * F.table.count + node, batch) ∷ rest seat.old.me.1) }
     ensures table { seat.new.table_id ≡ F.table.id }
-    ensures done { (seat.new.me.0.view.parts ≡ seat.old.me.0.view.parts) × (seat.new.me.1 ≡ []) }
+    ensures done { (seat.new.me.0.view.parts ≡ seat.old.me.0.view.parts) × (seat.new.me.1 ≡ rest seat.old.me.1) }
 {
     let place = place_of(fabric, slot_of(fabric, from, node));
     load_step::<F, X>(seat, fabric, place);
+}
+
+// Gives the first slot back, which is that of a sender's batch.
+fn give_back_one<F: FabricName>(seat: &mut TableSeat, fabric: &Fabric<F>, node: u8, from: u8)
+    requires own { seat.old.table_id ≡ F.table.id }
+    requires whole { seat.old.me.0.view.parts ≡ part_in seat.old.me.0.view ∷ [] }
+    requires node { ((part_in seat.old.me.0.view).node ≡ node) × (node < F.table.count) }
+    requires from { (from < F.table.count) × HasSlotOf (part_in seat.old.me.0.view) from }
+    requires slot { (batch : List MessageData) × (seat.old.me.1 ≡ (from * F.table.count + node, batch) ∷ rest seat.old.me.1) }
+    ensures table { seat.new.table_id ≡ F.table.id }
+    ensures done { (seat.new.me.0.view.parts ≡ seat.old.me.0.view.parts) × (seat.new.me.1 ≡ rest seat.old.me.1) }
+{
+    give_back::<F, Brand>(seat, fabric, node, from);
+}
+
+// Gives all slots of batches back.
+fn give_back_all<F: FabricName>(
+    seat: &mut TableSeat,
+    fabric: &Fabric<F>,
+    node: u8,
+    mut held: NodeList,
+)
+    requires own { seat.old.table_id ≡ F.table.id }
+    requires whole { seat.old.me.0.view.parts ≡ part_in seat.old.me.0.view ∷ [] }
+    requires node { ((part_in seat.old.me.0.view).node ≡ node) × (node < F.table.count) }
+    requires held { AreBelow F.table.count held × ((sender : ℕ) → has_number held sender ≡ true → HasSlotOf (part_in seat.old.me.0.view) sender) }
+    requires slots { seat.old.me.1 ≡ batch_slots F.table.count (part_in seat.old.me.0.view) held }
+    ensures table { seat.new.table_id ≡ F.table.id }
+    ensures done { (seat.new.me.0.view.parts ≡ seat.old.me.0.view.parts) × (seat.new.me.1 ≡ []) }
+{
+    let count = held.len();
+    for _done in 0..count {
+        let Some(from) = held.take_first() else {
+            unreachable!()
+        };
+        give_back_one(seat, fabric, node, from);
+    }
 }
 
 // What is left of a cell that has given its slots back.
@@ -136,14 +175,13 @@ impl<F: FabricName> NodeCell<F> {
             state,
             message,
             probed,
+            held,
             mut seat,
             of: _,
         } = self;
         let node = state.number();
-        unprobe_all(&mut seat, fabric, node, probed);
-        if let Some(from) = state.hand() {
-            give_back::<F, Brand>(&mut seat, fabric, node, from);
-        }
+        unprobe_all(&mut seat, fabric, node, probed, &held);
+        give_back_all(&mut seat, fabric, node, held);
         Rest {
             state,
             message,
@@ -163,7 +201,7 @@ fn join<F: FabricName>(seat: &mut TableSeat, fabric: &Fabric<F>, other: TableSea
 }
 
 // The link words, and their claim count.
-fn read_words(closed: &Closed<Option<Message>, Global>, words: u64, mut bits: Vec<u64>) -> Vec<u64>
+fn read_words(closed: &Closed<Batch, Global>, words: u64, mut bits: Vec<u64>) -> Vec<u64>
     requires full { IsFull closed.now.words }
     requires inside { words < slots_len closed.now.words }
     requires room { words ≤ vec_capacity bits }
@@ -178,12 +216,12 @@ fn read_words(closed: &Closed<Option<Message>, Global>, words: u64, mut bits: Ve
 }
 
 // A mailbox, from its word, its slot and the hand of its receiver.
-fn read_box(word: u64, slot: Option<Message>, hand: &mut Option<Message>) -> Mail
+fn read_box(word: u64, mut slot: Batch, hand: &mut Option<Message>) -> Mail
     ensures mail { result ≡ box_of word slot hand.old }
     ensures hand { hand.new ≡ hand_left word hand.old }
 {
     match word {
-        1 => match slot {
+        1 => match slot.take_first() {
             Some(message) => Mail::Full(message),
             None => Mail::Empty,
         },
@@ -197,7 +235,7 @@ fn read_box(word: u64, slot: Option<Message>, hand: &mut Option<Message>) -> Mai
 
 // The mailboxes. Then nothing is left of the table.
 fn read_boxes(
-    mut closed: Closed<Option<Message>, Global>,
+    mut closed: Closed<Batch, Global>,
     first: usize,
     nodes: u8,
     mut hands: Vec<Option<Message>>,
@@ -328,7 +366,7 @@ fn join_all<F: FabricName>(
 
 // Ends the table: the seat has the parts of all nodes.
 fn close(
-    table: Table<Option<Message>, Own<View>, Size, FabricLaw, Global>,
+    table: Table<Batch, Own<View>, Size, FabricLaw, Global>,
     seat: TableSeat,
     states: Vec<NodeState>,
     hands: Vec<Option<Message>>,

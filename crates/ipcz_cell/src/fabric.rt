@@ -3,7 +3,7 @@ ghost use Rattle.std.specs.Prelude.{◌≡◌};
 
 use crate::bells::Bells;
 use atomic_table::Table;
-use ipcz_base::Message;
+use ipcz_node::Batch;
 use ipcz_rule::{FabricLaw, Size, View};
 use ipcz_slots::Own;
 use std::alloc::Global;
@@ -25,7 +25,7 @@ impl FabricName for Brand {
 /// The table that F names.
 #[derive(Drop)]
 pub struct Fabric<F: FabricName> {
-    pub(crate) table: Table<Option<Message>, Own<View>, Size, FabricLaw, Global>,
+    pub(crate) table: Table<Batch, Own<View>, Size, FabricLaw, Global>,
     pub(crate) nodes: u8,
     pub(crate) words: u64,
     pub(crate) slots: u32,

@@ -1,10 +1,11 @@
 //! The inboxes of the nodes. An inbox is a word with a bit for each sender. A sender sets its bit before it posts, while it has the mailbox; the
-//! receiver clears it while it has the message in hand. So where the bit isn't set the mailbox isn't full, and one load tells it of all
+//! receiver clears it while it has the last message of a batch in hand. So where the bit isn't set the mailbox isn't full, and one load tells it of all
 //! senders.
-ghost use Rattle.std.specs.Prelude.{◌≡◌, ◌≢◌, ◌≤◌, ◌<◌, ◌+◌, ◌*◌, ◌^◌, ℕ, ◌∷◌, [], true};
+ghost use Rattle.std.specs.Prelude.{◌≡◌, ◌≢◌, ◌≤◌, ◌<◌, ◌+◌, ◌*◌, ◌^◌, ℕ, ◌∷◌, [], true, false};
 ghost use Rattle.std.specs.Int.{bit_at};
 ghost use Rattle.ipcz_rule.specs.Rule.{announcing};
 ghost use Rattle.ipcz_cell.specs.CellStates.{part_in};
+ghost use Rattle.ipcz_cell.specs.Cells.{has_batch};
 ghost use Rattle.ipcz_cell.specs.Mails.{inbox_word};
 ghost use Rattle.ipcz_cell.specs.Outcomes.{IsPicked, peeked, announced, cleared};
 ghost use Rattle.ipcz_cell.specs.Seats.{mine_of, SlotsStay};
@@ -105,7 +106,7 @@ fn set_here<F: FabricName, X: Outcome>(node: u8, seat: &mut TableSeat, fabric: &
     set_step::<F, X>(seat, fabric, inbox_place::<F>(to), bit_of(node));
 }
 
-// Clears the bit of a sender in the inbox of a node, which has that sender's message in hand. X is what it tells.
+// Clears the bit of a sender in the inbox of a node, which has the last message of that sender's batch in hand. X is what it tells.
 fn clear_here<F: FabricName, X: Outcome>(
     node: u8,
     seat: &mut TableSeat,
@@ -118,6 +119,7 @@ fn clear_here<F: FabricName, X: Outcome>(
     requires node { ((part_in seat.old.me.0.view).node ≡ node) × (node < F.table.count) }
     requires from { from < 64 }
     requires hand { (part_in seat.old.me.0.view).state.hand ≡ Some from }
+    requires spent { has_batch (part_in seat.old.me.0.view) from ≡ false }
     ensures table { seat.new.table_id ≡ seat.old.table_id }
     ensures part { seat.new.me.0.view.parts ≡ seat.old.me.0.view.parts }
     ensures seen { seat.new.me.0.view.seen ≡ seat.old.me.0.view.seen }
@@ -144,13 +146,14 @@ pub(crate) fn announce<F: FabricName>(node: u8, seat: &mut TableSeat, fabric: &F
     }
 }
 
-/// Clears the bit of a sender in the inbox of a node, which has that sender's message in hand, if more than a few bits are set there.
+/// Clears the bit of a sender in the inbox of a node, which has the last message of that sender's batch in hand, if more than a few bits are set there.
 pub(crate) fn clear<F: FabricName>(node: u8, seat: &mut TableSeat, fabric: &Fabric<F>, from: u8)
     requires own { seat.old.table_id ≡ F.table.id }
     requires whole { seat.old.me.0.view.parts ≡ part_in seat.old.me.0.view ∷ [] }
     requires node { ((part_in seat.old.me.0.view).node ≡ node) × (node < F.table.count) }
     requires from { from < 64 }
     requires hand { (part_in seat.old.me.0.view).state.hand ≡ Some from }
+    requires spent { has_batch (part_in seat.old.me.0.view) from ≡ false }
     ensures table { seat.new.table_id ≡ seat.old.table_id }
     ensures part { seat.new.me.0.view.parts ≡ seat.old.me.0.view.parts }
     ensures seen { seat.new.me.0.view.seen ≡ seat.old.me.0.view.seen }

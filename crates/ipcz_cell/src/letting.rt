@@ -18,8 +18,8 @@ use crate::plays::{By, Outcome};
 use crate::seat::TableSeat;
 use crate::slots::{let_go_word, number_slot, return_step};
 use atomic_table::Play;
-use ipcz_base::{Message, Side};
-use ipcz_node::{Act, NodeState};
+use ipcz_base::Side;
+use ipcz_node::{Act, Batch, NodeState};
 use ipcz_router::Router;
 use ipcz_router::act::{Answer, RouterAct};
 use ipcz_rule::View;
@@ -94,7 +94,7 @@ struct Leaves<F, X, S> {
     slot: PhantomData<S>,
 }
 
-impl<F: FabricName, X: Outcome, S: SlotName> Play<Option<Message>, Own<View>> for Leaves<F, X, S> {
+impl<F: FabricName, X: Outcome, S: SlotName> Play<Batch, Own<View>> for Leaves<F, X, S> {
     ghost use Rattle.std.specs.Prelude.{◌≡◌, ◌∷◌};
     ghost use Rattle.ipcz_cell.specs.Cells.{AreSound};
     ghost use Rattle.ipcz_cell.specs.Seats.{mine_of};

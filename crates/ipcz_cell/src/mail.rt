@@ -1,30 +1,31 @@
 //! The mailboxes of a cell, each in a word of the table with its slot.
 ghost use Rattle.ipcz_cell.specs.Seats.{mine_of, SlotsStay};
-ghost use Rattle.std.specs.Prelude.{◌≡◌, ◌<◌, ◌≤◌, ◌+◌, ◌*◌, true, false, [], ◌∷◌, Some, None, OnOk, OnErr, IfOk, IfErr, if◌then◌else◌, cond};
-ghost use Rattle.std.specs.Prelude.{ℕ, is_some, IfSome};
+ghost use Rattle.std.specs.Prelude.{◌≡◌, ◌<◌, ◌≤◌, ◌+◌, ◌*◌, true, false, [], ◌∷◌, Some, None, OnOk, OnErr, IfOk, IfErr, if◌then◌else◌};
+ghost use Rattle.std.specs.Prelude.{ℕ, List, ◌||◌, length, nat_eq, not, IfSome};
 ghost use Rattle.atomic_table.specs.Table.{rest};
-ghost use Rattle.ipcz_node.specs.Acts.{has_mail_for, post_of};
+ghost use Rattle.ipcz_node.specs.Acts.{first_of, has_mail_for, rest_of};
 ghost use Rattle.ipcz_node.specs.Events.{hand_event};
 ghost use Rattle.ipcz_node.specs.Hands.{is_unfit, message_lacks_serials};
 ghost use Rattle.ipcz_rule.specs.Rule.{has_number};
-ghost use Rattle.ipcz_rule.specs.Steps.{post_part, old_word};
+ghost use Rattle.ipcz_rule.specs.Steps.{old_word};
 ghost use Rattle.ipcz_base.specs.declared.message.Message.{Message as MessageData};
-ghost use Rattle.ipcz_node.specs.Node.{Node as NodeData};
+ghost use Rattle.ipcz_node.specs.Node.{Node as NodeData, with_outbox};
 ghost use Rattle.ipcz_cell.specs.CellStates.{part_in, change_part};
 ghost use Rattle.ipcz_cell.specs.Parts.{handed_part};
-ghost use Rattle.ipcz_cell.specs.Cells.{AreSound};
+ghost use Rattle.ipcz_cell.specs.Cells.{AreSound, has_batch, held_slots, is_hand_of};
 ghost use Rattle.ipcz_cell.specs.TableNames.{IsLaidOut};
-ghost use Rattle.ipcz_cell.specs.Mails.{slot_of, mail_word, old_named, HasSeen, IsKnown, Probes, Looks, LoadsSource, Handles, IsTold};
-ghost use Rattle.ipcz_cell.specs.Outcomes.{IsPicked, probed, posted, looked, sourced, handed, turned_by};
+ghost use Rattle.ipcz_cell.specs.Mails.{slot_of, mail_word, old_named, HasSeen, IsKnown, Probes, Looks, LoadsSource, Handles, IsTold, looked_on_part, posted_batch, posted_part, posted_rest};
+ghost use Rattle.ipcz_cell.specs.Outcomes.{IsPicked, probed, posted, looked, sourced, handed, touched, turned_by};
 
 use crate::bells::{Ringer, Waking};
-use crate::cell::NodeCell;
+use crate::cell::{NodeCell, touch};
 use crate::fabric::{Fabric, FabricName};
 use crate::inbox::{announce, clear};
+use crate::node_list::NodeList;
 use crate::plays::{Outcome, exchange_step, load_behind, load_link, store_step};
 use crate::seat::TableSeat;
 use ipcz_base::{Message, Refusal};
-use ipcz_node::{Act, Handed, Happened, Told};
+use ipcz_node::{Act, Handed, Happened, NodeState, Told};
 use ipcz_word::source;
 use std::marker::Brand;
 use std::mem;
@@ -74,13 +75,6 @@ fn turn_over(seat: &mut TableSeat, n: usize)
         seat.turn();
         turn_over(seat, n - 1);
     }
-}
-
-// How many slots the hand has.
-fn hand_count(message: &Option<Message>) -> usize
-    ensures { result ≡ cond (is_some message.now) 1 0 }
-{
-    if message.is_some() { 1 } else { 0 }
 }
 
 // Tells T what happened, or why nothing did.
@@ -133,19 +127,18 @@ fn probe_here<F: FabricName, X: Outcome>(
     exchange_step::<F, X>(seat, fabric, place, 0, 3)
 }
 
-// A store 1 at a mailbox that was probed, whose slot has the message, behind the announcement of it. X is what the store tells.
+// A store 1 at a mailbox that was probed, whose slot has what is posted, behind the announcement of it. X is what the store tells.
 fn post_here<F: FabricName, X: Outcome>(node: u8, seat: &mut TableSeat, fabric: &Fabric<F>, to: u8)
-    requires picked { IsPicked X.tells (posted to) }
+    requires picked { IsPicked X.tells (posted F.table to) }
     requires own { seat.old.table_id ≡ F.table.id }
     requires whole { seat.old.me.0.view.parts ≡ part_in seat.old.me.0.view ∷ [] }
     requires node { ((part_in seat.old.me.0.view).node ≡ node) × (node < F.table.count) }
     requires to { to < F.table.count }
     requires probed { has_number (part_in seat.old.me.0.view).probed to ≡ true }
     requires mail { has_mail_for (part_in seat.old.me.0.view).state to ≡ true }
-    requires slot { (x : MessageData) × (post_of (part_in seat.old.me.0.view).state (Act.Post to) ≡ Some x) ×
-        (seat.old.me.1 ≡ (slot_of F.table node to, Some x) ∷ rest seat.old.me.1) }
+    requires slot { seat.old.me.1 ≡ (slot_of F.table node to, posted_batch F.table to (part_in seat.old.me.0.view).state) ∷ rest seat.old.me.1 }
     ensures table { seat.new.table_id ≡ seat.old.table_id }
-    ensures done { (mine_of seat.new.me) ≡ (change_part (post_part to) seat.old.me.0.view, rest seat.old.me.1) }
+    ensures done { (mine_of seat.new.me) ≡ (change_part (posted_part F.table to) seat.old.me.0.view, rest seat.old.me.1) }
     ensures sound { AreSound F.table.count F.table.size seat.new.me.0.view }
     ensures slots { SlotsStay seat.old.me seat.new.me }
 {
@@ -162,20 +155,160 @@ fn look_here<F: FabricName, X: Outcome>(
     fabric: &Fabric<F>,
     from: u8,
 ) -> u64
-    requires picked { IsPicked X.tells (looked (mail_word F.table from node) (slot_of F.table from node) from) }
+    requires picked { IsPicked X.tells (looked (not F.table.reuses) (mail_word F.table from node) (slot_of F.table from node) from) }
     requires own { seat.old.table_id ≡ F.table.id }
     requires whole { seat.old.me.0.view.parts ≡ part_in seat.old.me.0.view ∷ [] }
     requires node { ((part_in seat.old.me.0.view).node ≡ node) × (node < F.table.count) }
     requires from { from < F.table.count }
     requires idle { (part_in seat.old.me.0.view).state.hand ≡ None }
     ensures table { seat.new.table_id ≡ seat.old.table_id }
-    ensures done { looked (mail_word F.table from node) (slot_of F.table from node) from (mine_of seat.old.me) result (mine_of seat.new.me) }
+    ensures done { looked (not F.table.reuses) (mail_word F.table from node) (slot_of F.table from node) from (mine_of seat.old.me) result (mine_of seat.new.me) }
     ensures sound { AreSound F.table.count F.table.size seat.new.me.0.view }
     ensures slots { SlotsStay seat.old.me seat.new.me }
 {
     let slot = slot_of(fabric, from, node);
     let place = place_of(fabric, slot);
     exchange_step::<F, X>(seat, fabric, place, 1, 2)
+}
+
+// The look at the next message of a batch, of which the seat has the slot: a step on the node's inbox. X is what it tells.
+fn look_on_here<F: FabricName, X: Outcome>(
+    node: u8,
+    seat: &mut TableSeat,
+    fabric: &Fabric<F>,
+    from: u8,
+)
+    requires picked { IsPicked X.tells (touched (looked_on_part from)) }
+    requires own { seat.old.table_id ≡ F.table.id }
+    requires whole { seat.old.me.0.view.parts ≡ part_in seat.old.me.0.view ∷ [] }
+    requires node { node < F.table.count }
+    requires from { from < F.table.count }
+    requires idle { (part_in seat.old.me.0.view).state.hand ≡ None }
+    requires left { has_batch (part_in seat.old.me.0.view) from ≡ true }
+    ensures table { seat.new.table_id ≡ seat.old.table_id }
+    ensures done { (mine_of seat.new.me) ≡ (change_part (looked_on_part from) seat.old.me.0.view, seat.old.me.1) }
+    ensures sound { AreSound F.table.count F.table.size seat.new.me.0.view }
+    ensures slots { SlotsStay seat.old.me seat.new.me }
+{
+    let _from = from;
+    touch::<F, X>(seat, fabric, node);
+}
+
+// The hand of a message behind which others of its batch stand: a step on the node's inbox. X is what it tells.
+fn hand_on_here<F: FabricName, X: Outcome>(
+    node: u8,
+    seat: &mut TableSeat,
+    fabric: &Fabric<F>,
+    from: u8,
+    source: Option<u8>,
+)
+    requires picked { IsPicked X.tells (touched (handed_part from source)) }
+    requires own { seat.old.table_id ≡ F.table.id }
+    requires whole { seat.old.me.0.view.parts ≡ part_in seat.old.me.0.view ∷ [] }
+    requires node { node < F.table.count }
+    requires hand { (part_in seat.old.me.0.view).state.hand ≡ Some from }
+    requires message { (x : MessageData) × ((part_in seat.old.me.0.view).message ≡ Some x) ×
+        (message_lacks_serials (part_in seat.old.me.0.view).state from x source ≡ false) × IsKnown F.table.size from x source }
+    requires left { has_batch (part_in seat.old.me.0.view) from ≡ true }
+    ensures table { seat.new.table_id ≡ seat.old.table_id }
+    ensures done { (mine_of seat.new.me) ≡ (change_part (handed_part from source) seat.old.me.0.view, seat.old.me.1) }
+    ensures sound { AreSound F.table.count F.table.size seat.new.me.0.view }
+    ensures slots { SlotsStay seat.old.me seat.new.me }
+{
+    let (_from, _source) = (from, source);
+    touch::<F, X>(seat, fabric, node);
+}
+
+// Puts what is to be posted to a node into the slot that the seat took last: all messages that wait for it, or the first alone where link words don't
+// come back.
+fn fill<F: FabricName>(
+    state: &mut NodeState,
+    seat: &mut TableSeat,
+    fabric: &Fabric<F>,
+    slot: usize,
+    to: u8,
+)
+    requires own { seat.old.table_id ≡ F.table.id }
+    requires slot { seat.old.me.1 ≡ (slot, []) ∷ rest seat.old.me.1 }
+    requires mail { has_mail_for state.old.node to ≡ true }
+    ensures node { state.new.node ≡ with_outbox state.old.node to (posted_rest F.table to state.old.node) }
+    ensures table { seat.new.table_id ≡ seat.old.table_id }
+    ensures filled { (mine_of seat.new.me) ≡ (seat.old.me.0.view, (slot, posted_batch F.table to state.old.node) ∷ rest seat.old.me.1) }
+    ensures slots { SlotsStay seat.old.me seat.new.me }
+{
+    let batch = seat.slot_mut(&fabric.table.shared, slot);
+    if fabric.reuses {
+        state.post_all(to, batch);
+    } else {
+        batch.put_alone(state.post(to));
+    }
+}
+
+// Takes the first message out of the slot that the seat took last.
+fn take_out<F: FabricName>(seat: &mut TableSeat, fabric: &Fabric<F>, slot: usize) -> Option<Message>
+    requires own { seat.old.table_id ≡ F.table.id }
+    requires slot { (batch : List MessageData) × (seat.old.me.1 ≡ (slot, batch) ∷ rest seat.old.me.1) }
+    ensures table { seat.new.table_id ≡ seat.old.table_id }
+    ensures taken { (batch : List MessageData) → seat.old.me.1 ≡ (slot, batch) ∷ rest seat.old.me.1 →
+        (result ≡ first_of batch) × ((mine_of seat.new.me) ≡ (seat.old.me.0.view, (slot, rest_of batch) ∷ rest seat.old.me.1)) }
+    ensures view { seat.new.me.0.view ≡ seat.old.me.0.view }
+    ensures slots { SlotsStay seat.old.me seat.new.me }
+{
+    seat.slot_mut(&fabric.table.shared, slot).take_first()
+}
+
+// Whether no message is left in the slot that the seat took last.
+fn is_spent<F: FabricName>(seat: &mut TableSeat, fabric: &Fabric<F>, slot: usize) -> bool
+    requires own { seat.old.table_id ≡ F.table.id }
+    requires slot { (batch : List MessageData) × (seat.old.me.1 ≡ (slot, batch) ∷ rest seat.old.me.1) }
+    ensures table { seat.new.table_id ≡ seat.old.table_id }
+    ensures spent { (batch : List MessageData) → seat.old.me.1 ≡ (slot, batch) ∷ rest seat.old.me.1 → result ≡ nat_eq (length batch) 0 }
+    ensures same { (mine_of seat.new.me) ≡ (mine_of seat.old.me) }
+    ensures slots { SlotsStay seat.old.me seat.new.me }
+{
+    seat.slot_mut(&fabric.table.shared, slot).is_empty()
+}
+
+// The step behind a message in hand that was handled: its slot goes home if nothing is left of its batch, and else stays the seat's. So many
+// mailboxes are probed.
+fn leave_slot<F: FabricName>(
+    node: u8,
+    probed: usize,
+    held: &mut NodeList,
+    seat: &mut TableSeat,
+    fabric: &Fabric<F>,
+    from: u8,
+    source: Option<u8>,
+)
+    requires own { seat.old.table_id ≡ F.table.id }
+    requires whole { seat.old.me.0.view.parts ≡ part_in seat.old.me.0.view ∷ [] }
+    requires node { ((part_in seat.old.me.0.view).node ≡ node) × (node < F.table.count) }
+    requires from { from < F.table.count }
+    requires hand { (part_in seat.old.me.0.view).state.hand ≡ Some from }
+    requires message { (x : MessageData) × ((part_in seat.old.me.0.view).message ≡ Some x) ×
+        (message_lacks_serials (part_in seat.old.me.0.view).state from x source ≡ false) × IsKnown F.table.size from x source }
+    requires probed { (probed ≡ length (part_in seat.old.me.0.view).probed) × (probed ≤ 64) }
+    requires slots { seat.old.me.1 ≡ held_slots F.table.count (part_in seat.old.me.0.view) held.old }
+    requires held { (sender : ℕ) → has_number held.old sender ≡ (is_hand_of (Some from) sender || has_batch (part_in seat.old.me.0.view) sender) }
+    ensures table { seat.new.table_id ≡ seat.old.table_id }
+    ensures done { seat.new.me.0.view ≡ change_part (handed_part from source) seat.old.me.0.view }
+    ensures sound { AreSound F.table.count F.table.size seat.new.me.0.view }
+    ensures left { seat.new.me.1 ≡ held_slots F.table.count (part_in seat.new.me.0.view) held.new }
+    ensures held { (sender : ℕ) → has_number held.new sender ≡ has_batch (part_in seat.old.me.0.view) sender }
+    ensures slots { SlotsStay seat.old.me seat.new.me }
+{
+    let slot = slot_of(fabric, from, node);
+    let many = held.len();
+    let place = held.place_of(from);
+    turn_over(seat, probed + place);
+    if is_spent(seat, fabric, slot) {
+        held.take(from);
+        hand_here::<F, Brand>(node, seat, fabric, from, source);
+        turn_over(seat, many - 1 - place);
+    } else {
+        hand_on_here::<F, Brand>(node, seat, fabric, from, source);
+        turn_over(seat, many - place);
+    }
 }
 
 // The word of the old link that the message in hand names, if it is an AcceptBypass.
@@ -217,7 +350,7 @@ fn source_here<F: FabricName, X: Outcome>(
     load_link::<F, X>(seat, fabric, old)
 }
 
-// A store 0 at the mailbox whose message is in hand, for which the source is known, once its sender's bit is cleared. X is what the store tells.
+// A store 0 at the mailbox of which the last message is in hand, for which the source is known, once its sender's bit is cleared. X is what the store tells.
 fn hand_here<F: FabricName, X: Outcome>(
     node: u8,
     seat: &mut TableSeat,
@@ -233,7 +366,8 @@ fn hand_here<F: FabricName, X: Outcome>(
     requires hand { (part_in seat.old.me.0.view).state.hand ≡ Some from }
     requires message { (x : MessageData) × ((part_in seat.old.me.0.view).message ≡ Some x) ×
         (message_lacks_serials (part_in seat.old.me.0.view).state from x source ≡ false) × IsKnown F.table.size from x source }
-    requires slot { seat.old.me.1 ≡ (slot_of F.table from node, None) ∷ rest seat.old.me.1 }
+    requires spent { has_batch (part_in seat.old.me.0.view) from ≡ false }
+    requires slot { seat.old.me.1 ≡ (slot_of F.table from node, []) ∷ rest seat.old.me.1 }
     ensures table { seat.new.table_id ≡ seat.old.table_id }
     ensures done { (mine_of seat.new.me) ≡ (change_part (handed_part from source) seat.old.me.0.view, rest seat.old.me.1) }
     ensures sound { AreSound F.table.count F.table.size seat.new.me.0.view }
@@ -286,8 +420,8 @@ impl<F: FabricName> NodeCell<F> {
         true
     }
 
-    /// Posts the first message for a node into its mailbox, which was taken by a probe. It takes no memory, and is never
-    /// refused.
+    /// Posts what waits for a node into its mailbox, which was taken by a probe: all of it in a table whose link words come back, and else the
+    /// first message. It takes no memory, and is never refused.
     ///
     /// So `cell.mail_post(&fabric, 1)` stands behind a `mail_probe` of node 1 that answered true, if a message waits for that node.
     #[inline(always)]
@@ -295,7 +429,7 @@ impl<F: FabricName> NodeCell<F> {
         requires to { to < F.table.count }
         requires probed { has_number self.old.part.probed to ≡ true }
         requires mail { has_mail_for self.old.part.state to ≡ true }
-        ensures part { self.new.part ≡ post_part to self.old.part }
+        ensures part { self.new.part ≡ posted_part F.table to self.old.part }
         ensures seen { self.new.seen ≡ self.old.seen }
     {
         self.post_by::<Waking>(fabric, to)
@@ -306,25 +440,22 @@ impl<F: FabricName> NodeCell<F> {
         requires to { to < F.table.count }
         requires probed { has_number self.old.part.probed to ≡ true }
         requires mail { has_mail_for self.old.part.state to ≡ true }
-        ensures part { self.new.part ≡ post_part to self.old.part }
+        ensures part { self.new.part ≡ posted_part F.table to self.old.part }
         ensures seen { self.new.seen ≡ self.old.seen }
     {
         let node = self.state.number();
         let slot = slot_of(fabric, node, to);
         let place = self.probed.take(to);
         turn_over(&mut self.seat, place);
-        let message = self.state.post(to);
-        let table = &fabric.table;
-        table.shared.exchange(&mut self.seat, slot, Some(message));
+        fill(&mut self.state, &mut self.seat, fabric, slot, to);
         post_here::<F, Brand>(node, &mut self.seat, fabric, to);
         R::ring(&fabric.bells, to);
-        let held = hand_count(&self.message);
         let behind = self.probed.len() - place;
-        turn_over(&mut self.seat, behind + held);
+        turn_over(&mut self.seat, behind + self.held.len());
     }
 
-    /// Takes the message of a full mailbox into the hand. It answers false only if the mailbox was found at another value than 1. It
-    /// takes no memory.
+    /// Takes a message of another node into the hand: the next of those that came with an earlier one and are left, or the first of a full
+    /// mailbox. It answers false only if none is left and the mailbox was found at another value than 1. It takes no memory.
     ///
     /// It is never refused.
     ///
@@ -335,17 +466,49 @@ impl<F: FabricName> NodeCell<F> {
         requires idle { self.old.part.state.hand ≡ None }
         ensures { Looks (mail_word F.table from self.old.part.node) from self.old result self.new }
     {
+        if self.held.has(from) {
+            self.look_on(fabric, from);
+            return true;
+        }
         let node = self.state.number();
         let found = look_here::<F, Brand>(node, &mut self.seat, fabric, from);
         if found != 1 {
             return false;
         }
         let slot = slot_of(fabric, from, node);
-        let table = &fabric.table;
-        self.message = table.shared.exchange(&mut self.seat, slot, None);
+        self.message = take_out(&mut self.seat, fabric, slot);
         turn_over(&mut self.seat, 1);
+        self.held.push(from);
         self.state.look(from);
         true
+    }
+
+    // Takes the next message of a batch into the hand, of which the seat has the slot.
+    fn look_on(&mut self, fabric: &Fabric<F>, from: u8)
+        requires from { from < F.table.count }
+        requires idle { self.old.part.state.hand ≡ None }
+        requires left { has_batch self.old.part from ≡ true }
+        ensures part { self.new.part ≡ looked_on_part from self.old.part }
+        ensures seen { self.new.seen ≡ self.old.seen }
+    {
+        let node = self.state.number();
+        let slot = slot_of(fabric, from, node);
+        let many = self.held.len();
+        let place = self.held.place_of(from);
+        turn_over(&mut self.seat, self.probed.len() + place);
+        self.message = take_out(&mut self.seat, fabric, slot);
+        look_on_here::<F, Brand>(node, &mut self.seat, fabric, from);
+        turn_over(&mut self.seat, many - place);
+        self.state.look(from);
+    }
+
+    // Rings for a message that was handled: whoever has sent it may post again, if it was the last of its batch.
+    #[inline(always)]
+    fn ring_handled<R: Ringer>(&self, fabric: &Fabric<F>, from: u8) {
+        if !self.held.has(from) {
+            R::ring(&fabric.bells, from);
+        }
+        R::ring(&fabric.news, self.state.number());
     }
 
     // Loads the word of the old link that the message in hand names, if it is an AcceptBypass, and tells the source. Another message
@@ -392,8 +555,16 @@ impl<F: FabricName> NodeCell<F> {
         match self.state.deliver_at_once(from, message) {
             Ok(true) => {
                 self.message = None;
-                turn_over(&mut self.seat, self.probed.len());
-                hand_here::<F, Brand>(node, &mut self.seat, fabric, from, source);
+                let probed = self.probed.len();
+                leave_slot(
+                    node,
+                    probed,
+                    &mut self.held,
+                    &mut self.seat,
+                    fabric,
+                    from,
+                    source,
+                );
                 Ok(true)
             }
             Ok(false) => Ok(false),
@@ -425,8 +596,16 @@ impl<F: FabricName> NodeCell<F> {
         };
         match self.state.deliver(from, message, source) {
             Ok(event) => {
-                turn_over(&mut self.seat, self.probed.len());
-                hand_here::<F, Brand>(node, &mut self.seat, fabric, from, source);
+                let probed = self.probed.len();
+                leave_slot(
+                    node,
+                    probed,
+                    &mut self.held,
+                    &mut self.seat,
+                    fabric,
+                    from,
+                    source,
+                );
                 Ok(event)
             }
             Err((why, message)) => {
@@ -463,8 +642,7 @@ impl<F: FabricName> NodeCell<F> {
         if let Some(told) = item_told(&self.message)
             && self.handle_alone(fabric, from, None)?
         {
-            R::ring(&fabric.bells, from);
-            R::ring(&fabric.news, self.state.number());
+            self.ring_handled::<R>(fabric, from);
             return Ok(told);
         }
         tell(self.handle_by::<R>(fabric, from))
@@ -478,8 +656,7 @@ impl<F: FabricName> NodeCell<F> {
         let source = self.load_source(fabric, from);
         let handled = self.handle_any(fabric, from, source);
         if handled.is_ok() {
-            R::ring(&fabric.bells, from);
-            R::ring(&fabric.news, self.state.number());
+            self.ring_handled::<R>(fabric, from);
         }
         handled
     }

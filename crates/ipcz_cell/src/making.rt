@@ -11,12 +11,12 @@ ghost use Rattle.ipcz_cell.specs.TableNames.{TableName};
 use crate::bells::Bells;
 use crate::cell::NodeCell;
 use crate::fabric::{Fabric, FabricName};
+use crate::node_list::NodeList;
 use crate::plays::Deal;
-use crate::probed::Probed;
 use crate::seat::TableSeat;
 use atomic_table::Table;
-use ipcz_base::{Message, Refusal};
-use ipcz_node::{NodeState, first_pair_count};
+use ipcz_base::Refusal;
+use ipcz_node::{Batch, NodeState, first_pair_count};
 use ipcz_rule::{FabricLaw, Size, View};
 use ipcz_slots::Own;
 use ipcz_word::{EMPTY_WORD, OPEN_WORD};
@@ -30,7 +30,7 @@ pub(crate) const BOTH_SIDES: u64 = 3;
 /// A table that has no name yet. In a clause it is which table it is, and for how many nodes and link words.
 #[derive(Drop)]
 pub struct Blank {
-    table: Table<Option<Message>, Own<View>, Size, FabricLaw, Global>,
+    table: Table<Batch, Own<View>, Size, FabricLaw, Global>,
     seat: TableSeat,
     nodes: u8,
     words: u64,
@@ -74,7 +74,10 @@ pub fn start(alloc: Global, nodes: u8, words: u32) -> Result<Blank, Refusal>
         slots: words,
         reuses: false,
     };
-    let Ok((table, seat)) = Table::vacant(alloc, &numbers, boxes, &size) else {
+    let Ok(batches) = empty_batches(alloc, boxes) else {
+        return Err(Refusal::OutOfMemory);
+    };
+    let Ok((table, seat)) = Table::new(alloc, &numbers, batches, &size) else {
         return Err(Refusal::OutOfMemory);
     };
     Ok(Blank {
@@ -114,7 +117,10 @@ pub fn start_lasting(alloc: Global, nodes: u8, slots: u32, numbers: u64) -> Resu
         slots,
         reuses: true,
     };
-    let Ok((table, seat)) = Table::vacant(alloc, &words, boxes, &size) else {
+    let Ok(batches) = empty_batches(alloc, boxes) else {
+        return Err(Refusal::OutOfMemory);
+    };
+    let Ok((table, seat)) = Table::new(alloc, &words, batches, &size) else {
         return Err(Refusal::OutOfMemory);
     };
     Ok(Blank {
@@ -126,6 +132,17 @@ pub fn start_lasting(alloc: Global, nodes: u8, slots: u32, numbers: u64) -> Resu
         reuses: true,
         alloc,
     })
+}
+
+// So many batches without a message.
+fn empty_batches(alloc: Global, count: usize) -> Result<Vec<Batch>, AllocError>
+    ensures { IfOk result (λ v. v.items ≡ replicate count []) }
+{
+    let mut batches = Vec::with_capacity(alloc, count)?;
+    for _slot in 0..count {
+        batches.push_reserved(Batch::new(alloc));
+    }
+    Ok(batches)
 }
 
 // The words of a table at the start in which each number has its slot: nobody has let go of any.
@@ -185,7 +202,8 @@ fn opening_words(alloc: Global, nodes: u8, words: u32) -> Result<Vec<u64>, Alloc
 #[derive(Drop)]
 pub(crate) struct Body {
     pub(crate) state: NodeState,
-    pub(crate) probed: Probed,
+    pub(crate) probed: NodeList,
+    pub(crate) held: NodeList,
 }
 
 impl Model for Body {
@@ -198,7 +216,7 @@ impl Model for Body {
 
     ghost coded = { Prim.hlevel (codes, code, sets.code) };
 
-    ghost view = { λ b. record { node = b.state.node; probed = b.probed } };
+    ghost view = { λ b. record { node = b.state.node; probed = b.probed; held = b.held } };
 }
 
 // The bodies of the cells of so many nodes, by number.
@@ -210,10 +228,17 @@ fn make_bodies(alloc: Global, count: u8) -> Result<Vec<Body>, Refusal>
     let mut bodies = Vec::new(alloc);
     for number in 0..count {
         let state = NodeState::new(alloc, number, count)?;
-        let Ok(probed) = Probed::new(alloc) else {
+        let Ok(probed) = NodeList::new(alloc) else {
             return Err(Refusal::OutOfMemory);
         };
-        let Ok(()) = bodies.push(Body { state, probed }) else {
+        let Ok(held) = NodeList::new(alloc) else {
+            return Err(Refusal::OutOfMemory);
+        };
+        let Ok(()) = bodies.push(Body {
+            state,
+            probed,
+            held,
+        }) else {
             return Err(Refusal::OutOfMemory);
         };
     }
@@ -302,12 +327,17 @@ fn deal_all<F: FabricName>(
         let Some(body) = bodies.pop_front() else {
             unreachable!()
         };
-        let Body { state, probed } = body;
+        let Body {
+            state,
+            probed,
+            held,
+        } = body;
         let own = deal(&mut seat, fabric, node);
         cells.push_reserved(NodeCell {
             state,
             message: None,
             probed,
+            held,
             seat: own,
             of: PhantomData,
         });

@@ -9,7 +9,7 @@ ghost use Rattle.ipcz_cell.specs.Seats.{mine_of, Keeps, IsSlotted, MayClaim, Has
 use crate::fabric::{Fabric, FabricName};
 use crate::seat::TableSeat;
 use atomic_table::{Join, Play, Split};
-use ipcz_base::Message;
+use ipcz_node::Batch;
 use ipcz_rule::View;
 use ipcz_slots::{Own, slot_of};
 use std::marker::{Brand, PhantomData};
@@ -33,7 +33,7 @@ pub(crate) struct By<F, X> {
     by: PhantomData<X>,
 }
 
-impl<F: FabricName, X: Outcome> Play<Option<Message>, Own<View>> for By<F, X> {
+impl<F: FabricName, X: Outcome> Play<Batch, Own<View>> for By<F, X> {
     ghost use Rattle.std.specs.Prelude.{◌≡◌};
     ghost use Rattle.ipcz_cell.specs.Cells.{AreSound};
     ghost use Rattle.ipcz_cell.specs.Seats.{mine_of};
@@ -268,7 +268,7 @@ pub(crate) struct Counts<F, X> {
     by: PhantomData<X>,
 }
 
-impl<F: FabricName, X: Outcome> Play<Option<Message>, Own<View>> for Counts<F, X> {
+impl<F: FabricName, X: Outcome> Play<Batch, Own<View>> for Counts<F, X> {
     ghost use Rattle.std.specs.Prelude.{eqb, MatchBool};
     ghost use Rattle.ipcz_cell.specs.Cells.{AreSound};
     ghost use Rattle.ipcz_cell.specs.Seats.{mine_of, HasNoSlots, SlotsStay};
@@ -346,7 +346,7 @@ impl<F: FabricName> Join<Own<View>> for Twins<F> {
 /// A new seat has the view of a caller that has called nothing yet.
 pub(crate) struct Comes;
 
-impl Play<Option<Message>, Own<View>> for Comes {
+impl Play<Batch, Own<View>> for Comes {
     ghost use Rattle.std.specs.Prelude.{◌≡◌, ℕ};
     ghost use Rattle.ipcz_rule.specs.Histories.{new_caller};
     ghost use Rattle.ipcz_cell.specs.Callers.{caller_own};

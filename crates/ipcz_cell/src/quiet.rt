@@ -1,7 +1,7 @@
 //! Whether a node has nothing to do, as its cell finds it.
-ghost use Rattle.std.specs.Prelude.{◌≡◌, ◌==◌, ◌||◌, ◌≤◌};
+ghost use Rattle.std.specs.Prelude.{◌≡◌, ◌==◌, ◌&&◌, ◌||◌, ◌≤◌};
 ghost use Rattle.ipcz_node.specs.Acts.{is_quiet};
-ghost use Rattle.ipcz_cell.specs.Opens.{FindsFree, FindsQuiet};
+ghost use Rattle.ipcz_cell.specs.Opens.{FindsFree, FindsQuiet, are_spent};
 
 use crate::cell::NodeCell;
 use crate::fabric::{Fabric, FabricName};
@@ -28,11 +28,11 @@ impl<F: FabricName> NodeCell<F> {
         here && rest
     }
 
-    // Whether the node has nothing to do by itself.
+    // Whether the node has nothing to do by itself, nor with batches of which something is left.
     fn rests(&self) -> bool
-        ensures { result ≡ is_quiet self.now.part.state }
+        ensures { result ≡ (is_quiet self.now.part.state && are_spent self.now.part F.table.count) }
     {
-        self.state.quiet()
+        self.state.quiet() && self.held.is_empty()
     }
 
     /// Whether the node has nothing to do: by itself, as `NodeState::quiet`, and since each mailbox to it was loaded and no message was

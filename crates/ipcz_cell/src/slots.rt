@@ -1,7 +1,7 @@
 //! The slots of a table's link words: taken, emptied and given back.
 ghost use Rattle.std.specs.Prelude.{◌≡◌, ◌<◌, ◌%◌, ◌⊎◌, true, false, cond, [], ◌∷◌, IfSome, IfNone, is_some};
 ghost use Rattle.ipcz_slots.specs.Slots.{has_number, without_number, let_go_word};
-ghost use Rattle.ipcz_rule.specs.Rule.{Mine};
+ghost use Rattle.ipcz_rule.specs.Batches.{BatchMine};
 ghost use Rattle.ipcz_cell.specs.Claims.{IsNumberAt, LooksAtEach, FindsNone};
 ghost use Rattle.ipcz_cell.specs.Seats.{mine_of, sizes_of, HasNoSlots, HasSlotFor};
 
@@ -9,7 +9,7 @@ use crate::fabric::{Fabric, FabricName};
 use crate::making::BOTH_SIDES;
 use crate::seat::TableSeat;
 use atomic_table::Play;
-use ipcz_base::Message;
+use ipcz_node::Batch;
 use ipcz_rule::View;
 use ipcz_slots::{Own, next_number, slot_of};
 use std::marker::PhantomData;
@@ -19,7 +19,7 @@ struct Takes<F> {
     of: PhantomData<F>,
 }
 
-impl<F: FabricName> Play<Option<Message>, Own<View>> for Takes<F> {
+impl<F: FabricName> Play<Batch, Own<View>> for Takes<F> {
     ghost use Rattle.ipcz_cell.specs.Seats.{Taken};
 
     ghost then = { λ st m n m'. Taken F.table st.word m n m' };
@@ -30,7 +30,7 @@ struct Empties<F> {
     of: PhantomData<F>,
 }
 
-impl<F: FabricName> Play<Option<Message>, Own<View>> for Empties<F> {
+impl<F: FabricName> Play<Batch, Own<View>> for Empties<F> {
     ghost use Rattle.ipcz_cell.specs.Seats.{Emptied};
 
     ghost then = { λ st m n m'. Emptied st.word m m' };
@@ -41,7 +41,7 @@ struct Returns<F> {
     of: PhantomData<F>,
 }
 
-impl<F: FabricName> Play<Option<Message>, Own<View>> for Returns<F> {
+impl<F: FabricName> Play<Batch, Own<View>> for Returns<F> {
     ghost use Rattle.ipcz_cell.specs.Seats.{Returned};
 
     ghost then = { λ st m n m'. Returned F.table st.word m m' };
@@ -72,7 +72,7 @@ fn take_step<F: FabricName>(seat: &mut TableSeat, fabric: &Fabric<F>, slot: u32)
     requires reuses { F.table.reuses ≡ true }
     requires inside { slot < F.table.slots }
     ensures table { (seat.new.table_id ≡ seat.old.table_id) × (seat.new.id ≡ seat.old.id) }
-    ensures me { ◌≡◌ {A = Mine} (mine_of seat.new.me) (mine_of seat.old.me) }
+    ensures me { ◌≡◌ {A = BatchMine} (mine_of seat.new.me) (mine_of seat.old.me) }
     ensures dirty { seat.new.me.0.dirty ≡ cond result (slot ∷ seat.old.me.0.dirty) seat.old.me.0.dirty }
     ensures free { seat.new.me.0.free ≡ seat.old.me.0.free }
     ensures looked { seat.new.me.0.looked ≡ cond result seat.old.me.0.looked (slot ∷ seat.old.me.0.looked) }
@@ -92,7 +92,7 @@ fn empty_step<F: FabricName>(seat: &mut TableSeat, fabric: &Fabric<F>, slot: u32
     requires inside { slot < F.table.slots }
     requires taken { has_number seat.old.me.0.dirty slot ≡ true }
     ensures table { (seat.new.table_id ≡ seat.old.table_id) × (seat.new.id ≡ seat.old.id) }
-    ensures me { ◌≡◌ {A = Mine} (mine_of seat.new.me) (mine_of seat.old.me) }
+    ensures me { ◌≡◌ {A = BatchMine} (mine_of seat.new.me) (mine_of seat.old.me) }
     ensures dirty { seat.new.me.0.dirty ≡ without_number seat.old.me.0.dirty slot }
     ensures free { seat.new.me.0.free ≡ slot ∷ seat.old.me.0.free }
     ensures looked { seat.new.me.0.looked ≡ seat.old.me.0.looked }
@@ -111,7 +111,7 @@ pub(crate) fn return_step<F: FabricName>(seat: &mut TableSeat, fabric: &Fabric<F
     requires inside { slot < F.table.slots }
     requires had { (has_number seat.old.me.0.dirty slot ≡ true) ⊎ (has_number seat.old.me.0.free slot ≡ true) }
     ensures table { (seat.new.table_id ≡ seat.old.table_id) × (seat.new.id ≡ seat.old.id) }
-    ensures me { ◌≡◌ {A = Mine} (mine_of seat.new.me) (mine_of seat.old.me) }
+    ensures me { ◌≡◌ {A = BatchMine} (mine_of seat.new.me) (mine_of seat.old.me) }
     ensures dirty { seat.new.me.0.dirty ≡ without_number seat.old.me.0.dirty slot }
     ensures free { seat.new.me.0.free ≡ without_number seat.old.me.0.free slot }
     ensures looked { seat.new.me.0.looked ≡ seat.old.me.0.looked }
@@ -130,7 +130,7 @@ fn find_slot<F: FabricName>(seat: &mut TableSeat, fabric: &Fabric<F>, first: u32
     requires inside { first < F.table.slots }
     requires none { HasNoSlots seat.old.me.0 }
     ensures table { (seat.new.table_id ≡ seat.old.table_id) × (seat.new.id ≡ seat.old.id) }
-    ensures me { ◌≡◌ {A = Mine} (mine_of seat.new.me) (mine_of seat.old.me) }
+    ensures me { ◌≡◌ {A = BatchMine} (mine_of seat.new.me) (mine_of seat.old.me) }
     ensures none { IfNone result (HasNoSlots seat.new.me.0) }
     ensures looked { IfNone result (LooksAtEach F.table seat.old.me.0.looked seat.new.me.0.looked) }
     ensures free { IfSome result (λ slot. (slot < F.table.slots) × (seat.new.me.0.dirty ≡ []) × (seat.new.me.0.free ≡ slot ∷ [])) }
@@ -157,7 +157,7 @@ pub(crate) fn number_at<F: FabricName>(
     requires few { count < F.table.size }
     requires none { HasNoSlots seat.old.me.0 }
     ensures table { (seat.new.table_id ≡ seat.old.table_id) × (seat.new.id ≡ seat.old.id) }
-    ensures me { ◌≡◌ {A = Mine} (mine_of seat.new.me) (mine_of seat.old.me) }
+    ensures me { ◌≡◌ {A = BatchMine} (mine_of seat.new.me) (mine_of seat.old.me) }
     ensures number { IfSome result (λ n. IsNumberAt F.table count n × HasSlotFor F.table n seat.new.me.0) }
     ensures none { IfNone result (HasNoSlots seat.new.me.0) }
     ensures why { IfNone result (FindsNone F.table count seat.old.me.0.looked seat.new.me.0.looked) }
@@ -181,7 +181,7 @@ pub(crate) fn leave_slot<F: FabricName>(seat: &mut TableSeat, fabric: &Fabric<F>
     requires below { number < F.table.size }
     requires slot { HasSlotFor F.table number seat.old.me.0 }
     ensures table { (seat.new.table_id ≡ seat.old.table_id) × (seat.new.id ≡ seat.old.id) }
-    ensures me { ◌≡◌ {A = Mine} (mine_of seat.new.me) (mine_of seat.old.me) }
+    ensures me { ◌≡◌ {A = BatchMine} (mine_of seat.new.me) (mine_of seat.old.me) }
     ensures none { HasNoSlots seat.new.me.0 }
 {
     if fabric.reuses {

@@ -21,20 +21,23 @@ use ipcz_router::act::RouterAct;
 use ipcz_word::LockPlan;
 
 impl<F: FabricName> NodeCell<F> {
-    // The lowest node whose mailbox to this one is found full. The inbox is loaded, and then the mailboxes of those whose bits are set there, in
+    // The lowest node of whose batch something is left, or whose mailbox to this one is found full. The inbox is loaded, and then the mailboxes of those whose bits are set there, in
     // order, up to that one. The table's numbers are read once, not again after each load.
     fn first_full(&mut self, fabric: &Fabric<F>) -> Option<u8>
+        requires { self.old.part.state.hand ≡ None }
         ensures { FindsFull F.table self.old result self.new }
     {
         let node = self.node();
         let nodes = fabric.nodes;
         let slots = fabric.slots;
+        let batch = self.held.lowest();
+        let end = batch.unwrap_or(nodes);
         let inbox = self.load_at(fabric, slots, inbox_place::<F>(node));
         let mut from = next_set(inbox, 0);
         for looked in 0..nodes {
             let _looked = looked;
-            if from >= nodes {
-                return None;
+            if from >= end {
+                return batch;
             }
             let place = mail_place::<F>(nodes, from, node);
             if self.load_at(fabric, slots, place) == 1 {
@@ -42,7 +45,7 @@ impl<F: FabricName> NodeCell<F> {
             }
             from = next_set(inbox, from + 1);
         }
-        None
+        batch
     }
 
     // Whether any message waits to be posted.
@@ -161,7 +164,7 @@ impl<F: FabricName> NodeCell<F> {
         }
     }
 
-    // Posts the first message for a node, whose mailbox it takes first if it hasn't got it.
+    // Posts what waits for a node, whose mailbox it takes first if it hasn't got it.
     #[inline(always)]
     fn post_turn<T: Told, R: Ringer>(&mut self, fabric: &Fabric<F>, to: u8) -> Result<T, Refusal>
         requires inside { to < F.table.count }

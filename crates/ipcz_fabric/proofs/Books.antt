@@ -69,17 +69,17 @@ written_book n acts.Idle p = record { node = refl; history = refl }
 acted_book : (act : Act) (answer : Answer) (p : Part) → SameBook p (act_part act answer p)
 acted_book act answer p = let written = written_book p.state act (with_state (commit p.state act answer) p) in record { node = written.node; history = written.history }
 
-after_book : (act : Act) (answer : Answer) (seen : List (ℕ × ℕ)) (p q : Part) → IsAfter act answer seen p q → SameBook p q
-after_book (acts.Hand from) answer seen p q h = record { node = ap (λ (x : Part). x.node) h.2; history = ap (λ (x : Part). x.history) h.2 }
-after_book (acts.Look from) answer seen p q h = record { node = ap (λ (x : Part). x.node) h.1; history = ap (λ (x : Part). x.history) h.1 }
-after_book (acts.Post to) answer seen p q h = record { node = ap (λ (x : Part). x.node) h; history = ap (λ (x : Part). x.history) h }
-after_book (acts.Router serial act) answer seen p q h = by_part p _ q h (acted_book (acts.Router serial act) answer p)
-after_book (acts.Close e) answer seen p q h = by_part p _ q h (acted_book (acts.Close e) answer p)
-after_book acts.Idle answer seen p q h = by_part p _ q h (acted_book acts.Idle answer p)
+after_book : (t : TableName) (act : Act) (answer : Answer) (seen : List (ℕ × ℕ)) (p q : Part) → IsAfter t act answer seen p q → SameBook p q
+after_book t (acts.Hand from) answer seen p q h = record { node = ap (λ (x : Part). x.node) h.2; history = ap (λ (x : Part). x.history) h.2 }
+after_book t (acts.Look from) answer seen p q h = record { node = ap (λ (x : Part). x.node) h.2; history = ap (λ (x : Part). x.history) h.2 }
+after_book t (acts.Post to) answer seen p q h = record { node = ap (λ (x : Part). x.node) h; history = ap (λ (x : Part). x.history) h }
+after_book t (acts.Router serial act) answer seen p q h = by_part p _ q h (acted_book (acts.Router serial act) answer p)
+after_book t (acts.Close e) answer seen p q h = by_part p _ q h (acted_book (acts.Close e) answer p)
+after_book t acts.Idle answer seen p q h = by_part p _ q h (acted_book acts.Idle answer p)
 
 -- a turn
 pub turned_book : (t : TableName) (old new : CellState) (answer : Result Happened Refusal) → Turns t old answer new → SameBook old.part new.part
-turned_book t old new (Ok event) turn = let done = turn.outcome.done in after_book turn.outcome.taken done.answer turn.found old.part new.part done.part
+turned_book t old new (Ok event) turn = let done = turn.outcome.done in after_book t turn.outcome.taken done.answer turn.found old.part new.part done.part
 turned_book t old new (Err why) turn = one_part old.part new.part turn.outcome.0
 
 turns_book : (t : TableName) (did : List Did) (old new : CellState) → AreTurns t old did new → SameBook old.part new.part

@@ -4,6 +4,7 @@ pub mod Choosing
 pub mod Directories
 pub mod Finding
 pub mod FirstPairs
+pub mod Fronts
 pub mod Growing
 pub mod Handing
 pub mod Happenings

@@ -6,6 +6,7 @@ pub mod Directories
 pub mod Events
 pub mod Finding
 pub mod FirstPairs
+pub mod Fronts
 pub mod Hands
 pub mod Hearing
 pub mod Indexes

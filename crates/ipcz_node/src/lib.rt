@@ -2,6 +2,7 @@
 #![tactic(auto)]
 
 mod act;
+mod batch;
 mod directory;
 mod flags;
 mod happened;
@@ -18,6 +19,7 @@ mod spare;
 mod state;
 
 pub use act::{Act, MailSeen};
+pub use batch::Batch;
 pub use happened::{Handed, Happened};
 pub use outbox::Outbox;
 pub use state::{NodeState, PutRefused, Told, first_pair_count};

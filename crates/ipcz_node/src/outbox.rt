@@ -103,18 +103,26 @@ impl Outbox {
         }
     }
 
-    /// Takes the first message out, if there is one. What is left empty gives its room back.
+    /// Takes the first message out, if there is one, and keeps the room.
     #[tactic(auto, unfolding(crate::specs::Acts::first_of, crate::specs::Acts::rest_of))]
+    pub fn take_first(&mut self) -> Option<Message>
+        ensures messages { self.new.messages ≡ rest_of self.old.messages }
+        ensures message { result ≡ first_of self.old.messages }
+    {
+        let message = self.first.take();
+        self.first = self.rest.pop_front();
+        message
+    }
+
+    /// Takes the first message out, if there is one. What is left empty gives its room back.
     pub fn pop(&mut self, alloc: Global) -> Option<Message>
         ensures messages { self.new.messages ≡ rest_of self.old.messages }
         ensures message { result ≡ first_of self.old.messages }
         ensures room { self.new.messages ≡ [] → self.new.room ≡ 0 }
     {
-        let message = self.first.take();
-        if self.rest.is_empty() {
+        let message = self.take_first();
+        if self.is_empty() {
             self.give_back(alloc);
-        } else {
-            self.first = self.rest.pop_front();
         }
         message
     }

@@ -4,6 +4,7 @@ ghost use Rattle.ipcz_base.specs.Indexed.{place_at, put_place};
 ghost use Rattle.ipcz_node.specs.Acts.{first_of, rest_of, are_empty};
 ghost use Rattle.ipcz_node.specs.RoomyNodes.{one_with_mail};
 
+use crate::batch::Batch;
 use crate::outbox::Outbox;
 use ipcz_base::Message;
 use std::alloc::{AllocError, Global};
@@ -108,6 +109,18 @@ impl Outboxes {
         let message = queue.pop(alloc);
         self.waiting = self.waiting + count(queue) - before;
         message
+    }
+
+    /// Takes all messages for a node out, into an empty batch. The outbox has the batch's room then.
+    pub fn take_all(&mut self, to: u8, batch: &mut Batch)
+        requires { batch.old ≡ [] }
+        ensures messages { self.new.messages ≡ put_place [] self.old.messages to [] }
+        ensures batch { batch.new ≡ place_at [] self.old.messages to }
+    {
+        let queue = &mut self.queues[usize::from(to)];
+        let before = count(queue);
+        batch.take_from(queue);
+        self.waiting -= before;
     }
 }
 

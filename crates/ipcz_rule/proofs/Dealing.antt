@@ -15,7 +15,6 @@ use Rattle.ipcz_rule.specs.Start.{head_parts, tail_parts, dealt, after_deal, ope
 use Rattle.ipcz_rule.proofs.Inboxes.{has_not}
 use Rattle.ipcz_rule.proofs.Moved.{Stays, at_inside}
 use Rattle.ipcz_rule.proofs.Histories.{only, at_end, histories_move, no_caller}
-use Rattle.ipcz_rule.proofs.Starting.{parts_are}
 
 module _ (views : List View) (id : ℕ) (v : View) (p : Part) (ps : List Part) (at : get_elem? views id ≡ some v) (is : v.parts ≡ p ∷ ps) where
   abbrev kept : List View
@@ -194,13 +193,12 @@ left-some count n below =
     let more : count - n ≡ suc (count - (n + 1)) = omega (arith, below) in
     ap (opening_parts count n) more
 
--- deal: the new seat gets the part of the next node at the start
-pub deals_opening : (count size id : ℕ) (v : View) (nodes n : ℕ) → n < nodes → v.parts ≡ opening_parts nodes n (nodes - n) →
-    Splits (Rules count size) id v (after_deal v) (dealt v)
-deals_opening count size id v nodes n below is =
-    deals count size id v (opening_part nodes n) (opening_parts nodes (n + 1) (nodes - (n + 1))) (is ∙ left-some nodes n below)
-    (λ k q e same. let t = parts_are nodes (n + 1) (nodes - (n + 1)) k q e in
-    let number : (n + 1) + k ≡ q.node = ap (λ (p : Part). p.node) t.1 in omega (arith, number, same))
+-- it shows the same
+pub deals_stay : (count size id : ℕ) (v : View) (p : Part) (ps : List Part) (is : v.parts ≡ p ∷ ps) (others : (k : ℕ) (q : Part) → get_elem? ps k ≡ some q → q.node ≢ p.node)
+    (s : St) (r : Rules count size s) (at : get_elem? s.views id ≡ some v) →
+    (r' : Rules count size record { words = s.words; homes = s.homes; views = set s.views id (after_deal v) ++ dealt v ∷ [] }) × Stays r r'
+unfolding deals
+deals_stay count size id v p ps is others s r at = (deals count size id v p ps is others s r at, (refl, refl, refl))
 
 -- the views after it
 pub dealt_opening : (count : ℕ) (v : View) (n : ℕ) → n < count → v.parts ≡ opening_parts count n (count - n) → (dealt v).parts ≡ opening_part count n ∷ []
@@ -209,9 +207,3 @@ dealt_opening count v n below is = ap head_parts (is ∙ left-some count n below
 pub kept_opening : (count : ℕ) (v : View) (n : ℕ) → n < count → v.parts ≡ opening_parts count n (count - n) →
     (after_deal v).parts ≡ opening_parts count (n + 1) (count - (n + 1))
 kept_opening count v n below is = ap tail_parts (is ∙ left-some count n below)
-
--- it shows the same
-pub deals_opening_stays : (count size id : ℕ) (v : View) (nodes n : ℕ) (below : n < nodes) (is : v.parts ≡ opening_parts nodes n (nodes - n)) (s : St) (r : Rules count size s) (at : get_elem? s.views id ≡ some v) →
-    (r' : Rules count size record { words = s.words; homes = s.homes; views = set s.views id (after_deal v) ++ dealt v ∷ [] }) × Stays r r'
-unfolding deals_opening deals
-deals_opening_stays count size id v nodes n below is s r at = (deals_opening count size id v nodes n below is s r at, (refl, refl, refl))

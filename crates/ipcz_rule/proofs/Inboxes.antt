@@ -1,5 +1,5 @@
 -- The inboxes after a step of a seat which has announced nothing by it.
-use Rattle.std.specs.Prelude.{◌≡◌, ◌<◌, ◌⊎◌, ℕ, List, slice_index, Some, None, refl}
+use Rattle.std.specs.Prelude.{◌≡◌, ◌<◌, ◌⊎◌, ◌+◌, ◌*◌, ℕ, List, slice_index, Some, None, refl}
 use Rattle.std.specs.Int.{bit_at}
 use Rattle.std.proofs.Common.{ap, ◌∙◌, sym, ⊎_elim, set}
 use Rattle.atomic_table.proofs.Lists.{at_set}
@@ -13,6 +13,11 @@ same_inbox w w' to size = rw size refl
 
 pub same_box_way : (w w' : World) (a b : ℕ) → w'.count ≡ w.count → w'.size ≡ w.size → mailbox w' (way w' a b) ≡ mailbox w (way w a b)
 same_box_way w w' a b count size = same_box w w' (way w' a b) count size ∙ ap (mailbox w) (same_way w w' a b count)
+
+-- the word of a mailbox, by the numbers of the table
+pub box_is : {count size : ℕ} {s : St} (r : Rules count size s) (from to : ℕ) → mailbox r.world (way r.world from to) ≡ size + 1 + count + (from * count + to)
+box_is {count} {size} {s} r from to =
+    ap (λ z. z + 1 + r.world.count + (from * r.world.count + to)) r.words ∙ ap (λ c. size + 1 + c + (from * c + to)) r.nodes
 
 -- who has announced nothing is no one who has announced
 pub has_not : (v u : View) (to : ℕ) → v.announced ≡ None → v ≡ u → u.announced ≡ Some to → ⊥

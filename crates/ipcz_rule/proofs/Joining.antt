@@ -18,7 +18,7 @@ use Rattle.ipcz_rule.proofs.Moved.{Stays, at_inside}
 use Rattle.ipcz_rule.proofs.Histories.{StoodCaller, histories_move, went, went_there, went_not, no_caller}
 
 -- if two lists of parts are read together, one of the two was read
-in_both : (xs ys : List Part) (k : ℕ) (p : Part) → get_elem? (xs ++ ys) k ≡ some p → ((j : ℕ) × (get_elem? xs j ≡ some p)) ⊎ ((j : ℕ) × (get_elem? ys j ≡ some p))
+pub in_both : (xs ys : List Part) (k : ℕ) (p : Part) → get_elem? (xs ++ ys) k ≡ some p → ((j : ℕ) × (get_elem? xs j ≡ some p)) ⊎ ((j : ℕ) × (get_elem? ys j ≡ some p))
 in_both [] ys k p e = inr (k, e)
 in_both (x ∷ xs) ys zero p e = inl (0, e)
 in_both (x ∷ xs) ys (suc k) p e = ⊎_elim (λ (t : (j : ℕ) × (get_elem? xs j ≡ some p)). inl (suc t.0, t.1)) (λ (t : (j : ℕ) × (get_elem? ys j ≡ some p)). inr t) (in_both xs ys k p e)

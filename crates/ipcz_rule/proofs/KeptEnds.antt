@@ -11,7 +11,7 @@ use Rattle.ipcz_node.specs.declared.act.Act.{Act}
 use Rattle.ipcz_node.specs.declared.act.Act.TheVariants as acts
 use Rattle.ipcz_node.specs.Node.{Node, router_in}
 use Rattle.ipcz_world.specs.World.{World, node_at, router_at}
-use Rattle.ipcz_world.specs.Turns.{can_take}
+use Rattle.ipcz_world.specs.Turns.{can_take, after_act}
 use Rattle.ipcz_world.specs.Lawful.{Lawful}
 use Rattle.ipcz_world.specs.Books.{Books}
 use Rattle.ipcz_world.specs.Routes.{Routes}
@@ -47,6 +47,11 @@ keeping_by w n other i s keeps serial deed r is gone = absurd (cc)
 pub one_keeps : (w : World) (n : ℕ) (act : Act) → IsKeeping act → (i : ℕ) (s : Side) → OneLetsGo w ((n, act) ∷ []) i s → ⊥
 one_keeps w n act keeps i s (inl g) = keeping_by w n act i s keeps g.serial g.deed g.router g.is g.gone
 one_keeps w n act keeps i s (inr g) = g
+
+-- and neither do two such acts let one go
+pub two_keep : (w : World) (n k : ℕ) (act then : Act) → IsKeeping act → IsKeeping then → (i : ℕ) (s : Side) → OneLetsGo w ((n, act) ∷ (k, then) ∷ []) i s → ⊥
+two_keep w n k act then keeps more i s (inl g) = keeping_by w n act i s keeps g.serial g.deed g.router g.is g.gone
+two_keep w n k act then keeps more i s (inr g) = one_keeps (after_act w n act) k then more i s g
 
 pub where_keeps : (hit : Bool) (w : World) (n : ℕ) (act : Act) → IsKeeping act → (i : ℕ) (s : Side) → OneLetsGo w (turn_where hit n act) i s → ⊥
 where_keeps true w n act keeps i s g = one_keeps w n act keeps i s g

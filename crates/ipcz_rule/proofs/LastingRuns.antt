@@ -1,5 +1,5 @@
 -- Steps of a table, calls and turns of any seats, are a run of the world that is shown.
-use Rattle.std.specs.Prelude.{◌≡◌, ◌<◌, ◌+◌, ◌%◌, ℕ, Bool, true, false, cond, eqb, MatchBool, List, [], ◌∷◌, ◌++◌, length, slice_index, refl}
+use Rattle.std.specs.Prelude.{◌≡◌, ◌<◌, ◌+◌, ◌%◌, ℕ, Bool, true, false, not, cond, eqb, MatchBool, List, [], ◌∷◌, ◌++◌, length, slice_index, refl}
 use prog.Atomic.{either}
 use mathlib.Core.Option.{some}
 use lib.ListN.{get_elem?}
@@ -19,7 +19,8 @@ use Rattle.ipcz_world.specs.Steps.{put_of, opened_reply}
 use Rattle.ipcz_world.specs.declared.step.Step.TheVariants.{Open, Get, Close}
 use Rattle.ipcz_world.specs.declared.step.Reply.TheVariants as replies
 use Rattle.ipcz_rule.specs.declared.view.View.{View}
-use Rattle.ipcz_rule.specs.Rule.{Slot, St, Rules, with_part, saw}
+use Rattle.ipcz_rule.specs.Rule.{with_part, saw}
+use Rattle.ipcz_rule.specs.Batches.{Batch, BatchSt, Batched}
 use Rattle.ipcz_rule.specs.Steps.{act_part, put_part, get_part, close_part, open_part, wet_part}
 use Rattle.ipcz_rule.specs.Lasting.{virtual, sizes, own_of, turns_of}
 use Rattle.ipcz_rule.specs.LastingCalls.{deeds_of, passing_keeping}
@@ -66,13 +67,13 @@ turns_are_deeds = record {
 }
 
 -- a step of which it is known that it is deeds
-is-step : (count limit k : ℕ) (reuses : Bool) (g : Known (virtual count limit)) (deeds : (t : St) → Rules count limit t → List Deed) →
-    ((t : St) (r : Rules count limit t) (t' : St) (r' : Rules count limit t') → g t r t' r' → leading count limit deeds t r t' r') →
-    (slots id word : ℕ) (me : Me Slot (Own View)) (f : ℕ → ℕ) (told : ℕ → Me Slot (Own View) → Type 0) →
-    LastingSteps (virtual count limit) (sizes count limit k reuses) g slots id me word f told →
+is-step : (count limit k : ℕ) (reuses : Bool) (g : Known (virtual count limit reuses)) (deeds : (t : BatchSt) → Batched count limit (not reuses) t → List Deed) →
+    ((t : BatchSt) (r : Batched count limit (not reuses) t) (t' : BatchSt) (r' : Batched count limit (not reuses) t') → g t r t' r' → leading count limit reuses deeds t r t' r') →
+    (slots id word : ℕ) (me : Me Batch (Own View)) (f : ℕ → ℕ) (told : ℕ → Me Batch (Own View) → Type 0) →
+    LastingSteps (virtual count limit reuses) (sizes count limit k reuses) g slots id me word f told →
     (p : LastingRuled count limit k reuses) → length p.0.homes ≡ slots → get_elem? p.0.views id ≡ some me.0 → slice_index p.0.words word < 18446744073709551616 →
     (q : LastingRuled count limit k reuses) × Goes count limit k reuses p (deeds p.1.0 p.1.1) q ×
-    ((left : Me Slot (Own View)) × (get_elem? q.0.views id ≡ some left.0) × told (slice_index p.0.words word) left)
+    ((left : Me Batch (Own View)) × (get_elem? q.0.views id ≡ some left.0) × told (slice_index p.0.words word) left)
 is-step count limit k reuses g deeds tells slots id word me f told steps p deep at small =
     let h = steps p.0 p.1 (refl ∙ deep) at small in
     let done : List Deed = deeds p.1.0 p.1.1 in
@@ -90,20 +91,20 @@ is-step count limit k reuses g deeds tells slots id word me f told steps p deep 
     (after_deeds count limit k reuses p done step, inl (step, refl), ((h.0, carried_after me.1 h.1), set_here p.0.views id h.0 (at_inside p.0.views id me.0 at), h.4))
 
 -- of a call
-call-step : (count limit k : ℕ) (reuses : Bool) (deeds : ℕ → List Deed) (slots id i word : ℕ) (me : Me Slot (Own View)) (f : ℕ → ℕ) (told : ℕ → Me Slot (Own View) → Type 0) →
-    LastingSteps (virtual count limit) (sizes count limit k reuses) (deeds_of count limit i deeds) slots id me word f told →
+call-step : (count limit k : ℕ) (reuses : Bool) (deeds : ℕ → List Deed) (slots id i word : ℕ) (me : Me Batch (Own View)) (f : ℕ → ℕ) (told : ℕ → Me Batch (Own View) → Type 0) →
+    LastingSteps (virtual count limit reuses) (sizes count limit k reuses) (deeds_of count limit reuses i deeds) slots id me word f told →
     (p : LastingRuled count limit k reuses) → length p.0.homes ≡ slots → get_elem? p.0.views id ≡ some me.0 → slice_index p.0.words word < 18446744073709551616 →
     (q : LastingRuled count limit k reuses) × Goes count limit k reuses p (deeds (slice_index p.1.0.words i)) q ×
-    ((left : Me Slot (Own View)) × (get_elem? q.0.views id ≡ some left.0) × told (slice_index p.0.words word) left)
+    ((left : Me Batch (Own View)) × (get_elem? q.0.views id ≡ some left.0) × told (slice_index p.0.words word) left)
 call-step count limit k reuses deeds slots id i word me f told =
-    is-step count limit k reuses (deeds_of count limit i deeds) (λ t r. deeds (slice_index t.words i)) (λ t r t' r' is. is.0) slots id word me f told
+    is-step count limit k reuses (deeds_of count limit reuses i deeds) (λ t r. deeds (slice_index t.words i)) (λ t r t' r' is. is.0) slots id word me f told
 
 -- of a claim for an open, by whether the count was found
 pub claims_for_open_are_steps : ClaimsForOpenAreSteps
 claims_for_open_are_steps = record {
   again = λ k dirty free looked one count limit slots id c skip m p is idle small tiny has s deep at fits.
       let passing : List Deed = Beside (Passes skip) ∷ Beside (ClaimsWord p.node) ∷ [] in
-      let d = is-step count limit k true (λ t r t' r'. MatchBool (eqb (slice_index t.words limit) c) (passing_keeping count limit c skip p.node t r t' r') (deeds_of count limit limit (λ n. []) t r t' r'))
+      let d = is-step count limit k true (λ t r t' r'. MatchBool (eqb (slice_index t.words limit) c) (passing_keeping count limit c skip p.node t r t' r') (deeds_of count limit true limit (λ n. []) t r t' r'))
       (λ t r. cond (eqb (slice_index t.words limit) c) passing [])
       (λ t r t' r'. by count limit c skip p.node t r t' r' (eqb (slice_index t.words limit) c)) slots id (k + 0) (own_of m.0 dirty free looked, m.1) (λ n. either (eqb n c) (c + skip + 1) n)
       (λ n left. Unit {0})
@@ -116,17 +117,17 @@ claims_for_open_are_steps = record {
       (d.0, d.1);
 }
   where
-    by : (count limit c skip node : ℕ) (t : St) (r : Rules count limit t) (t' : St) (r' : Rules count limit t') (b : Bool) →
-        MatchBool b (passing_keeping count limit c skip node t r t' r') (deeds_of count limit limit (λ n. []) t r t' r') →
-        AreDeeds r.world r.books r.routes (cond b (Beside (Passes skip) ∷ Beside (ClaimsWord node) ∷ []) []) r'.world r'.books r'.routes
+    by : (count limit c skip node : ℕ) (t : BatchSt) (r : Batched count limit false t) (t' : BatchSt) (r' : Batched count limit false t') (b : Bool) →
+        MatchBool b (passing_keeping count limit c skip node t r t' r') (deeds_of count limit true limit (λ n. []) t r t' r') →
+        AreDeeds r.rules.world r.rules.books r.rules.routes (cond b (Beside (Passes skip) ∷ Beside (ClaimsWord node) ∷ []) []) r'.rules.world r'.rules.books r'.rules.routes
     by count limit c skip node t r t' r' true h = h.4
     by count limit c skip node t r t' r' false h = h.0
 
 -- of turns
 pub turns_are_steps : TurnsAreSteps
 turns_are_steps count limit k reuses turns slots id i word me f steps p deep at small =
-    let d = is-step count limit k reuses (turns_of count limit i turns) (λ t r. turn_deeds r.world (turns (slice_index t.words i)))
-    (λ t r t' r' is. turns-are r.world r'.world r.books r'.books r.routes r'.routes (turns (slice_index t.words i)) is) slots id word me f (λ n left. Unit {0}) steps p deep at small in
+    let d = is-step count limit k reuses (turns_of count limit reuses i turns) (λ t r. turn_deeds r.rules.world (turns (slice_index t.words i)))
+    (λ t r t' r' is. turns-are r.rules.world r'.rules.world r.rules.books r'.rules.books r.rules.routes r'.rules.routes (turns (slice_index t.words i)) is) slots id word me f (λ n left. Unit {0}) steps p deep at small in
     (d.0, d.1)
 
 pub calls_are_steps : CallsAreSteps

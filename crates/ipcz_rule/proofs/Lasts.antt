@@ -1,5 +1,5 @@
 -- The kinds of step on a table whose link words come back: each out of the rule's own kind, by what is known of who holds which end.
-use Rattle.std.specs.Prelude.{◌≡◌, ◌≢◌, ◌⊎◌, ◌≤◌, ◌<◌, ◌+◌, ◌-◌, ℕ, eqb, bit_and, bit_or, Bool, true, false, ◌&&◌, ◌||◌, nat_eq, if◌then◌else◌, List, [], ◌∷◌, slice_index, Option, Some, None, refl, MatchBool}
+use Rattle.std.specs.Prelude.{◌≡◌, ◌≢◌, ◌⊎◌, ◌≤◌, ◌<◌, ◌+◌, ◌-◌, ℕ, eqb, bit_and, bit_or, Bool, true, false, not, ◌&&◌, ◌||◌, nat_eq, if◌then◌else◌, List, [], ◌∷◌, map, slice_index, Option, Some, None, refl, MatchBool}
 use Rattle.std.specs.Int.{bit_at}
 use Rattle.std.proofs.Common.{arith, ap, ◌∙◌, sym, subst, inl, ⊎_elim, inr}
 use Rattle.std.proofs.lemmas.Bool.Decides.{nat_tests}
@@ -30,6 +30,7 @@ use Rattle.ipcz_router.specs.declared.act.RouterAct.TheVariants as router_acts
 use Rattle.ipcz_node.specs.declared.act.Act.{Act}
 use Rattle.ipcz_node.specs.declared.act.Act.TheVariants as acts
 use Rattle.ipcz_node.specs.Node.{Node, router_in}
+use Rattle.ipcz_node.specs.Fronts.{behind as in_front}
 use Rattle.ipcz_world.specs.World.{World, node_at, word_at, router_at}
 use Rattle.ipcz_world.specs.Turns.{message_in_hand}
 use Rattle.ipcz_world.specs.Books.{Books}
@@ -40,13 +41,16 @@ use Rattle.ipcz_world.specs.Ranks.{AreTurns}
 use Rattle.ipcz_world.specs.HeldEnds.{IsEndHeld, ByRouter, router_holds, is_spare, lets_go, OneLetsGo}
 use Rattle.ipcz_rule.specs.declared.view.View.{View}
 use Rattle.ipcz_rule.specs.declared.view.Part.{Part}
-use Rattle.ipcz_rule.specs.Rule.{St, Mine, Rules, with_part, saw, announcing, forgetting}
-use Rattle.ipcz_rule.specs.Steps.{CanAct, old_word, acted_view, act_part, probe_part, unprobe_part, post_part, look_part, hand_part, trusted}
-use Rattle.ipcz_rule.specs.Kinds.{IsTurns, Acted, turn_where, is_refusal}
+use Rattle.ipcz_rule.specs.Rule.{Spells, with_part, saw, announcing, forgetting}
+use Rattle.ipcz_rule.specs.GivenUp.{GivesEnd}
+use Rattle.ipcz_rule.specs.Batches.{Batch, BatchSt, BatchMine, Batched, BatchTurns, shown_part, with_batch}
+use Rattle.ipcz_rule.specs.BatchKinds.{batch_post_part}
+use Rattle.ipcz_rule.specs.Steps.{CanAct, old_word, acted_view, act_part, probe_part, unprobe_part, look_part, hand_part, trusted}
+use Rattle.ipcz_rule.specs.Kinds.{Acted, turn_where, is_refusal}
 use Rattle.ipcz_slots.specs.Slots.{AreSizes, Laws, Unused}
 use Rattle.ipcz_slots.specs.SlotKinds.{Known, LastingSteps, same_own, Keeps, LosesNone, LosesBut, Lives}
 use Rattle.ipcz_rule.specs.Lasting.{LeavingLasts, EndLaws, virtual, sizes, side_of, turns_of, own_of, OnSlot, Behind, SlotKindsLast, OtherKindsLast, LettingGoLasts, ReusingLasts}
-use Rattle.ipcz_rule.proofs.KeptEnds.{one_keeps, where_keeps, mark_keeps, wake_keeps, lock_keeps, unlock_keeps, claim_keeps, gone_is, gives_none}
+use Rattle.ipcz_rule.proofs.KeptEnds.{one_keeps, two_keep, where_keeps, mark_keeps, wake_keeps, lock_keeps, unlock_keeps, claim_keeps, gone_is, gives_none}
 use Rattle.ipcz_slots.proofs.Folding.{link_steps, other_steps}
 use Rattle.ipcz_slots.proofs.Letting.{lets_go as letting}
 use Rattle.ipcz_slots.proofs.Reusing.{reclaims, empties}
@@ -57,8 +61,12 @@ pub are_sizes : (count limit k : ℕ) → 1 ≤ k → AreSizes (sizes count limi
 are_sizes count limit k one = record { some_slot = λ l. one; whole = λ e. absurd (cc); count = omega arith }
 
 -- the claim count that stands in the table is the world's
-pub count_is : (count limit : ℕ) (t : St) (r : Rules count limit t) → slice_index t.words limit ≡ r.world.claimed
-count_is count limit t r = ap (slice_index t.words) (sym r.words) ∙ r.shows.claims
+pub count_is : {alone : Bool} (count limit : ℕ) (t : BatchSt) (r : Batched count limit alone t) → slice_index t.words limit ≡ r.rules.world.claimed
+count_is count limit t r = r.folds.words limit (omega arith) ∙ (ap (slice_index r.single.words) (sym r.rules.words) ∙ r.rules.shows.claims)
+
+-- a link word is that of the single table
+pub link_same : {alone : Bool} (count limit i : ℕ) (t : BatchSt) (r : Batched count limit alone t) → i < limit → slice_index t.words i ≡ slice_index r.single.words i
+link_same count limit i t r l = r.folds.words i (omega (arith, l))
 
 -- an end that is held is of a number that was claimed
 pub held_claimed : EndLaws → (w : World) (b : Books) (g : Routes) → Lawful w b g → (i : ℕ) (s : Side) → IsEndHeld w i s → i < w.claimed
@@ -77,43 +85,43 @@ not_linked other h = refl
 unused_word : (w : World) (b : Books) (g : Routes) → Lawful w b g → (i : ℕ) → w.claimed ≤ i → word_at w i ≡ empty_word
 unused_word w b g law i far = (law.inv.words.each i).unused (not_linked (law.records.owner i) (law.inv.counts.unclaimed i ∙ grind (arith, nat_tests, far)))
 
-pub laws_of : EndLaws → (count limit k : ℕ) (reuses : Bool) → Laws (virtual count limit) (sizes count limit k reuses)
+pub laws_of : EndLaws → (count limit k : ℕ) (reuses : Bool) → Laws (virtual count limit reuses) (sizes count limit k reuses)
 laws_of ends count limit k reuses = record {
-  fits = λ t r i l. let h = (ends.words count limit t r i l).word.small in omega (arith, h);
-  empty = λ t r i far l. let e = count_is count limit t r in r.shows.links i (let z = r.words in omega (arith, z, l)) ∙ (ap bits_of (unused_word r.world r.books r.routes r.lawful i (omega (arith, e, far))) ∙ empty_bits);
-  unclaimed = λ t r b i far. let e = count_is count limit t r in ends.lost r.world r.books r.routes i (side_of b) r.lawful (inl (omega (arith, e, far)));
+  fits = λ t r i l. let h = (ends.words count limit r.single r.rules i l).word.small in let e = link_same count limit i t r l in omega (arith, h, e);
+  empty = λ t r i far l. let e = count_is count limit t r in link_same count limit i t r l ∙ (r.rules.shows.links i (let z = r.rules.words in omega (arith, z, l)) ∙ (ap bits_of (unused_word r.rules.world r.rules.books r.rules.routes r.rules.lawful i (omega (arith, e, far))) ∙ empty_bits));
+  unclaimed = λ t r b i far. let e = count_is count limit t r in ends.lost r.rules.world r.rules.books r.rules.routes i (side_of b) r.rules.lawful (inl (omega (arith, e, far)));
 }
 
 -- turns keep an end nowhere
-pub kept_by : EndLaws → (count limit k : ℕ) (reuses : Bool) (i : ℕ) (turns : ℕ → List (ℕ × Act)) → Keeps (virtual count limit) (sizes count limit k reuses) (turns_of count limit i turns)
+pub kept_by : EndLaws → (count limit k : ℕ) (reuses : Bool) (i : ℕ) (turns : ℕ → List (ℕ × Act)) → Keeps (virtual count limit reuses) (sizes count limit k reuses) (turns_of count limit reuses i turns)
 kept_by ends count limit k reuses i turns t r t' r' g b j l gone held =
     ⊎_elim gone (λ far. let e = count_is count limit t r in omega (arith, e, far, l))
-    (ends.kept r.world r'.world r.books r'.books r.routes r'.routes (turns (slice_index t.words i)) j (side_of b) r.lawful g held)
+    (ends.kept r.rules.world r'.rules.world r.rules.books r'.rules.books r.rules.routes r'.rules.routes (turns (slice_index t.words i)) j (side_of b) r.rules.lawful g held)
 
 -- and where slots are used again they keep an end somewhere, if none of them lets one go
 pub loses_none : EndLaws → (count limit k : ℕ) (reuses : Bool) (id i : ℕ) (v : View) (turns : ℕ → List (ℕ × Act)) →
-    (reuses ≡ true → (t : St) (r : Rules count limit t) (t' : St) (r' : Rules count limit t') → get_elem? t.views id ≡ some v → turns_of count limit i turns t r t' r' →
-    (j : ℕ) (s : Side) → OneLetsGo r.world (turns (slice_index t.words i)) j s → ⊥) →
-    LosesNone (virtual count limit) (sizes count limit k reuses) id v (turns_of count limit i turns)
+    (reuses ≡ true → (t : BatchSt) (r : Batched count limit (not reuses) t) (t' : BatchSt) (r' : Batched count limit (not reuses) t') → get_elem? t.views id ≡ some v → turns_of count limit reuses i turns t r t' r' →
+    (j : ℕ) (s : Side) → OneLetsGo r.rules.world (turns (slice_index t.words i)) j s → ⊥) →
+    LosesNone (virtual count limit reuses) (sizes count limit k reuses) id v (turns_of count limit reuses i turns)
 loses_none ends count limit k reuses id i v turns none again t r t' r' at g b j l gone held =
     ⊎_elim gone (λ go. none again t r t' r' at g j (side_of b) go)
-    (ends.stay r.world r'.world r.books r'.books r.routes r'.routes (turns (slice_index t.words i)) j (side_of b) r.lawful g held)
+    (ends.stay r.rules.world r'.rules.world r.rules.books r'.rules.books r.rules.routes r'.rules.routes (turns (slice_index t.words i)) j (side_of b) r.rules.lawful g held)
 
 -- who is held at a side isn't unused
-not_unused : (count limit i : ℕ) (t : St) (r : Rules count limit t) (s : Side) → IsEndHeld r.world i s → Unused (virtual count limit) t r i → ⊥
-not_unused count limit i t r A held u = u.0 held
-not_unused count limit i t r B held u = u.1 held
+not_unused : (count limit i : ℕ) (reuses : Bool) (t : BatchSt) (r : Batched count limit (not reuses) t) (s : Side) → IsEndHeld r.rules.world i s → Unused (virtual count limit reuses) t r i → ⊥
+not_unused count limit i reuses t r A held u = u.0 held
+not_unused count limit i reuses t r B held u = u.1 held
 
 -- a number lives if the rule says that one of its ends is held
-pub lives_by : EndLaws → (count limit k : ℕ) (reuses : Bool) (id i : ℕ) (v : View) → ((t : St) (r : Rules count limit t) → get_elem? t.views id ≡ some v → (s : Side) × IsEndHeld r.world i s) →
-    Lives (virtual count limit) (sizes count limit k reuses) id v i
+pub lives_by : EndLaws → (count limit k : ℕ) (reuses : Bool) (id i : ℕ) (v : View) → ((t : BatchSt) (r : Batched count limit (not reuses) t) → get_elem? t.views id ≡ some v → (s : Side) × IsEndHeld r.rules.world i s) →
+    Lives (virtual count limit reuses) (sizes count limit k reuses) id v i
 lives_by ends count limit k reuses id i v held t r at =
     let h = held t r at in
-    let below = held_claimed ends r.world r.books r.routes r.lawful i h.0 h.1 in
-    let most = r.lawful.inv.counts.claimed in
-    let z = r.words in
+    let below = held_claimed ends r.rules.world r.rules.books r.rules.routes r.rules.lawful i h.0 h.1 in
+    let most = r.rules.lawful.inv.counts.claimed in
+    let z = r.rules.words in
     let e = count_is count limit t r in
-    (omega (arith, e, below), omega (arith, below, most, z), not_unused count limit i t r h.0 h.1)
+    (omega (arith, e, below), omega (arith, below, most, z), not_unused count limit i reuses t r h.0 h.1)
 
 same_side_self : (s : Side) → same_side s s ≡ true
 same_side_self A = refl
@@ -142,20 +150,39 @@ and_second : (x y : Bool) → (x && y) ≡ true → y ≡ true
 and_second true y h = h
 and_second false y h = absurd (cc)
 
--- the own node is as the seat says
-pub node_here : (count limit id : ℕ) (v : View) (p : Part) → v.parts ≡ p ∷ [] → (t : St) (r : Rules count limit t) → get_elem? t.views id ≡ some v → node_at r.world p.node ≡ p.state
-node_here count limit id v p is t r at = ((r.shows.parts id v 0 p at (ap (λ (l : List Part). get_elem? l 0) is)).1).state
+-- the own part stands in the single table behind what is under way of its batches, at the same seat
+part_known : {alone : Bool} (count limit id : ℕ) (v : View) (p : Part) → v.parts ≡ p ∷ [] → (t : BatchSt) (r : Batched count limit alone t) → get_elem? t.views id ≡ some v →
+    (r.rules.owner p.node ≡ id) × Spells r.single.words r.rules.world (shown_part r.fronts p)
+part_known count limit id v p is t r at =
+    let h = r.folds.views id v at in
+    r.rules.shows.parts id h.0 0 (shown_part r.fronts p) h.1 (ap (λ (l : List Part). get_elem? l 0) (h.2.parts ∙ ap (map (shown_part r.fronts)) is))
+
+pub part_owner : {alone : Bool} (count limit id : ℕ) (v : View) (p : Part) → v.parts ≡ p ∷ [] → (t : BatchSt) (r : Batched count limit alone t) → get_elem? t.views id ≡ some v → r.rules.owner p.node ≡ id
+part_owner count limit id v p is t r at = (part_known count limit id v p is t r at).0
+
+pub own_part : {alone : Bool} (count limit id : ℕ) (v : View) (p : Part) → v.parts ≡ p ∷ [] → (t : BatchSt) (r : Batched count limit alone t) → get_elem? t.views id ≡ some v →
+    Spells r.single.words r.rules.world (shown_part r.fronts p)
+own_part count limit id v p is t r at = (part_known count limit id v p is t r at).1
+
+-- so does the own node
+pub node_here : {alone : Bool} (count limit id : ℕ) (v : View) (p : Part) → v.parts ≡ p ∷ [] → (t : BatchSt) (r : Batched count limit alone t) → get_elem? t.views id ≡ some v →
+    node_at r.rules.world p.node ≡ in_front (r.fronts p.node) p.state
+node_here count limit id v p is t r at = (own_part count limit id v p is t r at).state
+
+-- there an act gives up the same
+gives_behind : (fs : List Batch) (x : Node) (act : Act) → GivesEnd x act None → GivesEnd (in_front fs x) act None
+gives_behind fs x (acts.Router serial act) h = h
+gives_behind fs x other h = h
 
 -- a router of the own node holds the end
-pub router_here : (count limit id : ℕ) (v : View) (p : Part) (serial : ℕ) (rt : Router) → v.parts ≡ p ∷ [] → router_in p.state serial ≡ Some rt →
-    (t : St) (r : Rules count limit t) → get_elem? t.views id ≡ some v → router_at r.world (record { node = p.node; serial = serial }) ≡ Some rt
+pub router_here : {alone : Bool} (count limit id : ℕ) (v : View) (p : Part) (serial : ℕ) (rt : Router) → v.parts ≡ p ∷ [] → router_in p.state serial ≡ Some rt →
+    (t : BatchSt) (r : Batched count limit alone t) → get_elem? t.views id ≡ some v → router_at r.rules.world (record { node = p.node; serial = serial }) ≡ Some rt
 unfolding router_at
 router_here count limit id v p serial rt is there t r at =
-    let sp = (r.shows.parts id v 0 p at (ap (λ (l : List Part). get_elem? l 0) is)).1 in
-    ap (λ (y : Node). router_in y serial) sp.state ∙ there
+    ap (λ (y : Node). router_in y serial) (own_part count limit id v p is t r at).state ∙ there
 
 pub router_lives : EndLaws → (count limit k : ℕ) (reuses : Bool) (id i : ℕ) (v : View) (p : Part) (serial : ℕ) (rt : Router) (act : RouterAct) → v.parts ≡ p ∷ [] → CanAct p.state serial rt act → primary_word rt ≡ Some i →
-    Lives (virtual count limit) (sizes count limit k reuses) id v i
+    Lives (virtual count limit reuses) (sizes count limit k reuses) id v i
 router_lives ends count limit k reuses id i v p serial rt act is can primary = lives_by ends count limit k reuses id i v (λ t r at.
     let h = has_word rt.outward.primary i primary in
     let has : router_has rt (Central i) h.0 ≡ true = or_first _ _ (or_first _ _ h.1) in
@@ -167,38 +194,38 @@ hand_opens w n from h e = ap (hand_of w n) (sym e)
 
 -- an AcceptBypass in hand: its old link is held
 pub old_lives : EndLaws → (count limit k : ℕ) (reuses : Bool) (id from old : ℕ) (v : View) (p : Part) (x : Message) → v.parts ≡ p ∷ [] → p.state.hand ≡ Some from → p.message ≡ Some x → old_word x ≡ Some old →
-    Lives (virtual count limit) (sizes count limit k reuses) id v old
+    Lives (virtual count limit reuses) (sizes count limit k reuses) id v old
 old_lives ends count limit k reuses id from old v p x is hand message named = lives_by ends count limit k reuses id old v (λ t r at. by x message named t r at)
   where
-    by : (x : Message) → p.message ≡ Some x → old_word x ≡ Some old → (t : St) (r : Rules count limit t) → get_elem? t.views id ≡ some v → (s : Side) × IsEndHeld r.world old s
+    by : (x : Message) → p.message ≡ Some x → old_word x ≡ Some old → (t : BatchSt) (r : Batched count limit (not reuses) t) → get_elem? t.views id ≡ some v → (s : Side) × IsEndHeld r.rules.world old s
     by (messages.AcceptBypass o side fresh length) message named t r at =
-        let sp = (r.shows.parts id v 0 p at (ap (λ (l : List Part). get_elem? l 0) is)).1 in
+        let sp = own_part count limit id v p is t r at in
         let e : o ≡ old = cc in
-        let in_hand : (node_at r.world p.node).hand ≡ Some from = ap (λ (y : Node). y.hand) sp.state ∙ hand in
-        let there : message_in_hand r.world p.node from ≡ Some (messages.AcceptBypass o side fresh length) = hand_opens r.world p.node from p.state.hand hand ∙ (sp.message ∙ message) in
-        (side, subst (λ (q : ℕ). IsEndHeld r.world q side) e (ends.accepted r.world r.books r.routes p.node from o side fresh length r.lawful sp.inside (r.lawful.inv.counts.hand_from p.node from sp.inside in_hand) there))
+        let in_hand : (node_at r.rules.world p.node).hand ≡ Some from = ap (λ (y : Node). y.hand) sp.state ∙ hand in
+        let there : message_in_hand r.rules.world p.node from ≡ Some (messages.AcceptBypass o side fresh length) = hand_opens r.rules.world p.node from p.state.hand hand ∙ (sp.message ∙ message) in
+        (side, subst (λ (q : ℕ). IsEndHeld r.rules.world q side) e (ends.accepted r.rules.world r.rules.books r.rules.routes p.node from o side fresh length r.rules.lawful sp.inside (r.rules.lawful.inv.counts.hand_from p.node from sp.inside in_hand) there))
     by other message named t r at = absurd (cc)
 
 -- a step on the word of a number that lives
-on_slot : EndLaws → (k : ℕ) (reuses : Bool) (dirty free looked : List ℕ) → (count limit slots id : ℕ) (m : Mine) (i : ℕ) (f : ℕ → ℕ) (turns : ℕ → List (ℕ × Act)) (told : ℕ → Mine → Type 0) →
+on_slot : EndLaws → (k : ℕ) (reuses : Bool) (dirty free looked : List ℕ) → (count limit slots id : ℕ) (m : BatchMine) (i : ℕ) (f : ℕ → ℕ) (turns : ℕ → List (ℕ × Act)) (told : ℕ → BatchMine → Type 0) →
     ((w : World) (n j : ℕ) (s : Side) → OneLetsGo w (turns n) j s → ⊥) →
-    Lives (virtual count limit) (sizes count limit k reuses) id m.0 i → IsTurns count limit slots id m i f turns told → OnSlot k reuses dirty free looked count limit slots id m i f turns told
+    Lives (virtual count limit reuses) (sizes count limit k reuses) id m.0 i → BatchTurns (not reuses) count limit slots id m i f turns told → OnSlot k reuses dirty free looked count limit slots id m i f turns told
 on_slot ends k reuses dirty free looked count limit slots id m i f turns told none lives steps areas =
-    link_steps (virtual count limit) (sizes count limit k reuses) (laws_of ends count limit k reuses) areas (turns_of count limit i turns) slots id (own_of m.0 dirty free looked) m.1 i f told
-    (kept_by ends count limit k reuses i turns) (loses_none ends count limit k reuses id i m.0 turns (λ again t r t' r' at g. none r.world (slice_index t.words i))) (inl lives) steps
+    link_steps (virtual count limit reuses) (sizes count limit k reuses) (laws_of ends count limit k reuses) areas (turns_of count limit reuses i turns) slots id (own_of m.0 dirty free looked) m.1 i f told
+    (kept_by ends count limit k reuses i turns) (loses_none ends count limit k reuses id i m.0 turns (λ again t r t' r' at g. none r.rules.world (slice_index t.words i))) (inl lives) steps
 
 -- a step behind the link words, which leaves the claim count
-pub behind : EndLaws → (k : ℕ) (reuses : Bool) (dirty free looked : List ℕ) → (count limit slots id : ℕ) (m : Mine) (i : ℕ) (f : ℕ → ℕ) (turns : ℕ → List (ℕ × Act)) (told : ℕ → Mine → Type 0) →
-    (reuses ≡ true → (t : St) (r : Rules count limit t) (t' : St) (r' : Rules count limit t') → get_elem? t.views id ≡ some m.0 → (n : ℕ) →
-    AreTurns r.world r.books r.routes (turns n) r'.world r'.books r'.routes → (j : ℕ) (s : Side) → OneLetsGo r.world (turns n) j s → ⊥) →
-    (i ≡ limit → (n : ℕ) → f n ≡ n) → IsTurns count limit slots id m i f turns told → Behind k reuses dirty free looked count limit slots id m i f turns told
+pub behind : EndLaws → (k : ℕ) (reuses : Bool) (dirty free looked : List ℕ) → (count limit slots id : ℕ) (m : BatchMine) (i : ℕ) (f : ℕ → ℕ) (turns : ℕ → List (ℕ × Act)) (told : ℕ → BatchMine → Type 0) →
+    (reuses ≡ true → (t : BatchSt) (r : Batched count limit (not reuses) t) (t' : BatchSt) (r' : Batched count limit (not reuses) t') → get_elem? t.views id ≡ some m.0 → (n : ℕ) →
+    AreTurns r.rules.world r.rules.books r.rules.routes (turns n) r'.rules.world r'.rules.books r'.rules.routes → (j : ℕ) (s : Side) → OneLetsGo r.rules.world (turns n) j s → ⊥) →
+    (i ≡ limit → (n : ℕ) → f n ≡ n) → BatchTurns (not reuses) count limit slots id m i f turns told → Behind k reuses dirty free looked count limit slots id m i f turns told
 behind ends k reuses dirty free looked count limit slots id m i f turns told none leaves steps areas j e inside =
-    let x = virtual count limit in
+    let x = virtual count limit reuses in
     let z = sizes count limit k reuses in
-    subst (λ (q : ℕ). LastingSteps x z (turns_of count limit q turns) slots id (own_of m.0 dirty free looked, m.1) (k + j) f (same_own (own_of m.0 dirty free looked) told)) (sym e)
-    (other_steps x z (laws_of ends count limit k reuses) areas (turns_of count limit (limit + j) turns) slots id (own_of m.0 dirty free looked) m.1 j f told
+    subst (λ (q : ℕ). LastingSteps x z (turns_of count limit reuses q turns) slots id (own_of m.0 dirty free looked, m.1) (k + j) f (same_own (own_of m.0 dirty free looked) told)) (sym e)
+    (other_steps x z (laws_of ends count limit k reuses) areas (turns_of count limit reuses (limit + j) turns) slots id (own_of m.0 dirty free looked) m.1 j f told
     (kept_by ends count limit k reuses (limit + j) turns)
-    (loses_none ends count limit k reuses id (limit + j) m.0 turns (λ again t r t' r' at g. none again t r t' r' at (slice_index t.words (limit + j)) g)) inside (λ n h. leaves (omega (arith, e, h)) n) (subst (λ (q : ℕ). IsTurns count limit slots id m q f turns told) e steps))
+    (loses_none ends count limit k reuses id (limit + j) m.0 turns (λ again t r t' r' at g. none again t r t' r' at (slice_index t.words (limit + j)) g)) inside (λ n h. leaves (omega (arith, e, h)) n) (subst (λ (q : ℕ). BatchTurns (not reuses) count limit slots id m q f turns told) e steps))
 
 far : (f : ℕ → ℕ) (i limit count b : ℕ) → i ≡ limit + 1 + count + b → i ≡ limit → (n : ℕ) → f n ≡ n
 far f i limit count b word e n = absurd (omega (arith, e, word))
@@ -218,17 +245,19 @@ slot_kinds ends k reuses dirty free looked = (
 
 pub other_kinds : OtherKindsLast
 other_kinds ends k reuses dirty free looked = (
-  (λ old count limit slots id i m p act is touch possible serials none. behind ends k reuses dirty free looked count limit slots id m i (λ n. n) (λ n. (p.node, act) ∷ []) (λ n m'. m' ≡ (with_part (act_part act answers.Plain p) m.0, m.1)) (λ again t r t' r' at n g. gives_none r.world r.books r.routes p.node act p.state r.lawful (node_here count limit id m.0 p is t r at) g.0.may (none again)) (λ e n. refl) (old count limit slots id i m p act is touch possible serials)),
-  (λ old count limit slots id m p serial rt is can. behind ends k reuses dirty free looked count limit slots id m limit (λ n. n) (λ n. turn_where (eqb n limit) p.node (acts.Router serial router_acts.Claim)) (λ n m'. MatchBool (eqb n limit) (m' ≡ (with_part (act_part (acts.Router serial router_acts.Claim) answers.NoWord p) (saw limit n m.0), m.1)) (m' ≡ (saw limit n m.0, m.1))) (λ again t r t' r' at n g. where_keeps (eqb n limit) r.world p.node (acts.Router serial router_acts.Claim) (claim_keeps serial)) (λ e n. refl) (old count limit slots id m p serial rt is can)),
-  (λ old count limit slots id i b to m p is at word low. behind ends k reuses dirty free looked count limit slots id m i (λ n. either (eqb n 0) 3 n) (λ n. []) (λ n m'. MatchBool (eqb n 0) (m' ≡ (with_part (probe_part to p) (saw i n m.0), (b, None) ∷ m.1)) (m' ≡ (saw i n m.0, m.1))) (λ again t r t' r' at n g j s h. h) (far (λ n. either (eqb n 0) 3 n) i limit count b word) (old count limit slots id i b to m p is at word low)),
+  (λ old count limit slots id i m p act is touch possible serials none. behind ends k reuses dirty free looked count limit slots id m i (λ n. n) (λ n. (p.node, act) ∷ []) (λ n m'. m' ≡ (with_part (act_part act answers.Plain p) m.0, m.1)) (λ again t r t' r' at n g. gives_none r.rules.world r.rules.books r.rules.routes p.node act (in_front (r.fronts p.node) p.state) r.rules.lawful (node_here count limit id m.0 p is t r at) g.0.may (gives_behind (r.fronts p.node) p.state act (none again))) (λ e n. refl) (old count limit slots id i m p act is touch possible serials)),
+  (λ old count limit slots id m p serial rt is can. behind ends k reuses dirty free looked count limit slots id m limit (λ n. n) (λ n. turn_where (eqb n limit) p.node (acts.Router serial router_acts.Claim)) (λ n m'. MatchBool (eqb n limit) (m' ≡ (with_part (act_part (acts.Router serial router_acts.Claim) answers.NoWord p) (saw limit n m.0), m.1)) (m' ≡ (saw limit n m.0, m.1))) (λ again t r t' r' at n g. where_keeps (eqb n limit) r.rules.world p.node (acts.Router serial router_acts.Claim) (claim_keeps serial)) (λ e n. refl) (old count limit slots id m p serial rt is can)),
+  (λ old count limit slots id i b to m p is at word low. behind ends k reuses dirty free looked count limit slots id m i (λ n. either (eqb n 0) 3 n) (λ n. []) (λ n m'. MatchBool (eqb n 0) (m' ≡ (with_part (probe_part to p) (saw i n m.0), (b, []) ∷ m.1)) (m' ≡ (saw i n m.0, m.1))) (λ again t r t' r' at n g j s h. h) (far (λ n. either (eqb n 0) 3 n) i limit count b word) (old count limit slots id i b to m p is at word low)),
   (λ old count limit slots id i b to m p rest is at word low has held. behind ends k reuses dirty free looked count limit slots id m i (λ n. 0) (λ n. []) (λ n m'. m' ≡ (with_part (unprobe_part to p) m.0, rest)) (λ again t r t' r' at n g j s h. h) (far (λ n. 0) i limit count b word) (old count limit slots id i b to m p rest is at word low has held)),
   (λ old count limit slots id i to bits m p is word low own. behind ends k reuses dirty free looked count limit slots id m i (λ n. bit_or n bits) (λ n. []) (λ n m'. m' ≡ (announcing to m.0, m.1)) (λ again t r t' r' at n g j s h. h) (behind_count (λ n. bit_or n bits) i limit to word) (old count limit slots id i to bits m p is word low own)),
   (λ old count limit slots id i to m p is word low. behind ends k reuses dirty free looked count limit slots id m i (λ n. n) (λ n. []) (λ n m'. m' ≡ (if eqb (bit_at n p.node) 1 then announcing to m.0 else forgetting m.0, m.1)) (λ again t r t' r' at n g j s h. h) (λ e n. refl) (old count limit slots id i to m p is word low)),
-  (λ old count limit slots id i from kept m p is word hand others. behind ends k reuses dirty free looked count limit slots id m i (λ n. bit_and n kept) (λ n. []) (λ n m'. m' ≡ (forgetting m.0, m.1)) (λ again t r t' r' at n g j s h. h) (behind_count (λ n. bit_and n kept) i limit p.node word) (old count limit slots id i from kept m p is word hand others)),
-  (λ old count limit slots id i b to m p x rest is at word low has told mail post held. behind ends k reuses dirty free looked count limit slots id m i (λ n. 1) (λ n. (p.node, acts.Post to) ∷ []) (λ n m'. m' ≡ (with_part (post_part to p) m.0, rest)) (λ again t r t' r' at n g. one_keeps r.world p.node (acts.Post to) tt) (far (λ n. 1) i limit count b word) (old count limit slots id i b to m p x rest is at word low has told mail post held)),
-  (λ old count limit slots id i b from m p is at word low idle. behind ends k reuses dirty free looked count limit slots id m i (λ n. either (eqb n 1) 2 n) (λ n. turn_where (eqb n 1) p.node (acts.Look from)) (λ n m'. MatchBool (eqb n 1) ((x : Message) × (m' ≡ (with_part (look_part from x p) (saw i n m.0), (b, Some x) ∷ m.1))) (m' ≡ (saw i n m.0, m.1))) (λ again t r t' r' at n g. where_keeps (eqb n 1) r.world p.node (acts.Look from) tt) (far (λ n. either (eqb n 1) 2 n) i limit count b word) (old count limit slots id i b from m p is at word low idle)),
-  (λ old count limit slots id i b from m p x rest is at word hand message serials held. behind ends k reuses dirty free looked count limit slots id m i (λ n. 0) (λ n. (p.node, acts.Hand from) ∷ []) (λ n m'. m' ≡ (with_part (hand_part from (trusted from x) x p) m.0, rest)) (λ again t r t' r' at n g. one_keeps r.world p.node (acts.Hand from) tt) (far (λ n. 0) i limit count b word) (old count limit slots id i b from m p x rest is at word hand message serials held)),
-  (λ old count limit slots id i b from m p s rest is at word hand held. behind ends k reuses dirty free looked count limit slots id m i (λ n. n) (λ n. []) (λ n m'. m' ≡ (saw i n m.0, rest)) (λ again t r t' r' at n g j s h. h) (far (λ n. n) i limit count b word) (old count limit slots id i b from m p s rest is at word hand held)),
+  (λ old count limit slots id i from kept m p is word hand none others. behind ends k reuses dirty free looked count limit slots id m i (λ n. bit_and n kept) (λ n. []) (λ n m'. m' ≡ (forgetting m.0, m.1)) (λ again t r t' r' at n g j s h. h) (behind_count (λ n. bit_and n kept) i limit p.node word) (old count limit slots id i from kept m p is word hand none others)),
+  (λ old count limit slots id i b to m p y xs ys rest is at word low has told mail one held. behind ends k reuses dirty free looked count limit slots id m i (λ n. 1) (λ n. (p.node, acts.Post to) ∷ []) (λ n m'. m' ≡ (with_part (batch_post_part to ys p) m.0, rest)) (λ again t r t' r' at n g. one_keeps r.rules.world p.node (acts.Post to) tt) (far (λ n. 1) i limit count b word) (old count limit slots id i b to m p y xs ys rest is at word low has told mail one held)),
+  (λ old count limit slots id i b from m p is at word low idle. behind ends k reuses dirty free looked count limit slots id m i (λ n. either (eqb n 1) 2 n) (λ n. turn_where (eqb n 1) p.node (acts.Look from)) (λ n m'. MatchBool (eqb n 1) ((y : Message) × (xs : List Message) × (not reuses ≡ true → xs ≡ []) × (m' ≡ (with_part (look_part from y (with_batch from xs p)) (saw i n m.0), (b, y ∷ xs) ∷ m.1))) (m' ≡ (saw i n m.0, m.1))) (λ again t r t' r' at n g. where_keeps (eqb n 1) r.rules.world p.node (acts.Look from) tt) (far (λ n. either (eqb n 1) 2 n) i limit count b word) (old count limit slots id i b from m p is at word low idle)),
+  (λ old count limit slots id i b from m p y rest is at word none hand message serials held. behind ends k reuses dirty free looked count limit slots id m i (λ n. 0) (λ n. (p.node, acts.Hand from) ∷ []) (λ n m'. m' ≡ (with_part (hand_part from (trusted from y) y p) m.0, rest)) (λ again t r t' r' at n g. one_keeps r.rules.world p.node (acts.Hand from) tt) (far (λ n. 0) i limit count b word) (old count limit slots id i b from m p y rest is at word none hand message serials held)),
+  (λ old count limit slots id i b from m p xs rest is at word low has held. behind ends k reuses dirty free looked count limit slots id m i (λ n. n) (λ n. []) (λ n m'. m' ≡ (saw i n m.0, rest)) (λ again t r t' r' at n g j s h. h) (far (λ n. n) i limit count b word) (old count limit slots id i b from m p xs rest is at word low has held)),
+  (λ old count limit slots id i from m p y xs is low idle left. behind ends k reuses dirty free looked count limit slots id m i (λ n. n) (λ n. (p.node, acts.Look from) ∷ []) (λ n m'. m' ≡ (with_part (look_part from y (with_batch from xs p)) m.0, m.1)) (λ again t r t' r' at n g. one_keeps r.rules.world p.node (acts.Look from) tt) (λ e n. refl) (old count limit slots id i from m p y xs is low idle left)),
+  (λ old count limit slots id i from m p y z ys is left hand message serials. behind ends k reuses dirty free looked count limit slots id m i (λ n. n) (λ n. (p.node, acts.Hand from) ∷ (from, acts.Post p.node) ∷ []) (λ n m'. m' ≡ (with_part (hand_part from (trusted from y) y p) m.0, m.1)) (λ again t r t' r' at n g. two_keep r.rules.world p.node from (acts.Hand from) (acts.Post p.node) tt tt) (λ e n. refl) (old count limit slots id i from m p y z ys is left hand message serials)),
 )
 
 -- an end that a router gives up by an act is let go
@@ -297,53 +326,53 @@ same_end i k b d o e f =
 -- an act of a router by which it gives up its end of a number, as a step of the table that is folded
 module _ (ends : EndLaws) (count limit k : ℕ) (reuses : Bool) (id i : ℕ) (b : Bool) (v : View) (p : Part) (serial : ℕ) (rt : Router) (act : RouterAct) (is : v.parts ≡ p ∷ [])
     (can : CanAct p.state serial rt act) (gives : let_go_end rt act ≡ Some (i, side_of b)) where
-  abbrev g9 : Known (virtual count limit)
-  g9 = turns_of count limit i (λ n. (p.node, acts.Router serial act) ∷ [])
+  abbrev g9 : Known (virtual count limit reuses)
+  g9 = turns_of count limit reuses i (λ n. (p.node, acts.Router serial act) ∷ [])
 
-  here9 : (t : St) (r : Rules count limit t) → get_elem? t.views id ≡ some v → router_at r.world (record { node = p.node; serial = serial }) ≡ Some rt
+  here9 : (t : BatchSt) (r : Batched count limit (not reuses) t) → get_elem? t.views id ≡ some v → router_at r.rules.world (record { node = p.node; serial = serial }) ≡ Some rt
   here9 t r at = router_here count limit id v p serial rt is can.there t r at
 
   -- it lets nothing else go but a spare
   pub loses_but : (but : ℕ → Type 0) → ((j : ℕ) → let_go_spare rt act ≡ Some j → but j) →
-      LosesBut (virtual count limit) (sizes count limit k reuses) id v (λ d j. ((d ≡ b) × (j ≡ i)) ⊎ but j) g9
+      LosesBut (virtual count limit reuses) (sizes count limit k reuses) id v (λ d j. ((d ≡ b) × (j ≡ i)) ⊎ but j) g9
   unfolding router_at
   loses_but but spare again t r t' r' at g d j l out gone held = ⊎_elim gone
       (λ lets. ⊎_elim (λ e. out (inl (same_end i j b d (let_go_end rt act) gives e))) (λ e. out (inr (spare j e)))
-      (gone_is r.world r.books r.routes p.node serial act rt j (side_of d) r.lawful (here9 t r at) g.0.may lets))
-      (ends.stay r.world r'.world r.books r'.books r.routes r'.routes ((p.node, acts.Router serial act) ∷ []) j (side_of d) r.lawful g held)
+      (gone_is r.rules.world r.rules.books r.rules.routes p.node serial act rt j (side_of d) r.rules.lawful (here9 t r at) g.0.may lets))
+      (ends.stay r.rules.world r'.rules.world r.rules.books r'.rules.books r.rules.routes r'.rules.routes ((p.node, acts.Router serial act) ∷ []) j (side_of d) r.rules.lawful g held)
 
-  pub lives9 : Lives (virtual count limit) (sizes count limit k reuses) id v i
+  pub lives9 : Lives (virtual count limit reuses) (sizes count limit k reuses) id v i
   lives9 = lives_by ends count limit k reuses id i v (λ t r at. (side_of b, ByRouter (record { node = p.node; serial = serial }) rt (here9 t r at) (lets_holds act i (side_of b) rt (end_goes rt act i (side_of b) gives))))
 
   -- a spare that it gives up is another word
-  pub other_word : (j : ℕ) → let_go_spare rt act ≡ Some j → (t : St) (r : Rules count limit t) → get_elem? t.views id ≡ some v → j ≢ i
+  pub other_word : (j : ℕ) → let_go_spare rt act ≡ Some j → (t : BatchSt) (r : Batched count limit (not reuses) t) → get_elem? t.views id ≡ some v → j ≢ i
   unfolding router_at
   other_word j spare t r at same =
-      let q = ends.given_up.spares r.world r.books r.routes p.node serial rt act j r.lawful (here9 t r at) spare in
+      let q = ends.given_up.spares r.rules.world r.rules.books r.rules.routes p.node serial rt act j r.rules.lawful (here9 t r at) spare in
       q.3 (same ∙ sym (ap (λ (e : ℕ × Side). e.0) (pair_is (q.0, q.1) (i, side_of b) (sym q.2 ∙ gives))))
 
   -- what it lets go is held by nobody then
-  pub goes9 : (t : St) (r : Rules count limit t) (t' : St) (r' : Rules count limit t') → get_elem? t.views id ≡ some v → g9 t r t' r' → (j : ℕ) (s : Side) → lets_go j s rt act ≡ true →
-      IsEndHeld r'.world j s → ⊥
-  goes9 t r t' r' at g j s lets held = ends.let_go r.world r.books r.routes p.node serial rt act j s r.lawful g.0.node (here9 t r at) g.0.may lets (subst (λ (u : World). IsEndHeld u j s) g.1.0 held)
+  pub goes9 : (t : BatchSt) (r : Batched count limit (not reuses) t) (t' : BatchSt) (r' : Batched count limit (not reuses) t') → get_elem? t.views id ≡ some v → g9 t r t' r' → (j : ℕ) (s : Side) → lets_go j s rt act ≡ true →
+      IsEndHeld r'.rules.world j s → ⊥
+  goes9 t r t' r' at g j s lets held = ends.let_go r.rules.world r.rules.books r.rules.routes p.node serial rt act j s r.rules.lawful g.0.node (here9 t r at) g.0.may lets (subst (λ (u : World). IsEndHeld u j s) g.1.0 held)
 
 pub letting_go : LettingGoLasts
 letting_go ends touches k reuses dirty free looked count limit slots id i b m p serial rt act is can plain gives none areas =
-    let x = virtual count limit in
+    let x = virtual count limit reuses in
     let z = sizes count limit k reuses in
-    letting x z (laws_of ends count limit k reuses) areas (turns_of count limit i (λ n. (p.node, acts.Router serial act) ∷ [])) slots id (own_of m.0 dirty free looked) m.1 i b
+    letting x z (laws_of ends count limit k reuses) areas (turns_of count limit reuses i (λ n. (p.node, acts.Router serial act) ∷ [])) slots id (own_of m.0 dirty free looked) m.1 i b
     (λ m'. m' ≡ (with_part (act_part (acts.Router serial act) answers.Plain p) m.0, m.1))
     (kept_by ends count limit k reuses i (λ n. (p.node, acts.Router serial act) ∷ []))
     (λ again t r t' r' at g d j l out. loses_but ends count limit k reuses id i b m.0 p serial rt act is can gives (λ q. ⊥) (λ q e. let f = sym none ∙ e in cc) again t r t' r' at g d j l (λ h. ⊎_elim out (λ q. q) h))
     (lives9 ends count limit k reuses id i b m.0 p serial rt act is can gives)
     (λ t r t' r' at g held. goes9 ends count limit k reuses id i b m.0 p serial rt act is can gives t r t' r' at g i (side_of b) (end_goes rt act i (side_of b) gives) held)
-    (touches count limit slots id i m p serial rt act is can plain)
+    (touches reuses count limit slots id i m p serial rt act is can plain)
 
 pub reusing : ReusingLasts
 reusing k dirty free looked one count limit slots id p m = (
-  (λ low. reclaims (virtual count limit) (sizes count limit k true) (are_sizes count limit k one) (turns_of count limit 0 (λ n. [])) slots id p (own_of m.0 dirty free looked) m.1 (λ t r. (refl, refl, refl)) refl low),
-  (λ has. empties (virtual count limit) (sizes count limit k true) (are_sizes count limit k one) (turns_of count limit 0 (λ n. [])) slots id p (own_of m.0 dirty free looked) m.1 (λ t r. (refl, refl, refl)) has),
-  (λ has. returns_slots (virtual count limit) (sizes count limit k true) (turns_of count limit 0 (λ n. [])) slots id p (own_of m.0 dirty free looked) m.1 (λ t r. (refl, refl, refl)) has),
+  (λ low. reclaims (virtual count limit true) (sizes count limit k true) (are_sizes count limit k one) (turns_of count limit true 0 (λ n. [])) slots id p (own_of m.0 dirty free looked) m.1 (λ t r. (refl, refl, refl)) refl low),
+  (λ has. empties (virtual count limit true) (sizes count limit k true) (are_sizes count limit k one) (turns_of count limit true 0 (λ n. [])) slots id p (own_of m.0 dirty free looked) m.1 (λ t r. (refl, refl, refl)) has),
+  (λ has. returns_slots (virtual count limit true) (sizes count limit k true) (turns_of count limit true 0 (λ n. [])) slots id p (own_of m.0 dirty free looked) m.1 (λ t r. (refl, refl, refl)) has),
 )
 
 same_number : (q j : ℕ) → Some q ≡ Some j → q ≡ j
@@ -351,20 +380,20 @@ same_number q j e = cc
 
 pub leaving : LeavingLasts
 leaving ends touches k dirty free looked one count limit slots id i j b m p serial rt act is can plain gives spare =
-    let x = virtual count limit in
+    let x = virtual count limit true in
     let z = sizes count limit k true in
     let goes : (s : Side) → lets_go j s rt act ≡ true = λ s. spare_goes rt act j s spare in
-    whole x z (laws_of ends count limit k true) (are_sizes count limit k one) (turns_of count limit i (λ n. (p.node, acts.Router serial act) ∷ [])) slots id (own_of m.0 dirty free looked) m.1 i j b
+    whole x z (laws_of ends count limit k true) (are_sizes count limit k one) (turns_of count limit true i (λ n. (p.node, acts.Router serial act) ∷ [])) slots id (own_of m.0 dirty free looked) m.1 i j b
     (λ m'. m' ≡ (with_part (act_part (acts.Router serial act) answers.Plain p) m.0, m.1))
     (kept_by ends count limit k true i (λ n. (p.node, acts.Router serial act) ∷ []))
     (loses_but ends count limit k true id i b m.0 p serial rt act is can gives (λ q. q ≡ j) (λ q e. same_number q j (sym e ∙ spare)))
     refl
     (lives9 ends count limit k true id i b m.0 p serial rt act is can gives)
     (λ t r at.
-    let held : (s : Side) → IsEndHeld r.world j s = λ s. ByRouter (record { node = p.node; serial = serial }) rt (here9 ends count limit k true id i b m.0 p serial rt act is can gives t r at) (lets_holds act j s rt (goes s)) in
-    ((let below = held_claimed ends r.world r.books r.routes r.lawful j A (held A) in let e = count_is count limit t r in omega (arith, e, below)), (λ d gone. gone (held (side_of d)))))
+    let held : (s : Side) → IsEndHeld r.rules.world j s = λ s. ByRouter (record { node = p.node; serial = serial }) rt (here9 ends count limit k true id i b m.0 p serial rt act is can gives t r at) (lets_holds act j s rt (goes s)) in
+    ((let below = held_claimed ends r.rules.world r.rules.books r.rules.routes r.rules.lawful j A (held A) in let e = count_is count limit t r in omega (arith, e, below)), (λ d gone. gone (held (side_of d)))))
     (other_word ends count limit k true id i b m.0 p serial rt act is can gives j spare)
     (λ t r t' r' at g.
-    let gone : (q : ℕ) (s : Side) → lets_go q s rt act ≡ true → IsEndHeld r'.world q s → ⊥ = λ q s. goes9 ends count limit k true id i b m.0 p serial rt act is can gives t r t' r' at g q s in
+    let gone : (q : ℕ) (s : Side) → lets_go q s rt act ≡ true → IsEndHeld r'.rules.world q s → ⊥ = λ q s. goes9 ends count limit k true id i b m.0 p serial rt act is can gives t r t' r' at g q s in
     (gone i (side_of b) (end_goes rt act i (side_of b) gives), (gone j A (goes A), gone j B (goes B))))
     (touches count limit slots id i m p serial rt act is can plain)

@@ -1,10 +1,13 @@
 -- A claim on a table whose link words come back: the numbers before it are passed over, and then it is the rule's own.
-use Rattle.std.specs.Prelude.{◌≡◌, ◌≤◌, ◌<◌, ◌⊎◌, ◌+◌, ℕ, zero, suc, eqb, nat_eq, Bool, true, false, List, [], ◌∷◌, length, slice_index, Option, Some, None, refl, MatchBool}
+use Rattle.std.specs.Prelude.{◌≡◌, ◌≤◌, ◌<◌, ◌⊎◌, ◌+◌, ◌*◌, ℕ, zero, suc, eqb, nat_eq, Bool, true, false, List, [], ◌∷◌, length, slice_index, Option, Some, None, refl, MatchBool}
 use Rattle.std.proofs.Common.{arith, ap, ◌∙◌, sym, subst, inl, inr, ⊎_elim, set, length-set, get_or-set_same, get_or-set_other, eqb-true}
 use Rattle.std.proofs.lemmas.Bool.Decides.{nat_tests}
 use prog.Atomic.{either}
 use mathlib.Core.Option.{some}
+use mathlib.Core.Logic.{dite}
+use native.Mathlib.Decide.{ℕ_discrete}
 use lib.ListN.{get_elem?}
+use Rattle.ipcz_base.specs.Indexed.{place_at}
 use Rattle.atomic_table.specs.Table.{Act as TableAct, Valid, stepped, carried_after}
 use Rattle.ipcz_base.specs.declared.side.Side.{Side}
 use Rattle.ipcz_word.specs.Word.{Word}
@@ -26,10 +29,11 @@ use Rattle.ipcz_world.specs.WorldLaws.{LawfulStraysNothing}
 use Rattle.ipcz_world.specs.HeldEnds.{IsEndHeld, ByRouter, ByOpen, ByOutbox, ByMailbox, PassingKeepsLawful, passed_over, lose_words}
 use Rattle.ipcz_rule.specs.declared.view.View.{View}
 use Rattle.ipcz_rule.specs.declared.view.Part.{Part}
-use Rattle.ipcz_rule.specs.Rule.{Slot, St, Mine, inbox, mailbox, MailAt, Inboxes, Rules, Spells, Shows, with_part, saw}
+use Rattle.ipcz_rule.specs.Rule.{St, inbox, mailbox, MailAt, Inboxes, Rules, Spells, Shows, with_part, saw}
 use Rattle.ipcz_world.specs.declared.mail.Mail.{Mail}
 use Rattle.ipcz_rule.specs.Steps.{CanAct, act_part}
-use Rattle.ipcz_rule.specs.Kinds.{IsTurns, Follows, Loads, Claims, turn_where}
+use Rattle.ipcz_rule.specs.Kinds.{Loads, Claims, turn_where}
+use Rattle.ipcz_rule.specs.Batches.{Batch, BatchSt, BatchMine, Batched, BatchTurns, Folds, MailFolds, plain_count}
 use Rattle.ipcz_slots.specs.SlotKinds.{Known, Steps, Keeps, LosesNone, Skips, Takes}
 use Rattle.ipcz_rule.specs.Lasting.{EndLaws, virtual, sizes, side_of, turns_of, own_of}
 use Rattle.ipcz_rule.specs.LastingClaims.{passing_turns, ClaimsOnSlots, ClaimsInTheirOrder, ClaimsLast}
@@ -173,6 +177,69 @@ module _ (ends : EndLaws) (passing : PassingKeepsLawful) (strays : LawfulStraysN
   unfolding passed_rules
   passed_deeds deeds v b g are = ((let z = r.words in omega (arith, z, most)), are)
 
+-- the table of batches whose count has passed over so many numbers folds that one
+module _ (ends : EndLaws) (passing : PassingKeepsLawful) (strays : LawfulStraysNothing) (count limit : ℕ) {alone : Bool} (s : BatchSt) (b : Batched count limit alone s) (skip : ℕ)
+    (most : b.rules.world.claimed + skip ≤ limit) where
+  abbrev n3 : ℕ
+  n3 = b.rules.world.claimed + skip
+
+  abbrev pub s1 : BatchSt
+  s1 = record { words = set s.words limit n3; homes = s.homes; views = s.views }
+
+  abbrev u1 : St
+  u1 = t1 ends passing strays count limit b.single b.rules skip most
+
+  pub wide2 : limit < length s.words
+  wide2 = let w = wide1 ends passing strays count limit b.single b.rules skip most in let e = b.folds.wide in omega (arith, w, e)
+
+  word2 : (i : ℕ) → i < plain_count count limit → slice_index s1.words i ≡ slice_index u1.words i
+  word2 i l = dite (ℕ_discrete i limit)
+      (λ e. ap (slice_index s1.words) e ∙ (get_or-set_same s.words limit n3 0 wide2
+      ∙ sym (ap (slice_index u1.words) e ∙ get_or-set_same b.single.words limit n3 0 (wide1 ends passing strays count limit b.single b.rules skip most))))
+      (λ ne. get_or-set_other s.words limit i n3 0 ne ∙ (b.folds.words i l ∙ sym (get_or-set_other b.single.words limit i n3 0 ne)))
+
+  box2 : (k : ℕ) → slice_index s1.words (plain_count count limit + k) ≡ slice_index s.words (plain_count count limit + k)
+  box2 k = get_or-set_other s.words limit (plain_count count limit + k) n3 0 (λ e. omega (arith, e))
+
+  box3 : (k : ℕ) → slice_index u1.words (plain_count count limit + k) ≡ slice_index b.single.words (plain_count count limit + k)
+  box3 k = get_or-set_other b.single.words limit (plain_count count limit + k) n3 0 (λ e. omega (arith, e))
+
+  folds1 : Folds count limit alone s1 u1 b.fronts b.left
+  folds1 = record {
+    wide = length-set s.words limit n3 ∙ (b.folds.wide ∙ sym (length-set b.single.words limit n3));
+    deep = b.folds.deep;
+    many = b.folds.many;
+    words = word2;
+    mail = λ from to lf lt. let k = from * count + to in
+        subst (λ n. MailFolds n (get_elem? s.homes k) (slice_index u1.words (plain_count count limit + k)) (get_elem? b.single.homes k) (place_at [] (b.fronts from) to) (b.left from to)) (sym (box2 k))
+        (subst (λ n. MailFolds (slice_index s.words (plain_count count limit + k)) (get_elem? s.homes k) n (get_elem? b.single.homes k) (place_at [] (b.fronts from) to) (b.left from to)) (sym (box3 k))
+        (b.folds.mail from to lf lt));
+    views = b.folds.views;
+    parts = b.folds.parts;
+    announced = λ from to lf lt some_left. ap (λ n. bit_at n from) (get_or-set_other s.words limit (limit + 1 + to) n3 0 (λ e. omega (arith, e))) ∙ b.folds.announced from to lf lt some_left;
+    none_behind = b.folds.none_behind;
+    none_left = b.folds.none_left;
+  }
+
+  pub passed_batched : Batched count limit alone s1
+  passed_batched = record {
+    single = u1;
+    rules = passed_rules ends passing strays count limit b.single b.rules skip most;
+    fronts = b.fronts;
+    left = b.left;
+    folds = folds1;
+  }
+
+  pub passed_world2 : passed_batched.rules.world ≡ passed_over b.rules.world skip
+  unfolding passed_batched
+  passed_world2 = passed_world ends passing strays count limit b.single b.rules skip most
+
+  -- deeds from what it shows are deeds behind those numbers
+  pub passed_deeds2 : (deeds : List Deed) (v : World) (d : Books) (g : Routes) → AreDeeds passed_batched.rules.world passed_batched.rules.books passed_batched.rules.routes deeds v d g →
+      AreDeeds b.rules.world b.rules.books b.rules.routes (Beside (Passes skip) ∷ deeds) v d g
+  unfolding passed_batched
+  passed_deeds2 = passed_deeds ends passing strays count limit b.single b.rules skip most
+
 -- one value over another
 pub set_over : (l : List ℕ) (i a b : ℕ) → set (set l i a) i b ≡ set l i b
 set_over [] i a b = refl
@@ -183,44 +250,45 @@ pub eqb_self : (n : ℕ) → eqb n n ≡ true
 eqb_self n = grind (arith, nat_tests)
 
 -- a claim of a number beyond the count, on the virtual table
-module _ (ends : EndLaws) (passing : PassingKeepsLawful) (strays : LawfulStraysNothing) (loads : Loads IsTurns) (old : Claims IsTurns)
-    (count limit slots id c skip : ℕ) (m : Mine) (p : Part) (serial : ℕ) (rt : Router) (is : m.0.parts ≡ p ∷ []) (can : CanAct p.state serial rt router_acts.Claim) (small : c + skip < limit)
-    (t : St) (r : Rules count limit t) (deep : length t.homes ≡ slots) (at : get_elem? t.views id ≡ some m.0) (fits : slice_index t.words limit < 18446744073709551616) (tiny : limit < 18446744073709551616) where
+module _ (ends : EndLaws) (passing : PassingKeepsLawful) (strays : LawfulStraysNothing) (loads : Loads (BatchTurns false)) (old : Claims (BatchTurns false))
+    (count limit slots id c skip : ℕ) (m : BatchMine) (p : Part) (serial : ℕ) (rt : Router) (is : m.0.parts ≡ p ∷ []) (can : CanAct p.state serial rt router_acts.Claim) (small : c + skip < limit)
+    (t : BatchSt) (r : Batched count limit false t) (deep : length t.homes ≡ slots) (at : get_elem? t.views id ≡ some m.0) (fits : slice_index t.words limit < 18446744073709551616) (tiny : limit < 18446744073709551616) where
   abbrev act2 : Act
   act2 = acts.Router serial router_acts.Claim
 
   abbrev n2 : ℕ
   n2 = slice_index t.words limit
 
-  abbrev left2 : Mine
+  abbrev left2 : BatchMine
   left2 = (with_part (act_part act2 (answers.Claimed (c + skip)) p) (saw limit (c + skip) m.0), m.1)
 
   -- what it is, by whether the count was found
   abbrev Res2 : Bool → Type 0
-  Res2 b = (v : View) × (a : TableAct Slot) × Valid t.homes m.1 a ×
-      ((r' : Rules count limit (stepped t limit (either b (c + skip + 1) n2) id m.1 v a)) ×
+  Res2 b = (v : View) × (a : TableAct Batch) × Valid t.homes m.1 a ×
+      ((r' : Batched count limit false (stepped t limit (either b (c + skip + 1) n2) id m.1 v a)) ×
       MatchBool b (passing_turns count limit c skip ((p.node, act2) ∷ []) t r (stepped t limit (either b (c + skip + 1) n2) id m.1 v a) r')
-      (turns_of count limit limit (λ n. []) t r (stepped t limit (either b (c + skip + 1) n2) id m.1 v a) r')) ×
-      MatchBool b (◌≡◌ {A = Mine} (v, carried_after m.1 a) left2) (◌≡◌ {A = Mine} (v, carried_after m.1 a) (saw limit n2 m.0, m.1))
+      (turns_of count limit true limit (λ n. []) t r (stepped t limit (either b (c + skip + 1) n2) id m.1 v a) r')) ×
+      MatchBool b (◌≡◌ {A = BatchMine} (v, carried_after m.1 a) left2) (◌≡◌ {A = BatchMine} (v, carried_after m.1 a) (saw limit n2 m.0, m.1))
 
   by2 : (b : Bool) → eqb n2 c ≡ b → Res2 b
-  unfolding set_claimed passed_rules
+  unfolding set_claimed passed_rules passed_batched
   by2 true e =
-      let found : r.world.claimed ≡ c = sym (count_is count limit t r) ∙ eqb-true n2 c e in
-      let most : r.world.claimed + skip ≤ limit = omega (arith, found, small) in
-      let t' : St = t1 ends passing strays count limit t r skip most in
-      let r1 = passed_rules ends passing strays count limit t r skip most in
+      let found : r.rules.world.claimed ≡ c = sym (count_is count limit t r) ∙ eqb-true n2 c e in
+      let most : r.rules.world.claimed + skip ≤ limit = omega (arith, found, small) in
+      let t' : BatchSt = s1 ends passing strays count limit t r skip most in
+      let r1 = passed_batched ends passing strays count limit t r skip most in
       let k : ℕ = c + skip in
-      let same : r.world.claimed + skip ≡ k = omega (arith, found) in
-      let here : slice_index t'.words limit ≡ k = get_or-set_same t.words limit (r.world.claimed + skip) 0 (wide1 ends passing strays count limit t r skip most) ∙ same in
-      let Raw : ℕ → Bool → Type 0 = λ j b. (v : View) × (a : TableAct Slot) × Valid t.homes m.1 a ×
-      Follows count limit t' r1 (turn_where b p.node act2) (stepped t' limit (either b (k + 1) j) id m.1 v a) ×
-      MatchBool b (◌≡◌ {A = Mine} (v, carried_after m.1 a) (with_part (act_part act2 (answers.Claimed k) p) (saw limit j m.0), m.1)) (◌≡◌ {A = Mine} (v, carried_after m.1 a) (saw limit j m.0, m.1)) in
+      let same : r.rules.world.claimed + skip ≡ k = omega (arith, found) in
+      let here : slice_index t'.words limit ≡ k = get_or-set_same t.words limit (r.rules.world.claimed + skip) 0 (wide2 ends passing strays count limit t r skip most) ∙ same in
+      let Raw : ℕ → Bool → Type 0 = λ j b. (v : View) × (a : TableAct Batch) × Valid t.homes m.1 a ×
+      ((b' : Batched count limit false (stepped t' limit (either b (k + 1) j) id m.1 v a)) ×
+      AreTurns r1.rules.world r1.rules.books r1.rules.routes (turn_where b p.node act2) b'.rules.world b'.rules.books b'.rules.routes) ×
+      MatchBool b (◌≡◌ {A = BatchMine} (v, carried_after m.1 a) (with_part (act_part act2 (answers.Claimed k) p) (saw limit j m.0), m.1)) (◌≡◌ {A = BatchMine} (v, carried_after m.1 a) (saw limit j m.0, m.1)) in
       let raw : Raw (slice_index t'.words limit) (eqb (slice_index t'.words limit) k) = old count limit slots id k m p serial rt is can small t' r1 deep at (subst (λ (q : ℕ). q < 18446744073709551616) (sym here) (omega (arith, small, tiny))) in
       let done : Raw k true = subst (λ (b : Bool). Raw k b) (eqb_self k) (subst (λ (j : ℕ). Raw j (eqb j k)) here raw) in
-      let Out : List ℕ → Type 0 = λ ws. (r' : Rules count limit (record { words = ws; homes = (stepped t' limit (k + 1) id m.1 done.0 done.1).homes; views = (stepped t' limit (k + 1) id m.1 done.0 done.1).views })) ×
-      AreTurns (passed_over r.world skip) r.books (lose_words r.routes r.world.claimed skip) ((p.node, act2) ∷ []) r'.world r'.books r'.routes in
-      let out = subst Out (set_over t.words limit (r.world.claimed + skip) (k + 1)) done.3 in
+      let Out : List ℕ → Type 0 = λ ws. (r' : Batched count limit false (record { words = ws; homes = (stepped t' limit (k + 1) id m.1 done.0 done.1).homes; views = (stepped t' limit (k + 1) id m.1 done.0 done.1).views })) ×
+      AreTurns (passed_over r.rules.world skip) r.rules.books (lose_words r.rules.routes r.rules.world.claimed skip) ((p.node, act2) ∷ []) r'.rules.world r'.rules.books r'.rules.routes in
+      let out = subst Out (set_over t.words limit (r.rules.world.claimed + skip) (k + 1)) done.3 in
       (done.0, done.1, done.2, (out.0, (found, omega (arith, small), out.1)), done.4)
   by2 false e = loads count limit slots id limit m p is t r deep at fits
 
@@ -229,50 +297,50 @@ module _ (ends : EndLaws) (passing : PassingKeepsLawful) (strays : LawfulStraysN
 
 -- what was nowhere stays so, and nobody has the numbers that were passed over
 module _ (ends : EndLaws) (passing : PassingKeepsLawful) (count limit k c skip : ℕ) (p : Part) (serial : ℕ) where
-  abbrev g3 : Known (virtual count limit)
+  abbrev g3 : Known (virtual count limit true)
   g3 = passing_turns count limit c skip ((p.node, acts.Router serial router_acts.Claim) ∷ [])
 
   -- who holds an end then held it before, or the number wasn't passed over
-  was3 : (t : St) (r : Rules count limit t) (t' : St) (r' : Rules count limit t') → g3 t r t' r' → (i : ℕ) (s : Side) → IsEndHeld r'.world i s → IsEndHeld r.world i s ⊎ (c + skip ≤ i)
+  was3 : (t : BatchSt) (r : Batched count limit false t) (t' : BatchSt) (r' : Batched count limit false t') → g3 t r t' r' → (i : ℕ) (s : Side) → IsEndHeld r'.rules.world i s → IsEndHeld r.rules.world i s ⊎ (c + skip ≤ i)
   was3 t r t' r' g i s held =
-      let most : r.world.claimed + skip ≤ r.world.size = let z = r.words in let e = g.0 in let l = g.1 in omega (arith, z, e, l) in
-      ⊎_elim (λ h. inl (held_same r.world (r.world.claimed + skip) i s h)) (λ far. inr (let e = g.0 in let q = claimed_same r.world (r.world.claimed + skip) in omega (arith, far, e, q)))
-      (ends.kept (passed_over r.world skip) r'.world r.books r'.books (lose_words r.routes r.world.claimed skip) r'.routes ((p.node, acts.Router serial router_acts.Claim) ∷ []) i s (passing r.world r.books r.routes skip r.lawful most) g.2 held)
+      let most : r.rules.world.claimed + skip ≤ r.rules.world.size = let z = r.rules.words in let e = g.0 in let l = g.1 in omega (arith, z, e, l) in
+      ⊎_elim (λ h. inl (held_same r.rules.world (r.rules.world.claimed + skip) i s h)) (λ far. inr (let e = g.0 in let q = claimed_same r.rules.world (r.rules.world.claimed + skip) in omega (arith, far, e, q)))
+      (ends.kept (passed_over r.rules.world skip) r'.rules.world r.rules.books r'.rules.books (lose_words r.rules.routes r.rules.world.claimed skip) r'.rules.routes ((p.node, acts.Router serial router_acts.Claim) ∷ []) i s (passing r.rules.world r.rules.books r.rules.routes skip r.rules.lawful most) g.2 held)
 
-  pub passes_kept : Keeps (virtual count limit) (sizes count limit k true) g3
+  pub passes_kept : Keeps (virtual count limit true) (sizes count limit k true) g3
   passes_kept t r t' r' g b i l gone held = ⊎_elim gone (λ far. let e = count_is count limit t r in let f = g.0 in omega (arith, e, f, far, l)) (was3 t r t' r' g i (side_of b) held)
 
-  pub passes_skipped : Skips (virtual count limit) (sizes count limit k true) g3 (c + skip)
+  pub passes_skipped : Skips (virtual count limit true) (sizes count limit k true) g3 (c + skip)
   passes_skipped t r t' r' g b i far under held = ⊎_elim
-      (λ h. let low = held_claimed ends r.world r.books r.routes r.lawful i (side_of b) h in let e = count_is count limit t r in omega (arith, e, low, far))
+      (λ h. let low = held_claimed ends r.rules.world r.rules.books r.rules.routes r.rules.lawful i (side_of b) h in let e = count_is count limit t r in omega (arith, e, low, far))
       (λ beyond. omega (arith, beyond, under))
       (was3 t r t' r' g i (side_of b) held)
 
   -- who is held stays so
-  pub passes_loses : (id : ℕ) (v : View) → LosesNone (virtual count limit) (sizes count limit k true) id v g3
+  pub passes_loses : (id : ℕ) (v : View) → LosesNone (virtual count limit true) (sizes count limit k true) id v g3
   passes_loses id v again t r t' r' at g b i l gone held =
-      let most : r.world.claimed + skip ≤ r.world.size = let z = r.words in let e = g.0 in let l = g.1 in omega (arith, z, e, l) in
-      ⊎_elim gone (λ lets. one_keeps (passed_over r.world skip) p.node (acts.Router serial router_acts.Claim) (claim_keeps serial) i (side_of b) lets)
-      (ends.stay (passed_over r.world skip) r'.world r.books r'.books (lose_words r.routes r.world.claimed skip) r'.routes ((p.node, acts.Router serial router_acts.Claim) ∷ []) i (side_of b)
-      (passing r.world r.books r.routes skip r.lawful most) g.2 (held_then r.world (r.world.claimed + skip) i (side_of b) held))
+      let most : r.rules.world.claimed + skip ≤ r.rules.world.size = let z = r.rules.words in let e = g.0 in let l = g.1 in omega (arith, z, e, l) in
+      ⊎_elim gone (λ lets. one_keeps (passed_over r.rules.world skip) p.node (acts.Router serial router_acts.Claim) (claim_keeps serial) i (side_of b) lets)
+      (ends.stay (passed_over r.rules.world skip) r'.rules.world r.rules.books r'.rules.books (lose_words r.rules.routes r.rules.world.claimed skip) r'.rules.routes ((p.node, acts.Router serial router_acts.Claim) ∷ []) i (side_of b)
+      (passing r.rules.world r.rules.books r.rules.routes skip r.rules.lawful most) g.2 (held_then r.rules.world (r.rules.world.claimed + skip) i (side_of b) held))
 
   -- and both ends of the number that is claimed are held
-  pub passes_takes : (id : ℕ) (v : View) → c + skip < limit → Takes (virtual count limit) id v g3 (c + skip)
+  pub passes_takes : (id : ℕ) (v : View) → c + skip < limit → Takes (virtual count limit true) id v g3 (c + skip)
   passes_takes id v small t r t' r' at g b gone =
-      let room : has_unclaimed_word (passed_over r.world skip) ≡ true = unclaimed_left r.world (r.world.claimed + skip) (let z = r.words in let e = g.0 in omega (arith, z, e, small)) in
-      let held = ends.claimed.router (passed_over r.world skip) p.node serial (side_of b) g.2.0.may room in
-      gone (subst (λ (n : ℕ). IsEndHeld r'.world n (side_of b)) (claimed_same r.world (r.world.claimed + skip) ∙ (let e = g.0 in omega (arith, e)))
-      (subst (λ (u : World). IsEndHeld u (passed_over r.world skip).claimed (side_of b)) (sym g.2.1.0) held))
+      let room : has_unclaimed_word (passed_over r.rules.world skip) ≡ true = unclaimed_left r.rules.world (r.rules.world.claimed + skip) (let z = r.rules.words in let e = g.0 in omega (arith, z, e, small)) in
+      let held = ends.claimed.router (passed_over r.rules.world skip) p.node serial (side_of b) g.2.0.may room in
+      gone (subst (λ (n : ℕ). IsEndHeld r'.rules.world n (side_of b)) (claimed_same r.rules.world (r.rules.world.claimed + skip) ∙ (let e = g.0 in omega (arith, e)))
+      (subst (λ (u : World). IsEndHeld u (passed_over r.rules.world skip).claimed (side_of b)) (sym g.2.1.0) held))
 
-claims_beyond : EndLaws → PassingKeepsLawful → LawfulStraysNothing → Loads IsTurns → Claims IsTurns → ClaimsOnSlots
+claims_beyond : EndLaws → PassingKeepsLawful → LawfulStraysNothing → Loads (BatchTurns false) → Claims (BatchTurns false) → ClaimsOnSlots
 claims_beyond ends passing strays loads old k dirty free looked one count limit slots id c skip m p serial rt is can small tiny has =
-    let x = virtual count limit in
+    let x = virtual count limit true in
     let z = sizes count limit k true in
     let n : ℕ = c + skip in
     let g : Known x = passing_turns count limit c skip ((p.node, acts.Router serial router_acts.Claim) ∷ []) in
-    let h : Known x = turns_of count limit limit (λ j. []) in
-    let hit : Mine → Type 0 = λ m'. m' ≡ (with_part (act_part (acts.Router serial router_acts.Claim) (answers.Claimed n) p) (saw limit n m.0), m.1) in
-    let miss : ℕ → Mine → Type 0 = λ j m'. m' ≡ (saw limit j m.0, m.1) in
+    let h : Known x = turns_of count limit true limit (λ j. []) in
+    let hit : BatchMine → Type 0 = λ m'. m' ≡ (with_part (act_part (acts.Router serial router_acts.Claim) (answers.Claimed n) p) (saw limit n m.0), m.1) in
+    let miss : ℕ → BatchMine → Type 0 = λ j m'. m' ≡ (saw limit j m.0, m.1) in
     let P : ℕ → Type 0 = λ q. Steps x (λ t r t' r'. MatchBool (eqb (slice_index t.words limit) c) (g t r t' r') (h t r t' r')) slots id m q (λ j. either (eqb j c) (n + 1) j) (λ j m'. MatchBool (eqb j c) (hit m') (miss j m')) in
     let steps : P limit = λ t r deep at fits. claimed_beyond ends passing strays loads old count limit slots id c skip m p serial rt is can small t r deep at fits tiny in
     claims x z (laws_of ends count limit k true) (are_sizes count limit k one) g h slots id c n (own_of m.0 dirty free looked) m.1 hit miss
@@ -281,16 +349,16 @@ claims_beyond ends passing strays loads old k dirty free looked one count limit 
     (loses_none ends count limit k true id limit m.0 (λ j. []) (λ again t r t' r' at g j s h. h)) (omega arith) small has (subst P (omega arith) steps)
 
 -- where slots aren't used again a claim is the rule's own
-claims_in_their_order : EndLaws → Claims IsTurns → ClaimsInTheirOrder
+claims_in_their_order : EndLaws → Claims (BatchTurns true) → ClaimsInTheirOrder
 claims_in_their_order ends old k dirty free looked count limit slots id c m p serial rt is can few areas =
-    let x = virtual count limit in
+    let x = virtual count limit false in
     let z = sizes count limit k false in
     let act = acts.Router serial router_acts.Claim in
     let turns : ℕ → List (ℕ × Act) = λ n. turn_where (eqb n c) p.node act in
-    let told : ℕ → Mine → Type 0 = λ n m'. MatchBool (eqb n c) (m' ≡ (with_part (act_part act (answers.Claimed c) p) (saw limit n m.0), m.1)) (m' ≡ (saw limit n m.0, m.1)) in
-    claims_in_order x z (laws_of ends count limit k false) areas (turns_of count limit limit turns) slots id c (own_of m.0 dirty free looked) m.1 told
+    let told : ℕ → BatchMine → Type 0 = λ n m'. MatchBool (eqb n c) (m' ≡ (with_part (act_part act (answers.Claimed c) p) (saw limit n m.0), m.1)) (m' ≡ (saw limit n m.0, m.1)) in
+    claims_in_order x z (laws_of ends count limit k false) areas (turns_of count limit false limit turns) slots id c (own_of m.0 dirty free looked) m.1 told
     (kept_by ends count limit k false limit turns) refl few
-    (subst (λ (q : ℕ). Steps x (turns_of count limit limit turns) slots id m q (λ n. either (eqb n c) (c + 1) n) told) (omega arith) (old count limit slots id c m p serial rt is can few))
+    (subst (λ (q : ℕ). Steps x (turns_of count limit false limit turns) slots id m q (λ n. either (eqb n c) (c + 1) n) told) (omega arith) (old count limit slots id c m p serial rt is can few))
 
 pub claims_last : ClaimsLast
-claims_last ends passing strays loads old = (claims_beyond ends passing strays loads old, claims_in_their_order ends old)
+claims_last ends passing strays loads old = (claims_beyond ends passing strays (loads false) (old false), claims_in_their_order ends (old true))

@@ -1,6 +1,19 @@
 pub mod Acting
 pub mod Adding
 pub mod Announcing
+pub mod BatchClearing
+pub mod BatchGoingOn
+pub mod BatchHanding
+pub mod BatchHomes
+pub mod BatchLooking
+pub mod BatchMail
+pub mod BatchMailKinds
+pub mod BatchSteps
+pub mod BatchedKinds
+pub mod BatchPlainKinds
+pub mod BatchesAll
+pub mod BatchPosting
+pub mod BatchProbing
 pub mod Calling
 pub mod Claiming
 pub mod Clearing
@@ -21,6 +34,7 @@ pub mod Moved
 pub mod OldLinks
 pub mod Opening
 pub mod Posting
+pub mod PostingBeside
 pub mod Probing
 pub mod Putting
 pub mod QuietParts
@@ -48,3 +62,8 @@ pub mod LastingRuns
 pub mod KeptEnds
 pub mod RunningDry
 pub mod Wetting
+pub mod BatchSeats
+pub mod KeptMail
+pub mod BatchedLaws
+pub mod BatchedStart
+pub mod BatchedQuiet

@@ -87,7 +87,7 @@ pub without_other : (js : List ℕ) (i k : ℕ) → k ≢ i → has_number (with
 without_other [] i k ne = refl
 without_other (j ∷ js) i k ne = other_by (nat_eq j i) js i j k ne refl (without_other js i k ne)
 
-post_hand : (x : Node) (to : ℕ) → (commit x (node_acts.Post to) answers.Plain).hand ≡ x.hand
+pub post_hand : (x : Node) (to : ℕ) → (commit x (node_acts.Post to) answers.Plain).hand ≡ x.hand
 unfolding commit
 post_hand x to = refl
 
@@ -95,7 +95,7 @@ look_hand : (x : Node) (from : ℕ) → (commit x (node_acts.Look from) answers.
 unfolding commit
 look_hand x from = refl
 
-post_after : (w : World) (n to : ℕ) (x : Node) (m : Message) → node_at w n ≡ x → post_of x (node_acts.Post to) ≡ Some m →
+pub post_after : (w : World) (n to : ℕ) (x : Node) (m : Message) → node_at w n ≡ x → post_of x (node_acts.Post to) ≡ Some m →
     after_act w n (node_acts.Post to) ≡ set_mail (set_node w n (commit x (node_acts.Post to) answers.Plain)) (way w n to) (mails.Full m)
 unfolding after_act after_post
 post_after w n to x m is first =
@@ -113,7 +113,7 @@ unfolding after_act after_hand hand_message
 hand_after w n from x m is full =
     ap (λ z. after_hand w n from (hand_message z)) full ∙ ap (λ y. set_mail (set_node w n (deliver y from m (source_for w m))) (way w from n) mails.Empty) is
 
-post_written : (w : World) (b : Books) (n to : ℕ) → advance w b (steps.Turn n) (replies.Turned (turn_event w n (node_acts.Post to))) ≡ b
+pub post_written : (w : World) (b : Books) (n to : ℕ) → advance w b (steps.Turn n) (replies.Turned (turn_event w n (node_acts.Post to))) ≡ b
 unfolding advance turn_event event_of after_turn
 post_written w b n to = refl
 
@@ -125,7 +125,7 @@ pub hand_written : (w : World) (b : Books) (n from : ℕ) (m : Message) → mail
 unfolding advance turn_event hand_seen hand_event after_turn hand_message
 hand_written w b n from m full = rw full refl
 
-post_can : (w : World) (n to : ℕ) (x : Node) → node_at w n ≡ x → to < w.count → has_mail_for x to ≡ true → mail_at w (way w n to) ≡ mails.Empty → can_take w n (node_acts.Post to) ≡ true
+pub post_can : (w : World) (n to : ℕ) (x : Node) → node_at w n ≡ x → to < w.count → has_mail_for x to ≡ true → mail_at w (way w n to) ≡ mails.Empty → can_take w n (node_acts.Post to) ≡ true
 unfolding can_take is_clear
 post_can w n to x is l has empty = let t : nat_lt to w.count ≡ true = grind (arith, nat_tests, l) in rw (t, is, empty, has) refl
 
@@ -137,7 +137,7 @@ pub hand_can : (w : World) (n from : ℕ) (x : Node) (m : Message) → node_at w
 unfolding can_take is_hand_of hand_message
 hand_can w n from x m is some_hand full = let t : nat_eq from from ≡ true = grind (arith, nat_tests) in rw (is, some_hand, full, t) refl
 
-post_lacks : (w : World) (n to : ℕ) → turn_lacks_serials w n (node_acts.Post to) ≡ false
+pub post_lacks : (w : World) (n to : ℕ) → turn_lacks_serials w n (node_acts.Post to) ≡ false
 unfolding turn_lacks_serials act_lacks_serials
 post_lacks w n to = refl
 

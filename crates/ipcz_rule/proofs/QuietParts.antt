@@ -34,7 +34,7 @@ below_or k n = go (nat_lt k n) refl
     go false e = inr (grind (arith, nat_tests, e))
 
 -- a number below a product is that of a pair
-split : (m c k : ℕ) → k < m * c → (a : ℕ) × (b : ℕ) × (a < m) × (b < c) × (k ≡ a * c + b)
+pub split : (m c k : ℕ) → k < m * c → (a : ℕ) × (b : ℕ) × (a < m) × (b < c) × (k ≡ a * c + b)
 split zero c k l = absurd (omega (arith, l))
 split (suc m) c k l = ⊎_elim
     (λ (low : k < m * c). let t = split m c k low in (t.0, t.1, (let h = t.2 in omega (arith, h)), t.3, t.4))

@@ -149,7 +149,7 @@ module _ (count size : ℕ) (limits : IsWithinLimits count size) where
       ∙ (read-behind (replicate pairs 3) (replicate (size - pairs) 0 ++ (pairs ∷ behind)) pairs ((size - pairs) + i) (length-replicate {A = ℕ} pairs 3)
       ∙ read-behind (replicate (size - pairs) 0) (pairs ∷ behind) (size - pairs) i (length-replicate {A = ℕ} (size - pairs) 0))
 
-  mail_zero : (k : ℕ) → get_or words (size + 1 + count + k) 0 ≡ 0
+  pub mail_zero : (k : ℕ) → get_or words (size + 1 + count + k) 0 ≡ 0
   mail_zero k = let e : size + 1 + count + k ≡ size + suc (count + k) = omega arith in
       ap (λ n. get_or words n 0) e ∙ (behind_links (suc (count + k)) ∙ read-zeros (count + count * count) (count + k))
 

@@ -29,6 +29,7 @@ noted e p = record {
   state = p.state;
   message = p.message;
   probed = p.probed;
+  batches = p.batches;
   put = p.put;
   got = p.got;
   gone = p.gone;

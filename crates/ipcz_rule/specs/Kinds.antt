@@ -9,7 +9,7 @@ use Rattle.std.specs.Int.{bit_at}
 use prog.Atomic.{either}
 use mathlib.Core.Option.{some}
 use lib.ListN.{get_elem?}
-use Rattle.atomic_table.specs.Table.{Act as TableAct, Joins, Valid, stepped, carried_after}
+use Rattle.atomic_table.specs.Table.{Act as TableAct, Me, Joins, Valid, stepped, carried_after}
 use Rattle.ipcz_base.specs.declared.profile.Profile.{Profile}
 use Rattle.ipcz_base.specs.declared.end.End.{End}
 use Rattle.ipcz_base.specs.declared.message.Message.{Message}
@@ -58,8 +58,12 @@ Follows count size s r turns s' = (r' : Rules count size s') × AreTurns r.world
 
 -- what may be said of a step of a seat on a word: of the seat's number and what it has, of what the word becomes, of the turns that the
 -- step is, and of what it leaves of the seat, by the number found
+abbrev pub FormOf : Type 0 → Type 1
+FormOf S = (count size slots id : ℕ) → Me S View → ℕ → (ℕ → ℕ) → (ℕ → List (ℕ × Act)) → (ℕ → Me S View → Type 0) → Type 0
+
+-- the same of this table, in which a slot has a message at most
 abbrev pub Form : Type 1
-Form = (count size slots id : ℕ) → Mine → ℕ → (ℕ → ℕ) → (ℕ → List (ℕ × Act)) → (ℕ → Mine → Type 0) → Type 0
+Form = FormOf Slot
 
 -- that it keeps the rule and is these turns, whatever world the rule shows before
 abbrev pub IsTurns : Form
@@ -86,8 +90,11 @@ IsKept all count size slots id me i f turns told =
     told (slice_index s.words i) (v, carried_after me.1 a)
 
 -- the same of a step that a call takes, in place of the turns by the deeds of the shown world that it is
+abbrev pub DeedFormOf : Type 0 → Type 1
+DeedFormOf S = (count size slots id : ℕ) → Me S View → ℕ → (ℕ → ℕ) → (ℕ → List Deed) → (ℕ → Me S View → Type 0) → Type 0
+
 abbrev pub DeedForm : Type 1
-DeedForm = (count size slots id : ℕ) → Mine → ℕ → (ℕ → ℕ) → (ℕ → List Deed) → (ℕ → Mine → Type 0) → Type 0
+DeedForm = DeedFormOf Slot
 
 -- deeds, by which the ends that are held are those that were, and those of numbers that weren't claimed
 abbrev pub Done : World → Books → Routes → List Deed → World → Books → Routes → Type 0
@@ -108,39 +115,39 @@ abbrev pub turn_where : Bool → ℕ → Act → List (ℕ × Act)
 turn_where hit n act = cond hit ((n, act) ∷ []) []
 
 -- a load of any word
-abbrev pub Loads : Form → Type 0
-Loads F = (count size slots id i : ℕ) (m : Mine) (p : Part) → m.0.parts ≡ p ∷ [] →
+abbrev pub Loads : {S : Type 0} → FormOf S → Type 0
+Loads {S} F = (count size slots id i : ℕ) (m : Me S View) (p : Part) → m.0.parts ≡ p ∷ [] →
     F count size slots id m i (λ n. n) (λ n. []) (λ n m'. m' ≡ (saw i n m.0, m.1))
 
 -- touch, of a put of whichever profile: it is answered how many were put there before
-abbrev pub Puts : DeedForm → Type 0
-Puts F = (profile : Profile) (count size slots id i : ℕ) (m : Mine) (p : Part) (at : End) (bytes : List ℕ) (ends : List End) → m.0.parts ≡ p ∷ [] →
+abbrev pub Puts : {S : Type 0} → DeedFormOf S → Type 0
+Puts {S} F = (profile : Profile) (count size slots id i : ℕ) (m : Me S View) (p : Part) (at : End) (bytes : List ℕ) (ends : List End) → m.0.parts ≡ p ∷ [] →
     put_refusal profile p.state at bytes ends ≡ None →
     F count size slots id m i (λ n. n) (λ n. Does (put_of profile p.node at bytes ends) (replies.Put (put_number p.state at)) ∷ [])
     (λ n m'. m' ≡ (with_part (put_part at bytes ends p) m.0, m.1))
 
 -- touch, of a get that gives this parcel
-abbrev pub Gets : DeedForm → Type 0
-Gets F = (count size slots id i : ℕ) (m : Mine) (p : Part) (at : End) (number : ℕ) (q : parcels.Parcel) → m.0.parts ≡ p ∷ [] →
+abbrev pub Gets : {S : Type 0} → DeedFormOf S → Type 0
+Gets {S} F = (count size slots id i : ℕ) (m : Me S View) (p : Part) (at : End) (number : ℕ) (q : parcels.Parcel) → m.0.parts ≡ p ∷ [] →
     get_refusal p.state at ≡ None → got_at p.state at ≡ Some (number, q) →
     F count size slots id m i (λ n. n) (λ n. Does (Get p.node at) (replies.Got number q) ∷ [])
     (λ n m'. m' ≡ (with_part (get_part at number q p) m.0, m.1))
 
 -- touch, of a close: it is answered how many were put there
-abbrev pub Closes : DeedForm → Type 0
-Closes F = (count size slots id i : ℕ) (m : Mine) (p : Part) (at : End) → m.0.parts ≡ p ∷ [] → close_refusal p.state at ≡ None →
+abbrev pub Closes : {S : Type 0} → DeedFormOf S → Type 0
+Closes {S} F = (count size slots id i : ℕ) (m : Me S View) (p : Part) (at : End) → m.0.parts ≡ p ∷ [] → close_refusal p.state at ≡ None →
     F count size slots id m i (λ n. n) (λ n. Does (Close p.node at) (replies.Closed (put_number p.state at)) ∷ [])
     (λ n m'. m' ≡ (with_part (close_part at p) m.0, m.1))
 
 -- touch, of a close that is pending
-abbrev pub PendingCloses : Form → Type 0
-PendingCloses F = (count size slots id i : ℕ) (m : Mine) (p : Part) (e : End) → m.0.parts ≡ p ∷ [] → first_of p.state.pending ≡ Some e →
+abbrev pub PendingCloses : {S : Type 0} → FormOf S → Type 0
+PendingCloses {S} F = (count size slots id i : ℕ) (m : Me S View) (p : Part) (e : End) → m.0.parts ≡ p ∷ [] → first_of p.state.pending ≡ Some e →
     F count size slots id m i (λ n. n) (λ n. (p.node, acts.Close e) ∷ [])
     (λ n m'. m' ≡ (with_part (act_part (acts.Close e) answers.Plain p) m.0, m.1))
 
 -- touch, of an act of a router: send, discard, finish, leave, begin, retire, rest
-abbrev pub Touches : Form → Type 0
-Touches F = (count size slots id i : ℕ) (m : Mine) (p : Part) (serial : ℕ) (r : Router) (act : RouterAct) → m.0.parts ≡ p ∷ [] →
+abbrev pub Touches : {S : Type 0} → FormOf S → Type 0
+Touches {S} F = (count size slots id i : ℕ) (m : Me S View) (p : Part) (serial : ℕ) (r : Router) (act : RouterAct) → m.0.parts ≡ p ∷ [] →
     CanAct p.state serial r act → is_wordless act ≡ true →
     F count size slots id m i (λ n. n) (λ n. (p.node, acts.Router serial act) ∷ []) (λ n m'. m' ≡
     (with_part (act_part (acts.Router serial act) answers.Plain p) m.0, m.1))
@@ -153,42 +160,42 @@ TouchesKept = (all : Bool) (count size slots id i : ℕ) (m : Mine) (p : Part) (
     (λ n m'. m' ≡ (with_part (act_part (acts.Router serial act) answers.Plain p) m.0, m.1))
 
 -- touch, of any of these acts
-abbrev pub TouchActs : Form → Type 0
-TouchActs F = (count size slots id i : ℕ) (m : Mine) (p : Part) (act : Act) → m.0.parts ≡ p ∷ [] → is_touch_act act ≡ true →
+abbrev pub TouchActs : {S : Type 0} → FormOf S → Type 0
+TouchActs {S} F = (count size slots id i : ℕ) (m : Me S View) (p : Part) (act : Act) → m.0.parts ≡ p ∷ [] → is_touch_act act ≡ true →
     IsPossibleAct p.state act → act_lacks_serials p.state act ≡ false →
     F count size slots id m i (λ n. n) (λ n. (p.node, act) ∷ []) (λ n m'. m' ≡ (with_part (act_part act answers.Plain p) m.0, m.1))
 
 -- what an act of a router leaves of the seat if the test holds of the number found; else the step was a load
-abbrev pub Acted : ℕ → ℕ → Router → RouterAct → (ℕ → Bool) → Mine → Part → ℕ → Mine → Type 0
+abbrev pub Acted : {S : Type 0} → ℕ → ℕ → Router → RouterAct → (ℕ → Bool) → Me S View → Part → ℕ → Me S View → Type 0
 Acted i serial r act hit m p n m' = MatchBool (hit n) (m' ≡ (acted_view i n serial r.end.side (source_of r) act p m.0, m.1))
     (m' ≡ (saw i n m.0, m.1))
 
 -- mark
-abbrev pub Marks : Form → Type 0
-Marks F = (count size slots id i : ℕ) (m : Mine) (p : Part) (serial : ℕ) (r : Router) → m.0.parts ≡ p ∷ [] →
+abbrev pub Marks : {S : Type 0} → FormOf S → Type 0
+Marks {S} F = (count size slots id i : ℕ) (m : Me S View) (p : Part) (serial : ℕ) (r : Router) → m.0.parts ≡ p ∷ [] →
     CanAct p.state serial r router_acts.Mark → primary_word r ≡ Some i →
     F count size slots id m i (λ n. bit_or n (stable_bit r.end.side)) (λ n. (p.node, acts.Router serial router_acts.Mark) ∷ [])
     (λ n m'. m' ≡ (acted_view i n serial r.end.side (source_of r) router_acts.Mark p m.0, m.1))
 
 -- wake
-abbrev pub Wakes : Form → Type 0
-Wakes F = (count size slots id i : ℕ) (m : Mine) (p : Part) (serial : ℕ) (r : Router) → m.0.parts ≡ p ∷ [] →
+abbrev pub Wakes : {S : Type 0} → FormOf S → Type 0
+Wakes {S} F = (count size slots id i : ℕ) (m : Me S View) (p : Part) (serial : ℕ) (r : Router) → m.0.parts ≡ p ∷ [] →
     CanAct p.state serial r router_acts.Wake → primary_word r ≡ Some i →
     F count size slots id m i (λ n. bit_and n (18446744073709551615 - waiting_bit (opposite r.end.side)))
     (λ n. (p.node, acts.Router serial router_acts.Wake) ∷ [])
     (λ n m'. m' ≡ (acted_view i n serial r.end.side (source_of r) router_acts.Wake p m.0, m.1))
 
 -- unlock: the mask clears bits 8 to 15 too, where the source stands
-abbrev pub Unlocks : Form → Type 0
-Unlocks F = (count size slots id i : ℕ) (m : Mine) (p : Part) (serial : ℕ) (r : Router) → m.0.parts ≡ p ∷ [] →
+abbrev pub Unlocks : {S : Type 0} → FormOf S → Type 0
+Unlocks {S} F = (count size slots id i : ℕ) (m : Me S View) (p : Part) (serial : ℕ) (r : Router) → m.0.parts ≡ p ∷ [] →
     CanAct p.state serial r router_acts.Unlock → primary_word r ≡ Some i →
     F count size slots id m i (λ n. bit_and n (18446744073709486335 - locked_bit r.end.side))
     (λ n. (p.node, acts.Router serial router_acts.Unlock) ∷ [])
     (λ n m'. m' ≡ (acted_view i n serial r.end.side (source_of r) router_acts.Unlock p m.0, m.1))
 
 -- lock or wait: the word is exchanged for that after the plan, if it is what was found before
-abbrev pub TriesLock : Form → Type 0
-TriesLock F = (count size slots id i old : ℕ) (m : Mine) (p : Part) (serial : ℕ) (r : Router) → m.0.parts ≡ p ∷ [] →
+abbrev pub TriesLock : {S : Type 0} → FormOf S → Type 0
+TriesLock {S} F = (count size slots id i old : ℕ) (m : Me S View) (p : Part) (serial : ℕ) (r : Router) → m.0.parts ≡ p ∷ [] →
     CanAct p.state serial r router_acts.Lock → primary_word r ≡ Some i →
     F count size slots id m i (λ n. either (eqb n old)
     (bits_of (word_after (word_of_bits old) r.end.side (source_of r) router_acts.Lock)) n)
@@ -201,16 +208,16 @@ is_refusal Refuses = true
 is_refusal other = false
 
 -- a load of a link's word by a router that wants its lock: if the plan is Refused, it is the lock's refusal
-abbrev pub LoadsForLock : Form → Type 0
-LoadsForLock F = (count size slots id i : ℕ) (m : Mine) (p : Part) (serial : ℕ) (r : Router) → m.0.parts ≡ p ∷ [] →
+abbrev pub LoadsForLock : {S : Type 0} → FormOf S → Type 0
+LoadsForLock {S} F = (count size slots id i : ℕ) (m : Me S View) (p : Part) (serial : ℕ) (r : Router) → m.0.parts ≡ p ∷ [] →
     CanAct p.state serial r router_acts.Lock → primary_word r ≡ Some i →
     F count size slots id m i (λ n. n)
     (λ n. turn_where (is_refusal (plan_of (word_of_bits n) r.end.side)) p.node (acts.Router serial router_acts.Lock))
     (Acted i serial r router_acts.Lock (λ n. is_refusal (plan_of (word_of_bits n) r.end.side)) m p)
 
 -- a load of the claim count by a proxy that wants a word: if it finds that each was claimed, it is the claim's NoWord
-abbrev pub LoadsForClaim : Form → Type 0
-LoadsForClaim F = (count size slots id : ℕ) (m : Mine) (p : Part) (serial : ℕ) (r : Router) → m.0.parts ≡ p ∷ [] →
+abbrev pub LoadsForClaim : {S : Type 0} → FormOf S → Type 0
+LoadsForClaim {S} F = (count size slots id : ℕ) (m : Me S View) (p : Part) (serial : ℕ) (r : Router) → m.0.parts ≡ p ∷ [] →
     CanAct p.state serial r router_acts.Claim →
     F count size slots id m size (λ n. n) (λ n. turn_where (eqb n size) p.node (acts.Router serial router_acts.Claim))
     (λ n m'. MatchBool (eqb n size)
@@ -218,20 +225,20 @@ LoadsForClaim F = (count size slots id : ℕ) (m : Mine) (p : Part) (serial : �
     (m' ≡ (saw size n m.0, m.1)))
 
 -- touch, of a claim of a proxy that is told that no word is left, whether or not numbers are left
-abbrev pub Dries : DeedForm → Type 0
-Dries F = (count size slots id i : ℕ) (m : Mine) (p : Part) (serial : ℕ) (r : Router) → m.0.parts ≡ p ∷ [] →
+abbrev pub Dries : {S : Type 0} → DeedFormOf S → Type 0
+Dries {S} F = (count size slots id i : ℕ) (m : Me S View) (p : Part) (serial : ℕ) (r : Router) → m.0.parts ≡ p ∷ [] →
     CanAct p.state serial r router_acts.Claim →
     F count size slots id m i (λ n. n) (λ n. Beside (asides.Dries p.node serial) ∷ []) (λ n m'. m' ≡
     (with_part (act_part (acts.Router serial router_acts.Claim) answers.NoWord p) m.0, m.1))
 
 -- touch, of a router: it may claim again
-abbrev pub Wets : DeedForm → Type 0
-Wets F = (count size slots id i : ℕ) (m : Mine) (p : Part) (serial : ℕ) → m.0.parts ≡ p ∷ [] → is_some (router_in p.state serial) ≡ true →
+abbrev pub Wets : {S : Type 0} → DeedFormOf S → Type 0
+Wets {S} F = (count size slots id i : ℕ) (m : Me S View) (p : Part) (serial : ℕ) → m.0.parts ≡ p ∷ [] → is_some (router_in p.state serial) ≡ true →
     F count size slots id m i (λ n. n) (λ n. Beside (asides.Wets p.node serial) ∷ []) (λ n m'. m' ≡ (with_part (wet_part serial p) m.0, m.1))
 
 -- claim: the count is exchanged for the next, if it is what was found before
-abbrev pub Claims : Form → Type 0
-Claims F = (count size slots id c : ℕ) (m : Mine) (p : Part) (serial : ℕ) (r : Router) → m.0.parts ≡ p ∷ [] →
+abbrev pub Claims : {S : Type 0} → FormOf S → Type 0
+Claims {S} F = (count size slots id c : ℕ) (m : Me S View) (p : Part) (serial : ℕ) (r : Router) → m.0.parts ≡ p ∷ [] →
     CanAct p.state serial r router_acts.Claim → c < size →
     F count size slots id m size (λ n. either (eqb n c) (c + 1) n) (λ n. turn_where (eqb n c) p.node (acts.Router serial router_acts.Claim))
     (λ n m'. MatchBool (eqb n c)
@@ -239,15 +246,15 @@ Claims F = (count size slots id c : ℕ) (m : Mine) (p : Part) (serial : ℕ) (r
     (m' ≡ (saw size n m.0, m.1)))
 
 -- the first half of an open, which is no call yet: a claim for it
-abbrev pub ClaimsForOpen : DeedForm → Type 0
-ClaimsForOpen F = (count size slots id c : ℕ) (m : Mine) (p : Part) → m.0.parts ≡ p ∷ [] → p.state.opening ≡ None → c < size →
+abbrev pub ClaimsForOpen : {S : Type 0} → DeedFormOf S → Type 0
+ClaimsForOpen {S} F = (count size slots id c : ℕ) (m : Me S View) (p : Part) → m.0.parts ≡ p ∷ [] → p.state.opening ≡ None → c < size →
     F count size slots id m size (λ n. either (eqb n c) (c + 1) n) (λ n. deed_where (eqb n c) (Beside (asides.ClaimsWord p.node)))
     (λ n m'. MatchBool (eqb n c) (m' ≡ (with_part (claimed_part c p) (saw size n m.0), m.1)) (m' ≡ (saw size n m.0, m.1)))
 
 -- open: the word that was claimed for it goes from 0 to that of an open pair; it is 0 as long as the open is under way. It is answered the ends of
 -- the word's pair
-abbrev pub Opens : DeedForm → Type 0
-Opens F = (count size slots id i : ℕ) (m : Mine) (p : Part) → m.0.parts ≡ p ∷ [] → p.state.opening ≡ Some i → serials_refusal p.state ≡ None →
+abbrev pub Opens : {S : Type 0} → DeedFormOf S → Type 0
+Opens {S} F = (count size slots id i : ℕ) (m : Me S View) (p : Part) → m.0.parts ≡ p ∷ [] → p.state.opening ≡ Some i → serials_refusal p.state ≡ None →
     F count size slots id m i (λ n. either (eqb n 0) (bits_of open_word) n) (λ n. Does (Open p.node) (opened_reply i) ∷ [])
     (λ n m'. (n ≡ 0) × (m' ≡ (with_part (open_part i p) (saw i n m.0), m.1)))
 
@@ -266,13 +273,13 @@ Unprobes F = (count size slots id i k to : ℕ) (m : Mine) (p : Part) (rest : Li
     F count size slots id m i (λ n. 0) (λ n. []) (λ n m'. m' ≡ (with_part (unprobe_part to p) m.0, rest))
 
 -- a message is announced to a node: the sender's bit is set in its inbox
-abbrev pub Announces : Form → Type 0
-Announces F = (count size slots id i to bits : ℕ) (m : Mine) (p : Part) → m.0.parts ≡ p ∷ [] → i ≡ size + 1 + to → to < count → bit_at bits p.node ≡ 1 →
+abbrev pub Announces : {S : Type 0} → FormOf S → Type 0
+Announces {S} F = (count size slots id i to bits : ℕ) (m : Me S View) (p : Part) → m.0.parts ≡ p ∷ [] → i ≡ size + 1 + to → to < count → bit_at bits p.node ≡ 1 →
     F count size slots id m i (λ n. bit_or n bits) (λ n. []) (λ n m'. m' ≡ (announcing to m.0, m.1))
 
 -- a load of an inbox before a post: if the sender's bit is set there, the message is announced
-abbrev pub LoadsForPost : Form → Type 0
-LoadsForPost F = (count size slots id i to : ℕ) (m : Mine) (p : Part) → m.0.parts ≡ p ∷ [] → i ≡ size + 1 + to → to < count →
+abbrev pub LoadsForPost : {S : Type 0} → FormOf S → Type 0
+LoadsForPost {S} F = (count size slots id i to : ℕ) (m : Me S View) (p : Part) → m.0.parts ≡ p ∷ [] → i ≡ size + 1 + to → to < count →
     F count size slots id m i (λ n. n) (λ n. []) (λ n m'. m' ≡ (if eqb (bit_at n p.node) 1 then announcing to m.0 else forgetting m.0, m.1))
 
 -- a sender's bit is cleared in the own inbox, while its message is in hand: all other bits are kept
@@ -305,8 +312,8 @@ Hands F = (count size slots id i k from : ℕ) (m : Mine) (p : Part) (x : Messag
     (λ n m'. m' ≡ (with_part (hand_part from (trusted from x) x p) m.0, rest))
 
 -- a load of the old link's word before an AcceptBypass in hand is handled: it names the sender
-abbrev pub LoadsForHand : Form → Type 0
-LoadsForHand F = (count size slots id from old : ℕ) (m : Mine) (p : Part) (x : Message) → m.0.parts ≡ p ∷ [] → p.state.hand ≡ Some from →
+abbrev pub LoadsForHand : {S : Type 0} → FormOf S → Type 0
+LoadsForHand {S} F = (count size slots id from old : ℕ) (m : Me S View) (p : Part) (x : Message) → m.0.parts ≡ p ∷ [] → p.state.hand ≡ Some from →
     p.message ≡ Some x → old_word x ≡ Some old →
     F count size slots id m old (λ n. n) (λ n. []) (λ n m'. ((word_of_bits n).source ≡ Some from) × (m' ≡ (saw old n m.0, m.1)))
 
@@ -330,6 +337,6 @@ abbrev pub JoinsParts : Type 0
 JoinsParts = (count size id : ℕ) (v : View) (other : ℕ) (w : View) → Joins (Rules count size) id v other w (together v w) spent
 
 -- a load by which a call is written into the history of the seat's node, of a caller that has lent its view
-abbrev pub Notes : Form → Type 0
-Notes F = (count size slots id i : ℕ) (m : Mine) (p : Part) (c : CallerView) (call : Call) → m.0.parts ≡ p ∷ [] → m.0.caller ≡ Some c →
+abbrev pub Notes : {S : Type 0} → FormOf S → Type 0
+Notes {S} F = (count size slots id i : ℕ) (m : Me S View) (p : Part) (c : CallerView) (call : Call) → m.0.parts ≡ p ∷ [] → m.0.caller ≡ Some c →
     F count size slots id m i (λ n. n) (λ n. []) (λ n m'. IsNoted m.0 p c call m'.0 × (m'.1 ≡ m.1))

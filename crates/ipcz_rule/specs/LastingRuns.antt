@@ -1,6 +1,6 @@
 -- Runs of a table with all that is done there: calls of callers, turns of nodes, and what is neither; steps of any seats, in whatever order, and what
 -- they are for the world that is shown.
-use Rattle.std.specs.Prelude.{◌≡◌, ◌⊎◌, ◌<◌, ◌≤◌, ◌+◌, ◌*◌, ◌%◌, ℕ, Bool, true, false, cond, eqb, List, [], ◌∷◌, ◌++◌, length, slice_index, None, refl}
+use Rattle.std.specs.Prelude.{◌≡◌, ◌⊎◌, ◌<◌, ◌≤◌, ◌+◌, ◌*◌, ◌%◌, ℕ, Bool, true, false, not, cond, eqb, List, [], ◌∷◌, ◌++◌, length, slice_index, None, refl}
 use mathlib.Core.Option.{some}
 use lib.ListN.{get_elem?}
 use Rattle.atomic_table.specs.Table.{State, Me, stepped}
@@ -15,36 +15,36 @@ use Rattle.ipcz_slots.specs.Slots.{AreSizes, has_number}
 use Rattle.ipcz_slots.specs.SlotKinds.{Known, LastingSteps, same_own}
 use Rattle.ipcz_rule.specs.declared.view.View.{View}
 use Rattle.ipcz_rule.specs.declared.view.Part.{Part}
-use Rattle.ipcz_rule.specs.Rule.{Slot, St, Mine, Rules}
+use Rattle.ipcz_rule.specs.Batches.{Batch, BatchSt, BatchMine, Batched}
 use Rattle.ipcz_rule.specs.Deeds.{Deed, Beside, ClaimsWord, Passes, AreDeeds, deed_where, turn_deeds}
-use Rattle.ipcz_rule.specs.TableRuns.{Ruled}
-use Rattle.ipcz_rule.specs.Kinds.{DeedForm, Puts, Gets, Closes, Opens, Dries, Wets}
+use Rattle.ipcz_rule.specs.Rule.{SingleRuled}
+use Rattle.ipcz_rule.specs.Kinds.{DeedFormOf, Puts, Gets, Closes, Opens, Dries, Wets}
 use Rattle.ipcz_rule.specs.Lasting.{LastingRules, virtual, sizes, own_of, turns_of}
 
 -- a table that keeps the rule of one whose link words come back, or of one whose words don't, with what the rule says of it
 abbrev pub LastingRuled : (count limit k : ℕ) → Bool → Type 0
-LastingRuled count limit k reuses = (s : State Slot (Own View)) × LastingRules count limit k reuses s
+LastingRuled count limit k reuses = (s : State Batch (Own View)) × LastingRules count limit k reuses s
 
--- the table that it folds, with what that shows
-abbrev pub folded : {count limit k : ℕ} {reuses : Bool} → LastingRuled count limit k reuses → Ruled count limit
-folded p = (p.1.0, p.1.1)
+-- the table that it folds, whose slots carry single messages, with what that shows
+abbrev pub folded : {count limit k : ℕ} {reuses : Bool} → LastingRuled count limit k reuses → SingleRuled count limit
+folded p = (p.1.1.single, p.1.1.rules)
 
 -- deeds lead from the world that one table shows to the one that another shows
-abbrev pub LeadTo : {count limit : ℕ} → Ruled count limit → List Deed → Ruled count limit → Type 0
+abbrev pub LeadTo : {count limit : ℕ} → SingleRuled count limit → List Deed → SingleRuled count limit → Type 0
 LeadTo p deeds q = AreDeeds p.1.world p.1.books p.1.routes deeds q.1.world q.1.books q.1.routes
 
 -- what is known of a step that is deeds, by what the table shows before it
-abbrev pub leading : (count limit : ℕ) → ((t : St) → Rules count limit t → List Deed) → Known (virtual count limit)
-leading count limit deeds t r t' r' = LeadTo {count = count} {limit = limit} (t, r) (deeds t r) (t', r')
+abbrev pub leading : (count limit : ℕ) (reuses : Bool) → ((t : BatchSt) → Batched count limit (not reuses) t → List Deed) → Known (virtual count limit reuses)
+leading count limit reuses deeds t r t' r' = LeadTo {count = count} {limit = limit} (r.single, r.rules) (deeds t r) (r'.single, r'.rules)
 
 -- an atomic step of a seat on a word of the table, whatever it leaves of the seat: here it is these deeds
 pub record DeedStep (count limit k : ℕ) (reuses : Bool) (p : LastingRuled count limit k reuses) (done : List Deed) : Type 0 where
   pub seat : ℕ
-  pub me : Me Slot (Own View)
+  pub me : Me Batch (Own View)
   pub word : ℕ
   pub change : ℕ → ℕ
-  pub deeds : (t : St) → Rules count limit t → List Deed
-  pub allowed : LastingSteps (virtual count limit) (sizes count limit k reuses) (leading count limit deeds) (length p.0.homes) seat me word change
+  pub deeds : (t : BatchSt) → Batched count limit (not reuses) t → List Deed
+  pub allowed : LastingSteps (virtual count limit reuses) (sizes count limit k reuses) (leading count limit reuses deeds) (length p.0.homes) seat me word change
       (λ n left. Unit {0})
   pub there : get_elem? p.0.views seat ≡ some me.0
   pub small : slice_index p.0.words word < 18446744073709551616
@@ -87,18 +87,18 @@ TableStepsAreRuns =
 
 -- a step of a kind is one of a run of tables, with these deeds, and it leaves of its seat what the kind says: it is on a word behind the link words, or on
 -- the slot of a number
-abbrev pub IsStepOn : (k : ℕ) (reuses : Bool) (dirty free looked : List ℕ) (word : ℕ) → DeedForm
+abbrev pub IsStepOn : (k : ℕ) (reuses : Bool) (dirty free looked : List ℕ) (word : ℕ) → DeedFormOf Batch
 IsStepOn k reuses dirty free looked word count limit slots id m i f deeds told =
     (p : LastingRuled count limit k reuses) → length p.0.homes ≡ slots → get_elem? p.0.views id ≡ some (own_of m.0 dirty free looked) →
     slice_index p.0.words word < 18446744073709551616 →
     (q : LastingRuled count limit k reuses) × Goes count limit k reuses p (deeds (slice_index p.1.0.words i)) q ×
-    ((left : Me Slot (Own View)) × (get_elem? q.0.views id ≡ some left.0) × same_own (own_of m.0 dirty free looked) told (slice_index p.0.words word) left)
+    ((left : Me Batch (Own View)) × (get_elem? q.0.views id ≡ some left.0) × same_own (own_of m.0 dirty free looked) told (slice_index p.0.words word) left)
 
-abbrev pub IsStepBehind : (k : ℕ) (reuses : Bool) (dirty free looked : List ℕ) → DeedForm
+abbrev pub IsStepBehind : (k : ℕ) (reuses : Bool) (dirty free looked : List ℕ) → DeedFormOf Batch
 IsStepBehind k reuses dirty free looked count limit slots id m i f deeds told = AreSizes (sizes count limit k reuses) → (j : ℕ) → i ≡ limit + j →
     j < 1 + count + count * count → IsStepOn k reuses dirty free looked (k + j) count limit slots id m i f deeds told
 
-abbrev pub IsStepOnSlot : (k : ℕ) (reuses : Bool) (dirty free looked : List ℕ) → DeedForm
+abbrev pub IsStepOnSlot : (k : ℕ) (reuses : Bool) (dirty free looked : List ℕ) → DeedFormOf Batch
 IsStepOnSlot k reuses dirty free looked count limit slots id m i f deeds told = AreSizes (sizes count limit k reuses) →
     IsStepOn k reuses dirty free looked (i % k) count limit slots id m i f deeds told
 
@@ -111,13 +111,13 @@ CallsAreSteps = (k : ℕ) (reuses : Bool) (dirty free looked : List ℕ) →
 
 -- law: so is a claim for an open: it passes over the numbers before its own, and claims that; and where another count stands, it is a load
 pub record ClaimsForOpenAreSteps : Type 0 where
-  pub again : (k : ℕ) (dirty free looked : List ℕ) → 1 ≤ k → (count limit slots id c skip : ℕ) (m : Mine) (p : Part) → m.0.parts ≡ p ∷ [] →
+  pub again : (k : ℕ) (dirty free looked : List ℕ) → 1 ≤ k → (count limit slots id c skip : ℕ) (m : BatchMine) (p : Part) → m.0.parts ≡ p ∷ [] →
       p.state.opening ≡ None → c + skip < limit → limit < 18446744073709551616 → has_number free ((c + skip) % k) ≡ true →
       (s : LastingRuled count limit k true) → length s.0.homes ≡ slots → get_elem? s.0.views id ≡ some (own_of m.0 dirty free looked) →
       slice_index s.0.words (k + 0) < 18446744073709551616 →
       (q : LastingRuled count limit k true) ×
       Goes count limit k true s (cond (eqb (slice_index s.1.0.words limit) c) (Beside (Passes skip) ∷ Beside (ClaimsWord p.node) ∷ []) []) q
-  pub order : (k : ℕ) (dirty free looked : List ℕ) (count limit slots id c : ℕ) (m : Mine) (p : Part) → m.0.parts ≡ p ∷ [] →
+  pub order : (k : ℕ) (dirty free looked : List ℕ) (count limit slots id c : ℕ) (m : BatchMine) (p : Part) → m.0.parts ≡ p ∷ [] →
       p.state.opening ≡ None → c < limit → AreSizes (sizes count limit k false) →
       (s : LastingRuled count limit k false) → length s.0.homes ≡ slots → get_elem? s.0.views id ≡ some (own_of m.0 dirty free looked) →
       slice_index s.0.words (k + 0) < 18446744073709551616 →
@@ -127,11 +127,11 @@ pub record ClaimsForOpenAreSteps : Type 0 where
 -- law: a step of whichever kind of which turns are known is a step of such runs, and its deeds are these turns
 abbrev pub TurnsAreSteps : Type 0
 TurnsAreSteps =
-    (count limit k : ℕ) (reuses : Bool) (turns : ℕ → List (ℕ × Act)) (slots id i word : ℕ) (me : Me Slot (Own View)) (f : ℕ → ℕ) →
-    LastingSteps (virtual count limit) (sizes count limit k reuses) (turns_of count limit i turns) slots id me word f (λ n left. Unit {0}) →
+    (count limit k : ℕ) (reuses : Bool) (turns : ℕ → List (ℕ × Act)) (slots id i word : ℕ) (me : Me Batch (Own View)) (f : ℕ → ℕ) →
+    LastingSteps (virtual count limit reuses) (sizes count limit k reuses) (turns_of count limit reuses i turns) slots id me word f (λ n left. Unit {0}) →
     (p : LastingRuled count limit k reuses) → length p.0.homes ≡ slots → get_elem? p.0.views id ≡ some me.0 →
     slice_index p.0.words word < 18446744073709551616 →
-    (q : LastingRuled count limit k reuses) × Goes count limit k reuses p (turn_deeds p.1.1.world (turns (slice_index p.1.0.words i))) q
+    (q : LastingRuled count limit k reuses) × Goes count limit k reuses p (turn_deeds p.1.1.rules.world (turns (slice_index p.1.0.words i))) q
 
 -- law: what kinds of turns are known to be, turns of the shown world, behind numbers that are passed over or not, is deeds
 pub record TurnsAreDeeds : Type 0 where

@@ -6,8 +6,9 @@ use Rattle.ipcz_world.specs.World.{new_world}
 use Rattle.ipcz_world.specs.Books.{no_books}
 use Rattle.ipcz_world.specs.Routes.{first_routes}
 use Rattle.ipcz_world.specs.Lawful.{IsWithinLimits}
-use Rattle.ipcz_rule.specs.TableRuns.{Ruled}
-use Rattle.ipcz_rule.specs.Start.{opening_words, no_messages, opening_view}
+use Rattle.ipcz_rule.specs.Rule.{SingleRuled}
+use Rattle.ipcz_rule.specs.Start.{opening_words, opening_view}
+use Rattle.ipcz_rule.specs.BatchLaws.{no_batches}
 use Rattle.ipcz_rule.specs.Lasting.{LastingRules, own_of}
 
 -- its words, with so many slots beyond those of the first pairs: the first pairs' are open, the others empty; then the claim count, the touch
@@ -22,7 +23,7 @@ abbrev pub whole_words : ℕ → ℕ → List ℕ
 whole_words count size = opening_words count size ++ replicate size 0
 
 -- a table shows the world at the start
-pub record ShowsStart (count limit : ℕ) (p : Ruled count limit) : Type 0 where
+pub record ShowsStart (count limit : ℕ) (p : SingleRuled count limit) : Type 0 where
   pub world : p.1.world ≡ new_world count limit
   pub books : p.1.books ≡ no_books
   pub routes : p.1.routes ≡ first_routes count
@@ -31,12 +32,12 @@ pub record ShowsStart (count limit : ℕ) (p : Ruled count limit) : Type 0 where
 abbrev pub LastingStarts : Type 0
 LastingStarts = (count limit spare : ℕ) → IsWithinLimits count limit → length (first_pairs count) + spare ≤ limit →
     (l : LastingRules count limit (length (first_pairs count) + spare) true
-    (opening (lasting_words count spare) (no_messages (count * count)) (own_of (opening_view count) [] [] []))) × ShowsStart count limit (l.0, l.1)
+    (opening (lasting_words count spare) (no_batches (count * count)) (own_of (opening_view count) [] [] []))) × ShowsStart count limit (l.1.single, l.1.rules)
 
 abbrev pub WholeStarts : Type 0
 WholeStarts = (count size : ℕ) → IsWithinLimits count size →
-    (l : LastingRules count size size false (opening (whole_words count size) (no_messages (count * count)) (own_of (opening_view count) [] [] []))) ×
-    ShowsStart count size (l.0, l.1)
+    (l : LastingRules count size size false (opening (whole_words count size) (no_batches (count * count)) (own_of (opening_view count) [] [] []))) ×
+    ShowsStart count size (l.1.single, l.1.rules)
 
 abbrev pub StartLasts : Type 0
 StartLasts = LastingStarts × WholeStarts

@@ -1,3 +1,6 @@
+pub mod BatchKinds
+pub mod BatchLaws
+pub mod Batches
 pub mod Deeds
 pub mod End
 pub mod GivenUp

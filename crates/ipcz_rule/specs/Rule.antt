@@ -161,6 +161,10 @@ pub record Rules (count size : ℕ) (s : St) : Type 0 where
   pub parts : HaveParts s.views count
   pub histories : Histories s.views
 
+-- a table that keeps the rule, with what the rule shows of it
+abbrev pub SingleRuled : ℕ → ℕ → Type 0
+SingleRuled count size = (s : St) × Rules count size s
+
 -- the view with another part, its only one
 abbrev pub with_part : Part → View → View
 with_part p v = record { parts = p ∷ []; seen = v.seen; announced = None; caller = v.caller }
@@ -179,4 +183,4 @@ forgetting v = record { parts = v.parts; seen = v.seen; announced = None; caller
 
 -- the part with another state of its node
 abbrev pub with_state : Node → Part → Part
-with_state x p = record { node = p.node; state = x; message = p.message; probed = p.probed; put = p.put; got = p.got; gone = p.gone; history = p.history }
+with_state x p = record { node = p.node; state = x; message = p.message; probed = p.probed; batches = p.batches; put = p.put; got = p.got; gone = p.gone; history = p.history }

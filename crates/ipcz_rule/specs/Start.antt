@@ -19,7 +19,7 @@ no_messages n = replicate n None
 
 -- what a seat says of a node at the start
 abbrev pub opening_part : ℕ → ℕ → Part
-opening_part count n = record { node = n; state = new_node n count; message = None; probed = []; put = []; got = []; gone = []; history = [] }
+opening_part count n = record { node = n; state = new_node n count; message = None; probed = []; batches = []; put = []; got = []; gone = []; history = [] }
 
 -- the parts of so many nodes from one on
 abbrev pub opening_parts : ℕ → ℕ → ℕ → List Part

@@ -1,7 +1,7 @@
 //! The rule of the table, as the table takes it.
 use crate::view::View;
 use atomic_table::TableRule;
-use ipcz_base::Message;
+use ipcz_node::Batch;
 use ipcz_slots::Own;
 
 /// How many nodes, numbers of link words and slots for them there are, and whether slots are used again.
@@ -15,7 +15,7 @@ pub struct Size {
 
 pub struct FabricLaw;
 
-impl TableRule<Option<Message>, Own<View>, Size> for FabricLaw {
+impl TableRule<Batch, Own<View>, Size> for FabricLaw {
     ghost use Rattle.std.specs.Prelude.{[]};
     ghost use Rattle.ipcz_rule.specs.Lasting.{LastingRules, own_of};
     ghost use Rattle.ipcz_rule.specs.Start.{opening_view};

@@ -1,6 +1,8 @@
 //! The rule of the one table that the nodes of a fabric share: what its words, slots and views show, and each kind of atomic step on it.
 #![tactic(auto)]
 
+pub mod batch_mail;
+pub mod batches;
 mod history;
 pub mod kinds;
 pub mod lasting;

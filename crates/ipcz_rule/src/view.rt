@@ -13,6 +13,8 @@ pub struct Part {
     pub message: Option<Message>,
     /// The nodes whose empty mailbox from this one its seat has.
     pub probed: LinkedList<u64>,
+    /// What its seat still has of batches, by sender, behind the message in hand.
+    pub batches: LinkedList<LinkedList<Message>>,
     /// The items that were put here, by end and number.
     pub put: LinkedList<((End, u64), Item)>,
     /// The parcels that were got here, by end and number.

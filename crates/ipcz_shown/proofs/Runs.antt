@@ -9,6 +9,7 @@ use Rattle.ipcz_base.specs.declared.refusal.Refusal.{Refusal}
 use Rattle.ipcz_base.specs.declared.refusal.Refusal.TheVariants.{NoWord, NumbersEnd, OutOfMemory}
 use Rattle.ipcz_node.specs.Node.{Node}
 use Rattle.ipcz_node.specs.Calls.{close_refusal, get_refusal, put_refusal}
+use Rattle.ipcz_node.proofs.Fronts.{close_refusal_behind, get_refusal_behind, put_refusal_behind}
 use Rattle.ipcz_world.specs.declared.step.Step.TheVariants.{Open, Put, PutWide, Get, Close}
 use Rattle.ipcz_world.specs.declared.step.Reply.TheVariants.{Refused}
 use Rattle.ipcz_world.specs.World.{World, new_world, node_at}
@@ -20,10 +21,11 @@ use Rattle.ipcz_promise.specs.Promise.{Account, MayRun, start}
 use Rattle.ipcz_promise.specs.Accounting.{Keeps}
 use Rattle.ipcz_promise.proofs.Kept.{starts_with_no_books, steps_keep_books, steps_keep_the_promise}
 use Rattle.ipcz_rule.specs.Deeds.{Deed, Does, Beside, AreDeeds, after_aside, routes_after_aside, steps_of, replies_of}
-use Rattle.ipcz_rule.specs.LastingRuns.{all_deeds, folded}
+use Rattle.ipcz_rule.specs.LastingRuns.{all_deeds}
 use Rattle.ipcz_rule.proofs.LastingRuns.{table_steps_are_runs}
 use Rattle.ipcz_shown.specs.Shown.{MayBeRefused, RefusalsAreAllowed, StartedTablesKeepThePromise, TableRunsKeepThePromise}
 use Rattle.ipcz_shown.proofs.Asides.{asides-look-the-same, same-keeps}
+use Rattle.ipcz_shown.proofs.Parts.{node-shown}
 use Rattle.ipcz_shown.proofs.Telling.{kept-is-told}
 
 -- the world keeps these accounts by these books
@@ -55,8 +57,8 @@ deeds-by w v b c d g h (Beside aside ∷ deeds) run =
 
 pub table_runs_keep_the_promise : TableRunsKeepThePromise
 table_runs_keep_the_promise count limit k reuses p q steps a kept run =
-    let t = (folded p).1 in
-    let u = (folded q).1 in
+    let t = p.1.1.rules in
+    let u = q.1.1.rules in
     let by = deeds-by t.world u.world t.books u.books kept.stands.books t.routes u.routes (all_deeds steps)
     (table_steps_are_runs count limit k reuses p q steps run) in
     let d = deeds-keep t.world u.world kept.stands.books by.0 t.routes u.routes a (all_deeds steps) (kept, refl) by.1 in
@@ -69,12 +71,12 @@ start-keeps-books count limit limits w b is none = rw (is, none) (starts_with_no
 
 pub started_tables_keep_the_promise : StartedTablesKeepThePromise
 started_tables_keep_the_promise count limit k reuses p q steps limits shows run =
-    let t = (folded p).1 in
-    let u = (folded q).1 in
+    let t = p.1.1.rules in
+    let u = q.1.1.rules in
     let kept = start-keeps-books count limit limits t.world t.books shows.world shows.books in
     let d = deeds-keep t.world u.world t.books u.books t.routes u.routes (start count limit) (all_deeds steps) kept
     (table_steps_are_runs count limit k reuses p q steps run) in
-    (d.0, d.1, d.2.0, kept-is-told count limit (folded q).0 u d.0 d.2.0 d.2.1)
+    (d.0, d.1, d.2.0, kept-is-told q.1.1 d.0 d.2.0 d.2.1)
 
 -- what a node refuses by itself is a step of the world
 inside-is : (w : World) (n : ℕ) → n < w.count → nat_lt n w.count ≡ true
@@ -131,13 +133,15 @@ open-refused w a n why kept l h =
 
 pub refusals_are_allowed : RefusalsAreAllowed
 refusals_are_allowed = record {
-  put = λ count size t a kept id v j p seat there profile at bytes ends. let r = t.1 in let is = (r.shows.parts id v j p seat there).1 in
-      subst (λ (y : Node). MayBeRefused a (put_of profile p.node at bytes ends) (unwrap_or (put_refusal profile y at bytes ends) OutOfMemory)) is.state
-      (put-refused profile r.world a p.node at bytes ends kept is.inside);
-  get = λ count size t a kept id v j p seat there at why refused. let r = t.1 in let is = (r.shows.parts id v j p seat there).1 in
-      get-refused r.world a p.node at why kept is.inside (ap (λ (y : Node). get_refusal y at) is.state ∙ refused);
-  close = λ count size t a kept id v j p seat there at. let r = t.1 in let is = (r.shows.parts id v j p seat there).1 in
-      subst (λ (y : Node). MayBeRefused a (Close p.node at) (unwrap_or (close_refusal y at) OutOfMemory)) is.state (close-refused r.world a p.node at kept is.inside);
-  open_pair = λ count size t a kept id v j p seat there why h. let r = t.1 in let is = (r.shows.parts id v j p seat there).1 in
-      open-refused r.world a p.node why kept is.inside h;
+  put = λ count size alone t a kept id v j p seat there profile at bytes ends. let r = t.1.rules in let is = node-shown t.1 id v j p seat there in
+      subst (λ (y : Option Refusal). MayBeRefused a (put_of profile p.node at bytes ends) (unwrap_or y OutOfMemory))
+      (ap (λ (y : Node). put_refusal profile y at bytes ends) is.1 ∙ sym (put_refusal_behind (t.1.fronts p.node) profile p.state at bytes ends))
+      (put-refused profile r.world a p.node at bytes ends kept is.0);
+  get = λ count size alone t a kept id v j p seat there at why refused. let r = t.1.rules in let is = node-shown t.1 id v j p seat there in
+      get-refused r.world a p.node at why kept is.0 (ap (λ (y : Node). get_refusal y at) is.1 ∙ (sym (get_refusal_behind (t.1.fronts p.node) p.state at) ∙ refused));
+  close = λ count size alone t a kept id v j p seat there at. let r = t.1.rules in let is = node-shown t.1 id v j p seat there in
+      subst (λ (y : Option Refusal). MayBeRefused a (Close p.node at) (unwrap_or y OutOfMemory))
+      (ap (λ (y : Node). close_refusal y at) is.1 ∙ sym (close_refusal_behind (t.1.fronts p.node) p.state at)) (close-refused r.world a p.node at kept is.0);
+  open_pair = λ count size alone t a kept id v j p seat there why h. let r = t.1.rules in let is = node-shown t.1 id v j p seat there in
+      open-refused r.world a p.node why kept is.0 h;
 }

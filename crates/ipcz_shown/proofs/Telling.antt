@@ -5,6 +5,7 @@ use Rattle.std.proofs.Common.{arith, ap, subst, sym, ◌∙◌}
 use Rattle.std.proofs.lemmas.Bool.Decides.{nat_tests}
 use Rattle.std.proofs.lemmas.Option.{none-some, same_Some}
 use Rattle.ipcz_base.specs.declared.end.End.{End}
+use Rattle.ipcz_base.specs.declared.item.Item.{Item}
 use Rattle.ipcz_base.specs.declared.item.Item.TheVariants.{Parcel, Mark}
 use Rattle.ipcz_base.specs.Ends.{opposite_end}
 use Rattle.ipcz_base.specs.Totals.{total_below}
@@ -20,11 +21,14 @@ use Rattle.ipcz_world.specs.Places.{times}
 use Rattle.ipcz_world.specs.Whereabouts.{times_closed, times_held}
 use Rattle.ipcz_world.proofs.Whole.{ends_stand_once}
 use Rattle.ipcz_world.proofs.facts.LinkTests.{opposite_end-twice}
-use Rattle.ipcz_rule.specs.Rule.{St, Rules}
+use Rattle.ipcz_rule.specs.Rule.{InParts, Rules, puts_of, gets_of}
+use Rattle.ipcz_rule.specs.Batches.{BatchSt, Batched}
+use Rattle.ipcz_rule.proofs.BatchedLaws.{entry_here, entry_there}
 use Rattle.ipcz_promise.specs.Promise.{Account, IsInOrder, holds, is_holder}
 use Rattle.ipcz_promise.specs.Accounting.{Keeps, parcels_in}
 use Rattle.ipcz_promise.proofs.Parcels.{first-parcels}
 use Rattle.ipcz_shown.specs.Shown.{TellsAccount, TablesTellAccounts}
+use Rattle.ipcz_shown.proofs.Parts.{node-shown}
 use Rattle.ipcz_shown.proofs.Marks.{EndsLast, ends-last, has-mark, mark-at, parcel-at, parcel-of}
 
 -- the first number that passes a test, if there is one only
@@ -164,26 +168,35 @@ record AreOf (w : World) (b : Books) (a : Account) : Type 0 where
   got : (e : End) → a.got e ≡ b.got e
   closed : (e : End) → a.closed e ≡ is_closed b e
 
-module _ (count size : ℕ) (s : St) (r : Rules count size s) where
+module _ {count size : ℕ} {alone : Bool} {s : BatchSt} (b : Batched count size alone s) where
+  abbrev r : Rules count size b.single
+  r = b.rules
+
+  put-in : (e : End) (n : ℕ) (x : Item) → slice_get (r.books.put e) n ≡ Some x → InParts s.views puts_of ((e, n), x)
+  put-in e n x h = entry_here b.folds puts_of (λ p. refl) ((e, n), x) (r.joined.put e n x h)
+
+  in-put : (e : End) (n : ℕ) (x : Item) → InParts s.views puts_of ((e, n), x) → slice_get (r.books.put e) n ≡ Some x
+  in-put e n x h = r.joined.put_only e n x (entry_there b.folds puts_of (λ p. refl) ((e, n), x) h)
+
   -- the views tell such accounts
-  tells : (a : Account) → a.nodes ≡ count → a.words ≡ size → AreOf r.world r.books a → TellsAccount count size s a
+  tells : (a : Account) → a.nodes ≡ count → a.words ≡ size → AreOf r.world r.books a → TellsAccount count size s.views a
   tells a nodes words are = record {
     nodes = nodes;
     words = words;
-    holder = λ id v j p seat there e. let is = (r.shows.parts id v j p seat there).1 in
-        are.holder p.node e is.inside ∙ ap (λ (n : Node). holds_end n e) is.state;
-    put = λ e n q h. r.joined.put e n (Parcel q)
+    holder = λ id v j p seat there e. let is = node-shown b id v j p seat there in
+        are.holder p.node e is.0 ∙ ap (λ (n : Node). holds_end n e) is.1;
+    put = λ e n q h. put-in e n (Parcel q)
         (parcel-of (r.books.put e) (last-ends r.world r.books r.routes r.lawful e) n q (ap (λ z. slice_get z n) (sym (are.put e)) ∙ h));
     put_only = λ e n q h. ap (λ z. slice_get z n) (are.put e)
-        ∙ parcel-at (r.books.put e) (last-ends r.world r.books r.routes r.lawful e) n q (r.joined.put_only e n (Parcel q) h);
-    got = λ e n q h. r.joined.got e n q (ap (λ z. slice_get z n) (sym (are.got e)) ∙ h);
-    got_only = λ e n q h. ap (λ z. slice_get z n) (are.got e) ∙ r.joined.got_only e n q h;
-    closed = λ e h. let t = mark-at (r.books.put e) (sym (are.closed e) ∙ h) in (t.0, r.joined.put e t.0 Mark t.1);
-    closed_only = λ e n h. are.closed e ∙ has-mark (r.books.put e) n (r.joined.put_only e n Mark h);
+        ∙ parcel-at (r.books.put e) (last-ends r.world r.books r.routes r.lawful e) n q (in-put e n (Parcel q) h);
+    got = λ e n q h. entry_here b.folds gets_of (λ p. refl) ((e, n), q) (r.joined.got e n q (ap (λ z. slice_get z n) (sym (are.got e)) ∙ h));
+    got_only = λ e n q h. ap (λ z. slice_get z n) (are.got e) ∙ r.joined.got_only e n q (entry_there b.folds gets_of (λ p. refl) ((e, n), q) h);
+    closed = λ e h. let t = mark-at (r.books.put e) (sym (are.closed e) ∙ h) in (t.0, put-in e t.0 Mark t.1);
+    closed_only = λ e n h. are.closed e ∙ has-mark (r.books.put e) n (in-put e n Mark h);
   }
 
   -- also those that the world keeps by these books
-  pub kept-is-told : (a : Account) (k : Keeps r.world a) → k.stands.books ≡ r.books → TellsAccount count size s a
+  pub kept-is-told : (a : Account) (k : Keeps r.world a) → k.stands.books ≡ r.books → TellsAccount count size s.views a
   kept-is-told a k is = tells a (k.stands.nodes ∙ r.nodes) (k.words ∙ r.words) (record {
     holder = λ n e l. sym (k.stands.holder n e l);
     put = λ e. k.stands.put e ∙ ap (λ (b : Books). parcels_in (b.put e)) is;
@@ -191,7 +204,7 @@ module _ (count size : ℕ) (s : St) (r : Rules count size s) where
     closed = λ e. k.stands.closed e ∙ ap (λ (b : Books). is_closed b e) is;
   })
 
-  tells-books : TellsAccount count size s (told r.world r.books r.routes count size)
+  tells-books : TellsAccount count size s.views (told r.world r.books r.routes count size)
   tells-books = tells (told r.world r.books r.routes count size) refl refl (record {
     holder = λ n e l. holder-is r.world r.books r.routes r.lawful n e l;
     put = λ e. refl;
@@ -203,5 +216,5 @@ module _ (count size : ℕ) (s : St) (r : Rules count size s) where
   in-order e = first-parcels (r.books.got e) (r.books.put (opposite_end e)) (prefix r.world r.books r.routes r.lawful e)
 
 pub tables_tell_accounts : TablesTellAccounts
-tables_tell_accounts count size s r =
-    (told r.world r.books r.routes count size, tells-books count size s r, in-order count size s r, λ e h. unheld r.world r.books r.routes r.lawful e h)
+tables_tell_accounts count size alone s b = let r = b.rules in
+    (told r.world r.books r.routes count size, tells-books b, in-order b, λ e h. unheld r.world r.books r.routes r.lawful e h)

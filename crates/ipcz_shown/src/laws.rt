@@ -34,8 +34,8 @@ pub fn refusals_are_allowed()
     ensures { RefusalsAreAllowed }
 {}
 
-/// If each node is quiet and no mailbox is full, each portal in a parcel that a closed portal never got is closed; and a get at a cell is `Empty`
-/// only if all that the peer has put was got, and the peer isn't closed.
+/// If each node is quiet, nothing is left of a batch and no mailbox is full, each portal in a parcel that a closed portal never got is closed; and a get
+/// at a cell is `Empty` only if all that the peer has put was got, and the peer isn't closed.
 pub fn quiet_tables_deliver()
     ensures { QuietTablesDeliver }
 {}

@@ -53,7 +53,6 @@ pub mod StepWakers
 pub mod Tracking
 pub mod Turning
 pub mod Unused
-pub mod WaitedMail
 pub mod WordLaws
 pub mod WordWakers
 pub mod WorldRanks

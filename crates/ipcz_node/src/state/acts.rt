@@ -9,12 +9,13 @@ ghost use Rattle.ipcz_node.specs.Sends.{send};
 ghost use Rattle.ipcz_node.specs.RoomyNodes.{IsReady, CanTell, IsReadyFor, IsPossibleAct};
 ghost use Rattle.ipcz_node.specs.Acts.{has_left, keep_or_drop, commit_router, commit, post_of, Answers, rest_of};
 ghost use Rattle.std.specs.Prelude.{[]};
-ghost use Rattle.ipcz_base.specs.Indexed.{place_at};
+ghost use Rattle.ipcz_base.specs.Indexed.{place_at, put_place};
 ghost use Rattle.ipcz_node.specs.Node.{outbox};
 ghost use Rattle.ipcz_node.specs.Events.{act_event, event_of, link_acted, moved_by, router_event};
 
 use super::NodeState;
 use crate::act::Act;
+use crate::batch::Batch;
 use crate::happened::{Happened, act_event, link_of};
 use ipcz_base::{End, Ends, Item, LinkId, Message};
 use ipcz_router::act::{Answer, Applied, RouterAct};
@@ -185,6 +186,15 @@ impl NodeState {
             unreachable!()
         };
         message
+    }
+
+    /// Takes all messages for a node out of its outbox, into an empty batch. The outbox has the batch's room then.
+    pub fn post_all(&mut self, to: u8, batch: &mut Batch)
+        requires { batch.old ≡ [] }
+        ensures node { self.new.node ≡ record self.old.node { outboxes = put_place [] self.old.node.outboxes to [] } }
+        ensures batch { batch.new ≡ outbox self.old.node to }
+    {
+        self.outboxes.take_all(to, batch);
     }
 
     // A router does its act, and nothing is told: inlined where the act is known, so that nothing is made and taken apart for what it

@@ -1,7 +1,7 @@
-use Rattle.ipcz_rule.proofs.RunningDry.{dries}
+use Rattle.ipcz_rule.proofs.BatchPlainKinds.{dries}
 use Rattle.ipcz_cell.proofs.Seating.{may_by}
 use Rattle.ipcz_cell.proofs.cell.dry_here.Goals as goal
 
 pub touch-requires-clause-may : goal.touch-requires-clause-may
 touch-requires-clause-may g c =
-    may_by _ _ _ _ _ _ _ (λ n. n) _ _ c.requires.picked (dries _ _ _ _ _ _ _ _ c.args.serial c.requires.can.0 c.requires.whole c.requires.can.1)
+    may_by _ _ _ _ _ _ _ (λ n. n) _ _ c.requires.picked (dries _ _ _ _ _ _ _ _ _ c.args.serial c.requires.can.0 c.requires.whole c.requires.can.1)

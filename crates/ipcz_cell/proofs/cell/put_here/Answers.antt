@@ -1,7 +1,7 @@
 use Rattle.std.proofs.Common.{ap, ◌∙◌, arith}
 use Rattle.ipcz_node.specs.Node.{Node}
 use Rattle.ipcz_node.specs.Calls.{put_refusal}
-use Rattle.ipcz_rule.proofs.Putting.{puts}
+use Rattle.ipcz_rule.proofs.BatchPlainKinds.{puts}
 use Rattle.ipcz_cell.proofs.Seating.{number_inside, may_by}
 use Rattle.ipcz_cell.proofs.cell.put_here.Goals as goal
 
@@ -11,4 +11,4 @@ touch-requires-clause-node g c = let number = number_inside _ _ _ _ c.requires.s
 pub touch-requires-clause-may : goal.touch-requires-clause-may
 touch-requires-clause-may g c =
     let was = c.requires.seated in
-    may_by _ _ _ _ _ _ _ (λ n. n) _ _ c.requires.picked ((puts _ c.args.profile _ _ _ _ _ _ _ c.args.at c.args.bytes c.args.ends was.whole (ap (λ (z : Node). put_refusal c.args.profile z c.args.at c.args.bytes c.args.ends) was.state ∙ c.in_ok-n.ensures.allowed)))
+    may_by _ _ _ _ _ _ _ (λ n. n) _ _ c.requires.picked ((puts _ _ c.args.profile _ _ _ _ _ _ _ c.args.at c.args.bytes c.args.ends was.whole (ap (λ (z : Node). put_refusal c.args.profile z c.args.at c.args.bytes c.args.ends) was.state ∙ c.in_ok-n.ensures.allowed)))

@@ -5,7 +5,7 @@ use Rattle.atomic_table.proofs.Lists.{at_index}
 use lib.ListN.{get_elem?}
 use Rattle.ipcz_base.specs.declared.message.Message.{Message}
 use Rattle.ipcz_world.specs.declared.mail.Mail.{Mail}
-use Rattle.ipcz_rule.specs.Rule.{Slot}
+use Rattle.ipcz_rule.specs.Batches.{Batch}
 use Rattle.ipcz_cell.proofs.BoxesRead.{boxes_more, column_below, taken_more, there_more}
 use Rattle.ipcz_cell.proofs.ending.read_boxes.Goals as goal
 
@@ -28,7 +28,7 @@ loop-k-preserved c =
       hands = l.hands;
       read = boxes_more n c.args.first _ _ _ hands _ k _ _ c.word-word.result c.take-slot.result c.index_mut.result.now below l.read boxes_many
           (ap (λ ws. get_elem? (slots_items ws) (c.args.first + k)) (sym l.words) ∙ c.word-word.ensures)
-          (ap (λ (xs : List Slot). get_elem? xs k) (sym l.items) ∙ c.take-slot.ensures.value)
+          (ap (λ (xs : List Batch). get_elem? xs k) (sym l.items) ∙ c.take-slot.ensures.value)
           (at_index hands (k % n) c.index_mut.result.now inside c.index_mut.ensures.value)
           inside
           (ap (λ (h : Option Message). slice_set hands (k % n) h) c.read_box-mail.ensures.hand)

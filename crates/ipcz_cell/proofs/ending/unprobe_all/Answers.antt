@@ -31,20 +31,20 @@ pub unprobe_one-requires-clause-node : goal.unprobe_one-requires-clause-node
 unprobe_one-requires-clause-node g c = (c.loop-done.invariant.number, c.requires.node.1)
 
 pub unprobe_one-requires-clause-to : goal.unprobe_one-requires-clause-to
-unprobe_one-requires-clause-to g c = (left_first _ _ _ _ _ _ _ _ _ c.in-Some.to c.loop-done.invariant c.in-Some.ensures.first).0
+unprobe_one-requires-clause-to g c = (left_first _ _ _ _ _ _ _ _ _ _ c.in-Some.to c.loop-done.invariant c.in-Some.ensures.first).0
 
 pub unprobe_one-requires-clause-slot : goal.unprobe_one-requires-clause-slot
-unprobe_one-requires-clause-slot g c = (left_first _ _ _ _ _ _ _ _ _ c.in-Some.to c.loop-done.invariant c.in-Some.ensures.first).1
+unprobe_one-requires-clause-slot g c = (left_first _ _ _ _ _ _ _ _ _ _ c.in-Some.to c.loop-done.invariant c.in-Some.ensures.first).1
 
 pub loop-done-preserved : goal.loop-done-preserved
 loop-done-preserved g c =
-    left_more _ _ _ _ _ _ _ _ _ _ c.loop-done._done c.in-Some.to c.loop-done.invariant c.in-Some.ensures.first c.in-Some.ensures.once c.unprobe_one.ensures.table c.unprobe_one.ensures.done
+    left_more _ _ _ _ _ _ _ _ _ _ _ c.loop-done._done c.in-Some.to c.loop-done.invariant c.in-Some.ensures.first c.in-Some.ensures.once c.unprobe_one.ensures.table c.unprobe_one.ensures.done
 
 pub returns-clause-table : goal.returns-clause-table
 returns-clause-table g c = c.loop-done.invariant.own
 
 pub returns-clause-done : goal.returns-clause-done
-returns-clause-done g c = (left_none _ _ _ _ _ _ _ c.loop-done._done c.loop-done.invariant (omega (arith, c.loop-done-test.false))).0
+returns-clause-done g c = (left_none _ _ _ _ _ _ _ _ c.loop-done._done c.loop-done.invariant (omega (arith, c.loop-done-test.false))).0
 
 pub returns-clause-slots : goal.returns-clause-slots
-returns-clause-slots g c = (left_none _ _ _ _ _ _ _ c.loop-done._done c.loop-done.invariant (omega (arith, c.loop-done-test.false))).1
+returns-clause-slots g c = (left_none _ _ _ _ _ _ _ _ c.loop-done._done c.loop-done.invariant (omega (arith, c.loop-done-test.false))).1

@@ -1,5 +1,5 @@
 use Rattle.std.proofs.Common.{ℕ, sym, subst}
-use Rattle.ipcz_rule.specs.Rule.{Mine}
+use Rattle.ipcz_rule.specs.Batches.{BatchMine}
 use Rattle.ipcz_cell.specs.Cells.{AreSound}
 use Rattle.ipcz_cell.specs.Lettings.{MayLeave}
 use Rattle.ipcz_cell.specs.Seats.{mine_of}
@@ -49,4 +49,4 @@ leave_step-requires-clause-may g c =
 pub returns-in-EndAndSpare-clause-sound : goal.returns-in-EndAndSpare-clause-sound
 returns-in-EndAndSpare-clause-sound g c =
     let t = g.F.FabricName.table in
-    subst (λ (m : Mine). AreSound t.count t.size m.0) (sym c.return_step.ensures.me) c.leave_step.ensures.sound
+    subst (λ (m : BatchMine). AreSound t.count t.size m.0) (sym c.return_step.ensures.me) c.leave_step.ensures.sound

@@ -3,7 +3,7 @@ use Rattle.std.specs.Prelude.{option_to_list, Option}
 use Rattle.std.proofs.lemmas.List.{nil_from_length}
 use Rattle.ipcz_world.specs.World.{numbers_from}
 use Rattle.ipcz_rule.specs.declared.view.View.{View}
-use Rattle.ipcz_rule.specs.Rule.{Mine}
+use Rattle.ipcz_rule.specs.Batches.{BatchMine}
 use Rattle.ipcz_rule.specs.Start.{opening_parts, after_deal, dealt}
 use Rattle.ipcz_rule.proofs.Dealing.{kept_opening, dealt_opening}
 use Rattle.ipcz_cell.specs.CellStates.{first_part, part_in}
@@ -35,8 +35,8 @@ invariant_of-push_reserved g c =
     let below : c.loop-node.node < g.F.FabricName.table.count = omega (arith, c.loop-node-test.true, nodes) in
     let taken = body-taken _ _ _ _ _ _ below l.left c.pop_front.ensures.items c.in-Some.is in
     let body = c.body.view_is ∙ taken.0 in (
-      first-cell _ out c.loop-node.node below _ _ _ _ c.loop-node.seat.me.0.view c.deal-own.ensures.table.1 c.deal-own.ensures.dealt (ap (λ (m : Mine). m.0.parts) l.me)
-          (ap (λ (b : BodyValue). b.node) body) (ap (λ (b : BodyValue). b.probed) body),
+      first-cell _ out c.loop-node.node below _ _ _ _ _ c.loop-node.seat.me.0.view c.deal-own.ensures.table.1 c.deal-own.ensures.dealt (ap (λ (m : BatchMine). m.0.parts) l.me)
+          (ap (λ (b : BodyValue). b.node) body) (ap (λ (b : BodyValue). b.probed) body) (ap (λ (b : BodyValue). b.held) body),
       c.deal-own.ensures.none,
     )
 
@@ -50,11 +50,11 @@ loop-node-preserved g c =
     let taken = body-taken _ _ _ _ _ _ below l.left c.pop_front.ensures.items c.in-Some.is in
     let v : View = record { parts = opening_parts count n (count - n); seen = []; announced = None; caller = None } in
     let kept = kept_opening count v n below refl in
-    let own = ap (λ (m : Mine). m.0) c.deal-own.ensures.dealt ∙ ap (λ (m : Mine). dealt m.0) l.me in
+    let own = ap (λ (m : BatchMine). m.0) c.deal-own.ensures.dealt ∙ ap (λ (m : BatchMine). dealt m.0) l.me in
     let one = ap (λ (r : Option BodyValue). length (option_to_list r)) c.in-Some.is in
     record {
       own = c.deal-own.ensures.table.0;
-      me = c.deal-own.ensures.kept ∙ (ap (λ (m : Mine). (after_deal m.0, m.1)) l.me ∙ λ j. (record { parts = kept j; seen = []; announced = None; caller = None }, []));
+      me = c.deal-own.ensures.kept ∙ (ap (λ (m : BatchMine). (after_deal m.0, m.1)) l.me ∙ λ j. (record { parts = kept j; seen = []; announced = None; caller = None }, []));
       left = taken.1;
       cells = cells-more count n _ _ _ l.cells (ap part_in own ∙ ap first_part (dealt_opening count v n below refl)) (ap (λ (z : View). z.seen) own)
           c.push_reserved.ensures.items;

@@ -6,4 +6,4 @@ use Rattle.ipcz_rule.proofs.LastsAll.{ends}
 use Rattle.ipcz_rule.proofs.lasting.no_slot_is_lost.Goals as goal
 
 pub returns : goal.returns
-returns c = λ count limit k. no_slot_is_lost (virtual count limit) (sizes count limit k true) (laws_of ends count limit k true)
+returns c = λ count limit k. no_slot_is_lost (virtual count limit true) (sizes count limit k true) (laws_of ends count limit k true)

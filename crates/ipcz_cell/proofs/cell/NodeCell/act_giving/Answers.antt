@@ -8,4 +8,4 @@ use Rattle.ipcz_cell.proofs.cell.NodeCell.act_giving.Goals as goal
 pub invariant_of-self : goal.invariant_of-self
 invariant_of-self g c =
     let done = c.plain_here.ensures in
-    (touched_or_same c.plain_here.result _ _ _ _ _ _ _ _ _ _ _ _ c.self.invariant.0 done.seated done.done done.err refl (router_act_keeps c.args.serial c.args.act Plain _), none_then c.plain_here.ensures.slots c.self.invariant.1)
+    (touched_or_same c.plain_here.result _ _ _ _ _ _ _ _ _ _ _ _ _ c.self.invariant.0 done.seated done.done done.err refl (router_act_keeps c.args.serial c.args.act Plain _), none_then c.plain_here.ensures.slots c.self.invariant.1)

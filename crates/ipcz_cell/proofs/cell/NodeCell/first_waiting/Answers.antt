@@ -9,7 +9,7 @@ use Rattle.ipcz_cell.proofs.cell.NodeCell.first_waiting.Goals as goal
 
 pub invariant_of-self : goal.invariant_of-self
 invariant_of-self g c = (
-  subst (λ (z : Node). IsCell g.F.FabricName.table z c.self.inside.message c.self.inside.probed c.self.inside.seat.table_id (mine_of c.self.inside.seat.me))
+  subst (λ (z : Node). IsCell g.F.FabricName.table z c.self.inside.message c.self.inside.probed c.self.inside.held c.self.inside.seat.table_id (mine_of c.self.inside.seat.me))
       (sym (ap (λ (v : RoomyNode). v.node) c.first_dry.ensures.stays)) c.self.invariant.0,
   c.self.invariant.1,
 )

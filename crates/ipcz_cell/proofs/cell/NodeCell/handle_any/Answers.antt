@@ -1,14 +1,14 @@
-use Rattle.std.proofs.Common.{◌≡◌, ◌+◌, ◌*◌, ℕ, Option, Some, ap, sym, subst, ◌∙◌, refl, arith}
+use Rattle.std.specs.Prelude.{◌||◌}
+use Rattle.std.proofs.Common.{◌≡◌, ℕ, Option, Some, ap, sym, subst, ◌∙◌, arith}
 use Rattle.ipcz_base.specs.declared.message.Message.{Message}
 use Rattle.ipcz_node.specs.Node.{Node}
-use Rattle.ipcz_rule.specs.Rule.{Mine}
 use Rattle.ipcz_cell.specs.CellStates.{CellState, part_in}
-use Rattle.ipcz_cell.specs.Cells.{IsCell}
+use Rattle.ipcz_cell.specs.Cells.{IsCell, has_batch, is_hand_of}
+use Rattle.ipcz_cell.specs.Seats.{mine_of}
 use Rattle.ipcz_cell.proofs.Seating.{number_is, number_inside, own_sound}
-use Rattle.ipcz_cell.proofs.Posting.{handed_cell, hand_first}
+use Rattle.ipcz_cell.proofs.Posting.{handed_cell}
 use Rattle.ipcz_cell.proofs.Slotting.{none_then}
 use Rattle.ipcz_cell.proofs.cell.NodeCell.handle_any.Goals as goal
-use Rattle.ipcz_cell.specs.Seats.{mine_of}
 
 pub deliver-requires : goal.deliver-requires
 deliver-requires g c =
@@ -18,33 +18,31 @@ deliver-requires g c =
     let count = ap (λ (z : Node). z.count) (sym was.state) ∙ sound.count_is in
     omega (arith, from_low, count)
 
-pub hand_here-requires-clause-from : goal.hand_here-requires-clause-from
-hand_here-requires-clause-from g c =
+pub leave_slot-requires-clause-from : goal.leave_slot-requires-clause-from
+leave_slot-requires-clause-from g c =
     let sound = own_sound _ _ _ _ c.self.invariant.0.seated in
     sound.hand c.args.from (ap (λ (z : CellState). z.part.state.hand) c.self.view_is ∙ c.requires.hand)
 
-pub hand_here-requires-clause-node : goal.hand_here-requires-clause-node
-hand_here-requires-clause-node g c =
+pub leave_slot-requires-clause-node : goal.leave_slot-requires-clause-node
+leave_slot-requires-clause-node g c =
     let was = c.self.invariant.0.seated in
     let same = number_is _ _ _ _ was in
     let inside = number_inside _ _ _ _ was in
     let is = c.number-node.ensures in
-    (ap (λ (m : Mine). (part_in m.0).node) c.turn_over.ensures.me ∙ (sym same ∙ sym is), omega (arith, inside, is))
+    (sym same ∙ sym is, omega (arith, inside, is))
 
-pub hand_here-requires-clause-slot : goal.hand_here-requires-clause-slot
-hand_here-requires-clause-slot g c =
+pub leave_slot-requires-clause-held : goal.leave_slot-requires-clause-held
+leave_slot-requires-clause-held g c =
     let was = c.self.invariant.0 in
-    let t = g.F.FabricName.table in
-    let node : c.number-node.result ≡ (part_in c.self.inside.seat.me.0.view).node = c.number-node.ensures ∙ number_is _ _ _ _ was.seated in
-    hand_first t c.self.inside.state.node c.self.inside.state.node c.self.inside.message c.self.inside.probed c.self.inside.seat.table_id c.self.inside.seat.table_id (mine_of c.self.inside.seat.me) was refl (mine_of c.turn_over.new.seat.me) c.args.from _ _
-    (ap (λ (z : CellState). z.part.state.hand) c.self.view_is ∙ c.requires.hand) c.len.ensures.length (ap (λ (k : ℕ). c.args.from * t.count + k) node) c.turn_over.ensures.me
+    let hand = ap (λ (z : Node). z.hand) (sym was.seated.state) ∙ (ap (λ (z : CellState). z.part.state.hand) c.self.view_is ∙ c.requires.hand) in
+    λ s. was.held s ∙ ap (λ (o : Option ℕ). is_hand_of o s || has_batch (part_in c.self.inside.seat.me.0.view) s) hand
 
 pub invariant_of-self : goal.invariant_of-self
 invariant_of-self g c =
     let was = c.self.invariant.0 in
     let t = g.F.FabricName.table in
     let message : (part_in c.self.inside.seat.me.0.view).message ≡ Some c.in-Some.message = was.message ∙ (sym c.replace.ensures.value ∙ c.in-Some.is) in
-    let cell = handed_cell t c.self.inside.state.node c.deliver.new.self.node c.self.inside.message c.self.inside.probed c.self.inside.seat.table_id c.hand_here.new.seat.table_id (mine_of c.self.inside.seat.me) was
-    (c.hand_here.ensures.table ∙ c.turn_over.ensures.table) (mine_of c.turn_over.new.seat.me) (mine_of c.hand_here.new.seat.me) c.args.from _ c.args.source c.in-Some.message c.hand_here.ensures.sound
-    (ap (λ (z : CellState). z.part.state.hand) c.self.view_is ∙ c.requires.hand) message c.len.ensures.length c.turn_over.ensures.me c.hand_here.ensures.done c.in-Ok.ensures.ok in
-    (subst (λ (o : Option Message). IsCell t c.deliver.new.self.node o c.self.inside.probed c.hand_here.new.seat.table_id (mine_of c.hand_here.new.seat.me)) (sym c.replace.ensures.after) cell, none_then c.hand_here.ensures.slots (none_then c.turn_over.ensures.slots c.self.invariant.1))
+    let l = c.leave_slot.ensures in
+    let cell = handed_cell t c.self.inside.state.node c.deliver.new.self.node c.self.inside.message c.self.inside.probed c.self.inside.held c.self.inside.seat.table_id c.leave_slot.new.seat.table_id (mine_of c.self.inside.seat.me) was
+    l.table (mine_of c.leave_slot.new.seat.me) c.args.from c.args.source c.in-Some.message c.leave_slot.new.held l.sound (ap (λ (z : CellState). z.part.state.hand) c.self.view_is ∙ c.requires.hand) message l.done l.left l.held c.in-Ok.ensures.ok in
+    (subst (λ (o : Option Message). IsCell t c.deliver.new.self.node o c.self.inside.probed c.leave_slot.new.held c.leave_slot.new.seat.table_id (mine_of c.leave_slot.new.seat.me)) (sym c.replace.ensures.after) cell, none_then l.slots c.self.invariant.1)

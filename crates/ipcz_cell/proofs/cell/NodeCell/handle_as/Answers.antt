@@ -1,7 +1,8 @@
+use Rattle.std.proofs.lemmas.Result.{err_from_is_err_and}
 use Rattle.std.proofs.Common.{◌≡◌, ◌∙◌, Some, ap, sym}
 use Rattle.ipcz_cell.specs.CellStates.{CellState}
 use Rattle.ipcz_cell.specs.Mails.{old_named}
-use Rattle.ipcz_cell.proofs.TurnChains.{unnamed, names_none, fits_same, item_handled}
+use Rattle.ipcz_cell.proofs.TurnChains.{unnamed, names_none, fits_same, item_handled, item_refused}
 use Rattle.ipcz_cell.proofs.cell.NodeCell.handle_as.Goals as goal
 
 pub handle_alone-requires-clause-known : goal.handle_alone-requires-clause-known
@@ -21,3 +22,11 @@ returns g c =
       item.3 old.part.state c.args.from (fits_same old.part.state c.args.from old.part.message fit.0 item.0 fit.1 held fit.2),
       item_handled g.F.FabricName.table.size c.args.from old c.handle_alone.new.self item.0 held item.2 (done.taken c.if-branch.true) done.seen,
     )
+
+pub returns-in_err-handle_alone : goal.returns-in_err-handle_alone
+returns-in_err-handle_alone g c =
+    let item = c.in-Some.ensures in
+    let held : c.args.self.now.part.message ≡ Some item.0 = sym (ap (λ (z : CellState). z.part.message) c.self.view_is) ∙ (c.self.invariant.0.message ∙ item.1) in
+    let done = c.in_err-handle_alone.ensures in
+    let p = err_from_is_err_and c.from_residual.result c.from_residual.ensures.1 in
+    rw (p.1, p.2) (item_refused g.F.FabricName.table.size c.args.from c.args.self.now c.handle_alone.new.self item.0 _ held item.2 done.why done.err done.seen)

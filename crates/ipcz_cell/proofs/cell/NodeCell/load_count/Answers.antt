@@ -16,7 +16,7 @@ load_step-requires-clause-may g c =
 pub invariant_of-self : goal.invariant_of-self
 invariant_of-self g c =
     let done = c.load_step.ensures in
-    (seen_cell g.F.FabricName.table _ _ _ _ _ c.self.invariant.0 _ (mine_of c.load_step.new.seat.me) done.table done.sound _ c.load_step.result done.done.2, none_then c.load_step.ensures.slots c.self.invariant.1)
+    (seen_cell g.F.FabricName.table _ _ _ _ _ _ c.self.invariant.0 _ (mine_of c.load_step.new.seat.me) done.table done.sound _ c.load_step.result done.done.2, none_then c.load_step.ensures.slots c.self.invariant.1)
 
 pub returns-clause-seen : goal.returns-clause-seen
 returns-clause-seen g c =

@@ -1,5 +1,5 @@
 use Rattle.std.proofs.Common.{◌<◌, [], ◌∷◌, ◌++◌, ap, sym, ◌∙◌, arith}
-use Rattle.ipcz_rule.specs.Rule.{Mine}
+use Rattle.ipcz_rule.specs.Batches.{BatchMine}
 use Rattle.ipcz_cell.specs.CellStates.{CellState, part_in}
 use Rattle.ipcz_cell.specs.Mails.{old_named}
 use Rattle.ipcz_cell.proofs.Mailing.{seen_cell}
@@ -26,7 +26,7 @@ source_here-found-requires-clause-inside g c = let words = c.fabric.invariant.4 
 pub invariant_of-self : goal.invariant_of-self
 invariant_of-self g c =
     let done = c.source_here-found.ensures in
-    (seen_cell g.F.FabricName.table _ _ _ _ _ c.self.invariant.0 _ (mine_of c.source_here-found.new.seat.me) done.table done.sound c.in-Some.old c.source_here-found.result done.done.2, none_then c.source_here-found.ensures.slots c.self.invariant.1)
+    (seen_cell g.F.FabricName.table _ _ _ _ _ _ c.self.invariant.0 _ (mine_of c.source_here-found.new.seat.me) done.table done.sound c.in-Some.old c.source_here-found.result done.done.2, none_then c.source_here-found.ensures.slots c.self.invariant.1)
 
 pub returns : goal.returns
 returns g c =
@@ -38,5 +38,5 @@ returns g c =
     loads_one g.F.FabricName.table.size c.args.from i n c.args.self.now _ c.source.result
     (ap (λ (z : CellState). old_named z.part.message) (sym c.self.view_is) ∙ (ap old_named was.message ∙ (sym c.old_word.ensures ∙ c.in-Some.is)))
     inside done.0 done.1 c.source.ensures
-    (ap (λ (m : Mine). part_in m.0) done.2 ∙ ap (λ (o : CellState). o.part) c.self.view_is)
-    (ap (λ (m : Mine). m.0.seen) done.2 ∙ ap (λ (o : CellState). o.seen ++ (i, n) ∷ []) c.self.view_is)
+    (ap (λ (m : BatchMine). part_in m.0) done.2 ∙ ap (λ (o : CellState). o.part) c.self.view_is)
+    (ap (λ (m : BatchMine). m.0.seen) done.2 ∙ ap (λ (o : CellState). o.seen ++ (i, n) ∷ []) c.self.view_is)

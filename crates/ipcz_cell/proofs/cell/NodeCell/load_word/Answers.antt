@@ -14,7 +14,7 @@ load_link-requires-clause-may g c = word_load_may g.F.FabricName.table _ c.args.
 pub invariant_of-self : goal.invariant_of-self
 invariant_of-self g c =
     let done = c.load_link.ensures in
-    (seen_cell g.F.FabricName.table _ _ _ _ _ c.self.invariant.0 _ (mine_of c.load_link.new.seat.me) done.table done.sound c.args.i c.load_link.result done.done.1, none_then c.load_link.ensures.slots c.self.invariant.1)
+    (seen_cell g.F.FabricName.table _ _ _ _ _ _ c.self.invariant.0 _ (mine_of c.load_link.new.seat.me) done.table done.sound c.args.i c.load_link.result done.done.1, none_then c.load_link.ensures.slots c.self.invariant.1)
 
 pub returns-clause-seen : goal.returns-clause-seen
 returns-clause-seen g c =

@@ -2,7 +2,8 @@ use Rattle.std.proofs.Common.{◌≡◌, ℕ, Some, ap, sym, subst, ◌∙◌, r
 use Rattle.ipcz_router.specs.declared.act.RouterAct.TheVariants as router_acts
 use Rattle.ipcz_node.specs.declared.act.Act.TheVariants as acts
 use Rattle.ipcz_node.specs.Node.{Node}
-use Rattle.ipcz_rule.specs.Rule.{Mine, saw}
+use Rattle.ipcz_rule.specs.Rule.{saw}
+use Rattle.ipcz_rule.specs.Batches.{BatchMine}
 use Rattle.ipcz_cell.specs.CellStates.{CellState, part_in}
 use Rattle.ipcz_cell.specs.Words.{CanWord}
 use Rattle.ipcz_world.proofs.code.WordNumbers.{spelled}
@@ -46,7 +47,7 @@ invariant_of-self g c =
     let loaded = c.status_here-found.ensures in
     let refused = c.is_refused-refused.ensures in
     let done = status_told n side c.source_of-source.result c.try_lock-plan.result true _ _ c.try_lock-plan.ensures.plan (sym refused ∙ c.if-refused.true) loaded.done.2 in (
-      acted_cell t _ _ _ _ me was _ (mine_of c.status_here-found.new.seat.me) loaded.table loaded.sound c.commit_word.new.state.node i c.args.serial n side c.source_of-source.result router_acts.Lock c.answer_act-answered.result.answer done c.answer_act-answered.ensures.answer
+      acted_cell t _ _ _ _ _ me was _ (mine_of c.status_here-found.new.seat.me) loaded.table loaded.sound c.commit_word.new.state.node i c.args.serial n side c.source_of-source.result router_acts.Lock c.answer_act-answered.result.answer done c.answer_act-answered.ensures.answer
           (c.commit_word.ensures ∙ ap (λ (z : Node). commit z (acts.Router c.args.serial router_acts.Lock) c.answer_act-answered.result.answer) c.word_here-word.ensures.node),
       none_then c.status_here-found.ensures.slots c.self.invariant.1,
     )
@@ -88,7 +89,7 @@ lock_here-now-requires-clause-can g c =
     let loaded = c.status_here-found.ensures in
     let free = sym c.is_refused-refused.ensures ∙ c.if-refused.false in
     let seen = status_told n side c.source_of-source.result c.try_lock-plan.result false _ _ c.try_lock-plan.ensures.plan free loaded.done.2 in
-    subst (λ (m : Mine). CanWord (part_in m.0).state c.args.serial side router_acts.Lock i) (sym seen) (subst (λ (z : Node). CanWord z c.args.serial side router_acts.Lock i) (sym was.seated.state) c.word_here-word.ensures.can)
+    subst (λ (m : BatchMine). CanWord (part_in m.0).state c.args.serial side router_acts.Lock i) (sym seen) (subst (λ (z : Node). CanWord z c.args.serial side router_acts.Lock i) (sym was.seated.state) c.word_here-word.ensures.can)
 
 pub lock_here-now-requires-clause-inside : goal.lock_here-now-requires-clause-inside
 lock_here-now-requires-clause-inside g c =
@@ -112,8 +113,8 @@ invariant_of-self-then-now-found g c =
     let seen = status_told n side c.source_of-source.result c.try_lock-plan.result false _ _ c.try_lock-plan.ensures.plan free loaded.done.2 in
     let now = c.lock_here-now.result in
     let miss = told_miss _ n _ _ c.if-now-found.true c.lock_here-now.ensures.done.2 in
-    let done = miss ∙ ap (λ (m : Mine). (saw i now m.0, m.1)) seen in
-    (raced_cell t _ _ _ _ me was _ (mine_of c.lock_here-now.new.seat.me) (c.lock_here-now.ensures.table ∙ loaded.table) c.lock_here-now.ensures.sound c.word_here-word.new.state.node i n now me.0 done c.word_here-word.ensures.node, none_then c.lock_here-now.ensures.slots (none_then c.status_here-found.ensures.slots c.self.invariant.1))
+    let done = miss ∙ ap (λ (m : BatchMine). (saw i now m.0, m.1)) seen in
+    (raced_cell t _ _ _ _ _ me was _ (mine_of c.lock_here-now.new.seat.me) (c.lock_here-now.ensures.table ∙ loaded.table) c.lock_here-now.ensures.sound c.word_here-word.new.state.node i n now me.0 done c.word_here-word.ensures.node, none_then c.lock_here-now.ensures.slots (none_then c.status_here-found.ensures.slots c.self.invariant.1))
 
 pub returns-then-now-found : goal.returns-then-now-found
 returns-then-now-found g c =
@@ -130,7 +131,7 @@ returns-then-now-found g c =
     let seen = status_told n side c.source_of-source.result c.try_lock-plan.result false _ _ c.try_lock-plan.ensures.plan free loaded.done.2 in
     let now = c.lock_here-now.result in
     let miss = told_miss _ n _ _ c.if-now-found.true c.lock_here-now.ensures.done.2 in
-    let done = miss ∙ ap (λ (m : Mine). (saw i now m.0, m.1)) seen in
+    let done = miss ∙ ap (λ (m : BatchMine). (saw i now m.0, m.1)) seen in
     let can = subst (λ (z : Node). CanWord z c.args.serial side router_acts.Lock i) (sym was.seated.state) c.word_here-word.ensures.can in
     let inside = (own_sound _ _ _ _ was.seated).primary c.args.serial can.router i can.can.there can.primary in
     record {
@@ -160,9 +161,9 @@ invariant_of-self-2 g c =
     let seen = status_told n side c.source_of-source.result c.try_lock-plan.result false _ _ c.try_lock-plan.ensures.plan free loaded.done.2 in
     let now = c.lock_here-now.result in
     let hit = told_hit _ n _ _ c.if-now-found.false c.lock_here-now.ensures.done.2 in
-    let done = hit ∙ ap (λ (m : Mine). (act_view i c.args.serial side c.source_of-source.result router_acts.Lock now m.0, m.1)) seen in
+    let done = hit ∙ ap (λ (m : BatchMine). (act_view i c.args.serial side c.source_of-source.result router_acts.Lock now m.0, m.1)) seen in
     let word = subst (λ (k : ℕ). c.answer_act-answered.result.answer ≡ word_answer (word_of_bits k) side c.source_of-source.result router_acts.Lock) (sym c.if-now-found.false) c.answer_act-answered.ensures.answer in (
-      tried_cell t _ _ _ _ me was _ (mine_of c.lock_here-now.new.seat.me) (c.lock_here-now.ensures.table ∙ loaded.table) c.lock_here-now.ensures.sound c.commit_word-2.new.state.node i c.args.serial n now side c.source_of-source.result router_acts.Lock c.answer_act-answered.result.answer done word
+      tried_cell t _ _ _ _ _ me was _ (mine_of c.lock_here-now.new.seat.me) (c.lock_here-now.ensures.table ∙ loaded.table) c.lock_here-now.ensures.sound c.commit_word-2.new.state.node i c.args.serial n now side c.source_of-source.result router_acts.Lock c.answer_act-answered.result.answer done word
           (c.commit_word-2.ensures ∙ ap (λ (z : Node). commit z (acts.Router c.args.serial router_acts.Lock) c.answer_act-answered.result.answer) c.word_here-word.ensures.node),
       none_then c.lock_here-now.ensures.slots (none_then c.status_here-found.ensures.slots c.self.invariant.1),
     )
@@ -182,7 +183,7 @@ returns g c =
     let seen = status_told n side c.source_of-source.result c.try_lock-plan.result false _ _ c.try_lock-plan.ensures.plan free loaded.done.2 in
     let now = c.lock_here-now.result in
     let hit = told_hit _ n _ _ c.if-now-found.false c.lock_here-now.ensures.done.2 in
-    let done = hit ∙ ap (λ (m : Mine). (act_view i c.args.serial side c.source_of-source.result router_acts.Lock now m.0, m.1)) seen in
+    let done = hit ∙ ap (λ (m : BatchMine). (act_view i c.args.serial side c.source_of-source.result router_acts.Lock now m.0, m.1)) seen in
     let can = subst (λ (z : Node). CanWord z c.args.serial side router_acts.Lock i) (sym was.seated.state) c.word_here-word.ensures.can in
     let inside = (own_sound _ _ _ _ was.seated).primary c.args.serial can.router i can.can.there can.primary in
     record {
@@ -207,4 +208,4 @@ lock_here-now-requires-clause-named g c =
     let loaded = c.status_here-found.ensures in
     let free = sym c.is_refused-refused.ensures ∙ c.if-refused.false in
     let seen = status_told n side c.source_of-source.result c.try_lock-plan.result false _ _ c.try_lock-plan.ensures.plan free loaded.done.2 in
-    c.source_of-source.ensures ∙ (ap (λ (z : Node). source_in z c.args.serial) (c.word_here-word.ensures.node ∙ sym was.seated.state) ∙ ap (λ (m : Mine). source_in (part_in m.0).state c.args.serial) (sym seen))
+    c.source_of-source.ensures ∙ (ap (λ (z : Node). source_in z c.args.serial) (c.word_here-word.ensures.node ∙ sym was.seated.state) ∙ ap (λ (m : BatchMine). source_in (part_in m.0).state c.args.serial) (sym seen))

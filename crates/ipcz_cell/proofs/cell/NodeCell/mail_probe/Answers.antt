@@ -29,8 +29,8 @@ invariant_of-self-2 g c =
     let done = c.probe_here-found.ensures in
     let node : c.number.result ≡ (part_in c.self.inside.seat.me.0.view).node = c.number.ensures ∙ number_is _ _ _ _ was.seated in
     let hit = told_hit _ 0 _ _ c.if-found-ne0.false done.done in
-    let cell = probed_cell _ _ _ _ _ _ was _ _ done.table done.sound (mail_word t c.number.result to) (slot_of t c.number.result to) to _ c.requires (ap (λ (n : ℕ). n * t.count + to) node) hit in
-    (subst (λ (l : List ℕ). IsCell t c.self.inside.state.node c.self.inside.message l c.probe_here-found.new.seat.table_id (mine_of c.probe_here-found.new.seat.me)) (sym c.add.ensures) cell, none_then c.probe_here-found.ensures.slots c.self.invariant.1)
+    let cell = probed_cell _ _ _ _ _ _ _ was _ _ done.table done.sound (mail_word t c.number.result to) (slot_of t c.number.result to) to _ c.requires (ap (λ (n : ℕ). n * t.count + to) node) hit in
+    (subst (λ (l : List ℕ). IsCell t c.self.inside.state.node c.self.inside.message l c.self.inside.held c.probe_here-found.new.seat.table_id (mine_of c.probe_here-found.new.seat.me)) (sym c.add.ensures) cell, none_then c.probe_here-found.ensures.slots c.self.invariant.1)
 
 pub returns : goal.returns
 returns g c =

@@ -13,4 +13,4 @@ returns-clause-inside g c =
     omega (arith, inside, is)
 
 pub returns-clause-sound : goal.returns-clause-sound
-returns-clause-sound g c = cell_sound _ _ _ _ _ _ _ c.self.invariant.0 (ap (λ (z : CellState). z.part) c.self.view_is)
+returns-clause-sound g c = cell_sound _ _ _ _ _ _ _ _ c.self.invariant.0 (ap (λ (z : CellState). z.part) c.self.view_is)

@@ -8,7 +8,7 @@ post_by-requires-clause-probed g c =
     let t = g.F.FabricName.table in
     let old = c.args.self.now in
     let h = subst (λ (b : Bool). Probes (mail_word t old.part.node c.args.to) c.args.to old b c.mail_probe.new.self) c.if-not-mail_probe.false c.mail_probe.ensures in
-    (probed_can (mail_word t old.part.node c.args.to) c.args.to old c.mail_probe.new.self h).0
+    (probed_can t (mail_word t old.part.node c.args.to) c.args.to old c.mail_probe.new.self h).0
 
 pub returns : goal.returns
 returns g c =

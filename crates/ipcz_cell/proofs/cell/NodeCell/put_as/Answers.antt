@@ -7,4 +7,4 @@ use Rattle.ipcz_cell.proofs.cell.NodeCell.put_as.Goals as goal
 pub invariant_of-self : goal.invariant_of-self
 invariant_of-self g c =
     let done = c.put_here.ensures in
-    (touched_or_same c.put_here.result _ _ _ _ _ _ _ _ _ _ _ _ c.self.invariant.0 done.seated done.done done.err refl (put_keeps _ _ _ _), none_then c.put_here.ensures.slots c.self.invariant.1)
+    (touched_or_same c.put_here.result _ _ _ _ _ _ _ _ _ _ _ _ _ c.self.invariant.0 done.seated done.done done.err refl (put_keeps _ _ _ _), none_then c.put_here.ensures.slots c.self.invariant.1)

@@ -27,8 +27,8 @@ invariant_of-self g c =
     let p' = wet_part c.args.serial (part_in me.0) in
     let v' = change_part (wet_part c.args.serial) me.0 in
     let state = ap (λ (z : Node). rewet_node z c.args.serial) was.seated.state ∙ sym c.rewet.ensures in (
-      touched_cell g.F.FabricName.table _ _ _ _ _ _ me (mine_of c.wet_here.new.seat.me) p' v' was
+      touched_cell g.F.FabricName.table _ _ _ _ _ _ _ me (mine_of c.wet_here.new.seat.me) p' v' was
           (reseated g.F.FabricName.table _ _ me was.seated c.rewet.new.self.node _ (mine_of c.wet_here.new.seat.me) p' v' me.1 step.table step.done refl state step.sound)
-          step.done refl (record { node = refl; hand = wet_hand (part_in me.0).state c.args.serial; message = refl; probed = refl }),
+          step.done refl (record { node = refl; hand = wet_hand (part_in me.0).state c.args.serial; message = refl; probed = refl; batches = refl }),
       none_then step.slots c.self.invariant.1,
     )

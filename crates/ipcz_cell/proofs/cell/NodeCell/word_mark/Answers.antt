@@ -6,7 +6,7 @@ use Rattle.ipcz_node.specs.Acts.{commit}
 use Rattle.ipcz_word.specs.Layout.{word_of_bits}
 use Rattle.ipcz_world.specs.WordAnswers.{word_answer}
 use Rattle.ipcz_world.proofs.code.WordNumbers.{spelled}
-use Rattle.ipcz_rule.specs.Rule.{Mine}
+use Rattle.ipcz_rule.specs.Batches.{BatchMine}
 use Rattle.ipcz_rule.specs.Steps.{act_part}
 use Rattle.ipcz_cell.specs.CellStates.{CellState, part_in}
 use Rattle.ipcz_cell.specs.Words.{CanWord}
@@ -36,7 +36,7 @@ pub invariant_of-self : goal.invariant_of-self
 invariant_of-self g c =
     let was = c.self.invariant.0 in
     let done = c.mark_here-found.ensures in (
-      acted_cell g.F.FabricName.table _ _ _ _ (mine_of c.self.inside.seat.me) was _ (mine_of c.mark_here-found.new.seat.me) done.table done.sound c.commit_word.new.state.node c.word_here-i.result.0 c.args.serial c.mark_here-found.result c.word_here-i.result.1 None router_acts.Mark c.answer_act-answered.result.answer done.done.2 c.answer_act-answered.ensures.answer
+      acted_cell g.F.FabricName.table _ _ _ _ _ (mine_of c.self.inside.seat.me) was _ (mine_of c.mark_here-found.new.seat.me) done.table done.sound c.commit_word.new.state.node c.word_here-i.result.0 c.args.serial c.mark_here-found.result c.word_here-i.result.1 None router_acts.Mark c.answer_act-answered.result.answer done.done.2 c.answer_act-answered.ensures.answer
           (c.commit_word.ensures ∙ ap (λ (z : Node). commit z (acts.Router c.args.serial router_acts.Mark) c.answer_act-answered.result.answer) c.word_here-i.ensures.node),
       none_then c.mark_here-found.ensures.slots c.self.invariant.1,
     )
@@ -52,6 +52,6 @@ returns g c =
       named = ap (λ (z : CellState). word_side z.part.state c.args.serial) (sym c.self.view_is) ∙ (ap (λ (z : Node). word_side z c.args.serial) was.seated.state ∙ c.word_here-i.ensures.named);
       is_word = done.0;
       after = sym (spelled _ _ c.answer_act-answered.ensures.word c.answer_act-answered.ensures.valid);
-      part = ap (λ (m : Mine). part_in m.0) done.2 ∙ ap (λ (o : CellState). act_part (acts.Router c.args.serial router_acts.Mark) (word_answer (word_of_bits c.mark_here-found.result) side None router_acts.Mark) o.part) c.self.view_is;
-      seen = ap (λ (m : Mine). m.0.seen) done.2 ∙ ap (λ (o : CellState). o.seen ++ (c.word_here-i.result.0, c.mark_here-found.result) ∷ []) c.self.view_is;
+      part = ap (λ (m : BatchMine). part_in m.0) done.2 ∙ ap (λ (o : CellState). act_part (acts.Router c.args.serial router_acts.Mark) (word_answer (word_of_bits c.mark_here-found.result) side None router_acts.Mark) o.part) c.self.view_is;
+      seen = ap (λ (m : BatchMine). m.0.seen) done.2 ∙ ap (λ (o : CellState). o.seen ++ (c.word_here-i.result.0, c.mark_here-found.result) ∷ []) c.self.view_is;
     }

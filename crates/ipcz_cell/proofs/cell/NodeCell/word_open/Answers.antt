@@ -2,7 +2,7 @@ use Rattle.std.proofs.Common.{[], ◌∷◌, ◌++◌, ap, sym, ◌∙◌, arith
 use Rattle.ipcz_base.specs.declared.end.End.{End}
 use Rattle.ipcz_node.specs.Node.{Node}
 use Rattle.ipcz_node.specs.Calls.{serials_refusal, open_node}
-use Rattle.ipcz_rule.specs.Rule.{Mine}
+use Rattle.ipcz_rule.specs.Batches.{BatchMine}
 use Rattle.ipcz_rule.specs.Steps.{open_part}
 use Rattle.ipcz_cell.specs.CellStates.{CellState, part_in, roomy}
 use Rattle.ipcz_cell.proofs.Seating.{own_sound}
@@ -34,7 +34,7 @@ pub invariant_of-self : goal.invariant_of-self
 invariant_of-self g c =
     let done = c.exchange_link.ensures in
     let was = c.self.invariant.0 in (
-      changed_cell g.F.FabricName.table _ _ _ _ (mine_of c.self.inside.seat.me) was _ (mine_of c.exchange_link.new.seat.me) done.table done.sound (open_part c.in-Some.word) _ c.open_commit.new.self.node done.done.1
+      changed_cell g.F.FabricName.table _ _ _ _ _ (mine_of c.self.inside.seat.me) was _ (mine_of c.exchange_link.new.seat.me) done.table done.sound (open_part c.in-Some.word) _ c.open_commit.new.self.node done.done.1
           (ap (λ (z : Node). open_node z c.in-Some.word) was.seated.state ∙ sym c.open_commit.ensures.node) (open_keeps c.in-Some.word _),
       none_then c.exchange_link.ensures.slots c.self.invariant.1,
     )
@@ -53,6 +53,6 @@ returns-clause-opens g c =
       word = i;
       under_way = ap (λ (o : CellState). o.part.state.opening) (sym c.self.view_is) ∙ (ap (λ (z : Node). z.opening) c.self.invariant.0.seated.state ∙ sym c.in-Some.ensures);
       ends_are = c.open_commit.ensures.ends;
-      part = ap (λ (m : Mine). part_in m.0) done.1 ∙ ap (λ (o : CellState). open_part i o.part) c.self.view_is;
-      seen = ap (λ (m : Mine). m.0.seen) done.1 ∙ ((λ j. c.self.inside.seat.me.0.view.seen ++ (i, done.0 j) ∷ []) ∙ ap (λ (o : CellState). o.seen ++ (i, 0) ∷ []) c.self.view_is);
+      part = ap (λ (m : BatchMine). part_in m.0) done.1 ∙ ap (λ (o : CellState). open_part i o.part) c.self.view_is;
+      seen = ap (λ (m : BatchMine). m.0.seen) done.1 ∙ ((λ j. c.self.inside.seat.me.0.view.seen ++ (i, done.0 j) ∷ []) ∙ ap (λ (o : CellState). o.seen ++ (i, 0) ∷ []) c.self.view_is);
     }

@@ -1,0 +1,5 @@
+use Rattle.ipcz_rule.proofs.BatchMailKinds.{hands_turns}
+use Rattle.ipcz_rule.proofs.batch_mail.a_hand_keeps_batches.Goals as goal
+
+pub returns : goal.returns
+returns c = hands_turns
