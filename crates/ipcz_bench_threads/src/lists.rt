@@ -1,7 +1,7 @@
 //! A node at several of whose portals something may come.
 use crate::talkers::{LONGEST, TURNS, Talker, bytes_of};
 use ipcz_base::Refusal;
-use ipcz_fabric::{FabricName, Hub, Portal};
+use ipcz_fabric::{FabricName, Hub, Portal, PortalSet};
 use ipcz_node::Happened;
 use std::alloc::Global;
 use std::sync::Wait;
@@ -16,12 +16,13 @@ pub enum Asks {
     Gets,
 }
 
-/// Some portals of a hub's node. It puts at the last one.
+/// Some portals of a hub's node, and the set of them. It puts at the last one.
 #[derive(Drop)]
 pub struct Listed<'a, R, F: FabricName> {
     pub rt: &'a R,
     pub hub: &'a Hub<F>,
     pub portals: &'a [Portal<F>],
+    pub set: PortalSet<F>,
     pub node: u8,
     pub asks: Asks,
     pub alloc: Global,
@@ -62,7 +63,7 @@ impl<'a, R: Wait + Clock, F: FabricName> Talker for Listed<'a, R, F> {
 impl<'a, R: Wait + Clock, F: FabricName> Listed<'a, R, F> {
     // Gets at the portal where something has come.
     fn get_ready(&self) -> bool {
-        let Ok(place) = self.hub.wait_any(self.rt, self.portals, Duration::ZERO) else {
+        let Ok(place) = self.hub.wait_any(self.rt, &self.set, Duration::ZERO) else {
             return false;
         };
         match self.portals.get(place) {
@@ -70,6 +71,15 @@ impl<'a, R: Wait + Clock, F: FabricName> Listed<'a, R, F> {
             None => false,
         }
     }
+}
+
+/// These portals, as a set, in their order.
+pub fn set_of<F: FabricName>(alloc: Global, portals: &[Portal<F>]) -> Option<PortalSet<F>> {
+    let mut set = PortalSet::new(alloc);
+    for portal in portals {
+        set.add(portal).ok()?;
+    }
+    Some(set)
 }
 
 /// So many portals of a node: those of pairs that are opened there, of which the others' list has the peers, and this one behind them.

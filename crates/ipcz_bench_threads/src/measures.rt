@@ -1,7 +1,7 @@
 //! What each measure does, and how long it takes.
 ghost use Rattle.std.specs.Prelude.{◌≡◌};
 
-use crate::lists::{Asks, Listed, list_behind};
+use crate::lists::{Asks, Listed, list_behind, set_of};
 use crate::loops::{
     Idly, answer, ask, get_all, get_late, get_stream, pass, pass_runs, put_all, put_late,
     put_stream, whole_runs,
@@ -249,6 +249,7 @@ fn timed_lists<F: FabricName + Send + Sync, R: Threads + Wait + Clock + Sync>(
         rt,
         hub,
         portals,
+        set: set_of(alloc, portals)?,
         node: 0,
         asks,
         alloc,
@@ -257,6 +258,7 @@ fn timed_lists<F: FabricName + Send + Sync, R: Threads + Wait + Clock + Sync>(
         rt,
         hub,
         portals: list,
+        set: set_of(alloc, list)?,
         node: 1,
         asks,
         alloc,

@@ -15,8 +15,8 @@ use Rattle.ipcz_cell.specs.TableNames.{TableName}
 use Rattle.ipcz_cell.specs.Retries.{Retries}
 use Rattle.ipcz_rule.specs.declared.retry.Retry.{Retry}
 use Rattle.ipcz_rule.specs.declared.retry.Retry.TheVariants as retries
-use Rattle.ipcz_cell.specs.declared.node_set.NodeSet.{NodeSet}
-use Rattle.ipcz_cell.specs.NodeSets.{no_nodes}
+use Rattle.ipcz_node.specs.declared.node_set.NodeSet.{NodeSet}
+use Rattle.ipcz_node.specs.NodeSets.{no_nodes}
 use Rattle.ipcz_cell.specs.TurnChains.{RunsTouching}
 use Rattle.ipcz_c.specs.declared.cell_handle.CellHandle.{CellHandle}
 use Rattle.ipcz_c.specs.declared.portal.Portal.{Portal}

@@ -1,5 +1,5 @@
 -- What the loads of a turn have found, and which act comes first by it.
-use Rattle.std.specs.Prelude.{◌≡◌, ◌≢◌, ◌⊎◌, ◌≤◌, ◌<◌, ◌+◌, ℕ, zero, suc, Bool, true, false, not, ◌&&◌, List, [], ◌∷◌, ◌++◌, ◌||◌, replicate, eqb, unwrap_or, MatchBool, MatchOption, Option, Some, None}
+use Rattle.std.specs.Prelude.{◌≡◌, ◌≢◌, ◌⊎◌, ◌≤◌, ◌<◌, ◌+◌, ℕ, zero, suc, Bool, true, false, ◌&&◌, List, [], ◌∷◌, ◌++◌, ◌||◌, replicate, eqb, unwrap_or, MatchBool, MatchOption, Option, Some, None}
 use Rattle.std.proofs.Common.{inl, inr, ⊎_elim, ap, sym, subst, ◌∙◌, refl, arith, append_assoc, append-nil}
 use Rattle.std.proofs.lemmas.Bool.Decides.{nat_tests}
 use Rattle.std.specs.Int.{bit_at}
@@ -10,8 +10,7 @@ use Rattle.ipcz_base.specs.Indexed.{place_at}
 use Rattle.ipcz_node.specs.declared.act.Act.{Act}
 use Rattle.ipcz_node.specs.declared.act.Act.TheVariants as acts
 use Rattle.ipcz_node.specs.Node.{Node, Found, flagged_router}
-use Rattle.ipcz_node.specs.Acts.{are_empty, has_mail_for, first_number, next, node_turn, close_turn, router_turn}
-use Rattle.ipcz_node.proofs.Mailing.{no_mail_for}
+use Rattle.ipcz_node.specs.Acts.{has_mail_for, first_number, next, node_turn, close_turn, router_turn}
 use Rattle.ipcz_rule.specs.declared.view.Part.{Part}
 use Rattle.ipcz_rule.specs.Rule.{has_number}
 use Rattle.ipcz_rule.specs.Batches.{BatchMine}
@@ -221,25 +220,19 @@ module _ (t : TableName) (a b c : CellState) (end : ℕ) (l : LooksEmpty t a b e
     first = (low, (λ to below. shut_more t a.part to l.found h.found (l.none to below)), open_later t a.part end l.found h.found open_there);
   }
 
-pub empty_end : (t : TableName) (a b : CellState) (end : ℕ) → end ≡ t.count → LooksEmpty t a b end → FindsEmpty t a None b
-empty_end t a b end is l = record { found = l.found; looked = l.looked; first = subst (λ (k : ℕ). NoneEmpty t a.part k l.found) is l.none }
-
--- no message waits
-pub empty_mailless : (t : TableName) (a : CellState) → not (are_empty a.part.state.outboxes) ≡ false → FindsEmpty t a None a
-empty_mailless t a none = record {
-  found = [];
-  looked = looked_none a;
-  first = λ to low mail. absurd (let bad = sym (no_mail_for a.part.state to (all (are_empty a.part.state.outboxes) none)) ∙ mail in cc);
+-- nodes that no message waits for
+pub empty_pass : (t : TableName) (a b : CellState) (end next : ℕ) → LooksEmpty t a b end → ((j : ℕ) → end ≤ j → j < next → has_mail_for a.part.state j ≡ false) → LooksEmpty t a b next
+empty_pass t a b end next l nothing = record {
+  found = l.found;
+  looked = l.looked;
+  none = λ to below. dite (dec_lt to end) (λ low. l.none to low) (λ high mail. absurd (let bad = sym (nothing to (omega (arith, high)) below) ∙ mail in cc));
 }
-  where
-    all : (b : Bool) → not b ≡ false → b ≡ true
-    all true h = refl
-    all false h = cc
 
--- whether a message can be posted
-pub post_mailless : (t : TableName) (to : ℕ) (a : CellState) → has_mail_for a.part.state to ≡ false → CanPost t to a false a
-post_mailless t to a e = record { found = []; looked = looked_none a; can = λ mail. absurd (let bad = sym e ∙ mail in cc) }
+-- to no node can a message be posted
+pub empty_end : (t : TableName) (a b : CellState) (end : ℕ) → t.count ≤ end → LooksEmpty t a b end → FindsEmpty t a None b
+empty_end t a b end all l = record { found = l.found; looked = l.looked; first = λ to low. l.none to (omega (arith, low, all)) }
 
+-- whether a message can be posted to a node that one waits for
 pub post_probed : (t : TableName) (to : ℕ) (a : CellState) → has_mail_for a.part.state to ≡ true → has_number a.part.probed to ≡ true → CanPost t to a true a
 post_probed t to a mail e = record { found = []; looked = looked_none a; can = record { mail = mail; free = λ f. absurd (let bad = sym e ∙ f in cc) } }
 

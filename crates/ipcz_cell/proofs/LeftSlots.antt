@@ -4,9 +4,7 @@ use Rattle.std.specs.Prelude.{◌≡◌, ◌+◌, ◌-◌, ◌*◌, ◌++◌, �
 use Rattle.std.proofs.Common.{ap, sym, subst, ◌∙◌, refl, arith}
 use Rattle.std.proofs.lemmas.Bool.Decides.{nat_tests}
 use Rattle.ipcz_base.specs.declared.message.Message.{Message}
-use Rattle.ipcz_router.specs.declared.act.Answer.TheVariants as answers
-use Rattle.ipcz_node.specs.declared.act.Act.TheVariants as acts
-use Rattle.ipcz_node.specs.Acts.{commit, first_of, post_of, rest_of}
+use Rattle.ipcz_node.specs.Acts.{first_of, rest_of}
 use Rattle.ipcz_node.specs.Node.{Node, outbox, with_outbox}
 use Rattle.ipcz_rule.specs.declared.view.Part.{Part}
 use Rattle.ipcz_rule.specs.Rule.{has_number, without_number}
@@ -115,10 +113,8 @@ unfolding first_batch
 same_slot k a b c r e f = sym (ap first_batch e) ∙ ap first_batch f
 
 -- where slots aren't used again a post takes the first message alone
-pub alone_node : (t : TableName) (to : ℕ) (n n' : Node) → t.reuses ≡ false → n' ≡ commit n (acts.Post to) answers.Plain → n' ≡ with_outbox n to (posted_rest t to n)
-unfolding commit
+pub alone_node : (t : TableName) (to : ℕ) (n n' : Node) → t.reuses ≡ false → n' ≡ with_outbox n to (rest_of (outbox n to)) → n' ≡ with_outbox n to (posted_rest t to n)
 alone_node t to n n' e done = done ∙ ap (λ (b : Bool). with_outbox n to (if b then [] else rest_of (outbox n to))) (sym e)
 
-pub alone_batch : (t : TableName) (to : ℕ) (n : Node) (x : Message) → t.reuses ≡ false → Some x ≡ post_of n (acts.Post to) → x ∷ [] ≡ posted_batch t to n
-unfolding post_of
-alone_batch t to n x e is = ap option_to_list is ∙ ap (λ (b : Bool). if b then outbox n to else option_to_list (first_of (outbox n to))) (sym e)
+pub alone_batch : (t : TableName) (to : ℕ) (n : Node) (batch : Batch) → t.reuses ≡ false → batch ≡ option_to_list (first_of (outbox n to)) → batch ≡ posted_batch t to n
+alone_batch t to n batch e is = is ∙ ap (λ (b : Bool). if b then outbox n to else option_to_list (first_of (outbox n to))) (sym e)

@@ -26,7 +26,6 @@ mod Looking
 pub mod TurnWords
 pub mod TurnActs
 pub mod TurnParts
-pub mod NodeSets
 pub mod TurnChains
 pub mod OpenSteps
 pub mod Slotting

@@ -1,10 +1,16 @@
--- Lists of numbers of which none stands twice.
-use Rattle.std.specs.Prelude.{◌≡◌, ◌<◌, ◌+◌, ◌++◌, ℕ, suc, Bool, true, false, ◌||◌, cond, nat_eq, List, [], ◌∷◌, length, take, drop}
-use Rattle.std.proofs.Common.{ap, subst, ◌∙◌, refl, arith}
+-- Lists of numbers of which none stands twice, and their sets.
+use Rattle.std.specs.Prelude.{◌≡◌, ◌≤◌, ◌<◌, ◌+◌, ◌++◌, ℕ, suc, Bool, true, false, not, ◌&&◌, ◌||◌, cond, nat_eq, nat_lt, List, [], ◌∷◌, length, take, drop}
+use Rattle.std.proofs.Common.{ap, subst, sym, ◌∙◌, refl, arith}
+use mathlib.Core.Logic.{dite}
+use native.Mathlib.Decide.{ℕ_discrete, dec_lt}
 use Rattle.std.proofs.lemmas.Bool.Decides.{nat_tests}
 use Rattle.ipcz_rule.specs.Rule.{has_number, without_number}
 use Rattle.ipcz_cell.proofs.Few.{few}
-use Rattle.ipcz_cell.specs.Cells.{AreOnce, AreBelow, place_in}
+use Rattle.ipcz_node.specs.NodeSets.{has_node}
+use Rattle.ipcz_node.specs.declared.node_set.NodeSet.{NodeSet}
+use Rattle.ipcz_node.proofs.NodeSets.{beyond}
+use Rattle.ipcz_rule.proofs.Posting.{without_itself, without_other}
+use Rattle.ipcz_cell.specs.Cells.{AreOnce, AreBelow, IsSetOf, place_in}
 
 without_by : (j : ℕ) (js : List ℕ) (i : ℕ) (b : Bool) → nat_eq i j ≡ b → (b || has_number js i) ≡ false → (has_number js i ≡ false → without_number js i ≡ js) → cond (nat_eq j i) (without_number js i) (j ∷ without_number js i) ≡ j ∷ js
 without_by j js i true h e f = absurd cc
@@ -116,3 +122,55 @@ once_last (x ∷ xs) y once absent = (has_last xs y x ∙ none (nat_eq y x) (nat
     behind : (a c : Bool) → (a || c) ≡ false → c ≡ false
     behind true c e = absurd cc
     behind false c e = e
+
+-- a number that isn't below 64 isn't there
+far_number : (xs : List ℕ) (n : ℕ) → AreBelow 64 xs → 64 ≤ n → has_number xs n ≡ false
+far_number [] n low far = refl
+far_number (x ∷ xs) n low far =
+    let h = low.0 in
+    let other : nat_eq n x ≡ false = grind (arith, nat_tests, h, far) in ap (λ (b : Bool). b || has_number xs n) other ∙ far_number xs n low.1 far
+
+-- the set of a list of numbers below 64 has just those
+pub in_set : (s : NodeSet) (xs : List ℕ) (n : ℕ) → AreBelow 64 xs → IsSetOf s xs → has_node s n ≡ has_number xs n
+in_set s xs n low is = dite (dec_lt n 64) (λ small. is n small) (λ far. let high : 64 ≤ n = omega (arith, far) in sym (beyond s n high) ∙ (far_test n high ∙ sym (far_number xs n low high)))
+  where
+    far_test : (n : ℕ) → 64 ≤ n → nat_lt n 64 ≡ false
+    far_test n high = grind (arith, nat_tests, high)
+
+-- with one number more, as the last
+pub set_last : (s later : NodeSet) (xs : List ℕ) (y : ℕ) → IsSetOf s xs → ((n : ℕ) → n < 64 → has_node later n ≡ (nat_eq y n || has_node s n)) → IsSetOf later (xs ++ y ∷ [])
+set_last s later xs y is more = λ n small. more n small ∙ ((λ j. turned y n j || is n small j) ∙ sym (has_last xs y n))
+  where
+    turned : (y n : ℕ) → nat_eq y n ≡ nat_eq n y
+    turned y n = grind (arith, nat_tests)
+
+-- without a number
+pub set_without : (s later : NodeSet) (xs : List ℕ) (y : ℕ) → IsSetOf s xs → ((n : ℕ) → n < 64 → has_node later n ≡ (not (nat_eq y n) && has_node s n)) → IsSetOf later (without_number xs y)
+set_without s later xs y is less = λ n small. less n small ∙ dite (ℕ_discrete n y)
+    (λ same. (let e : nat_eq y n ≡ true = grind (arith, nat_tests, same) in ap (λ (b : Bool). not b && has_node s n) e)
+    ∙ sym (subst (λ (k : ℕ). has_number (without_number xs y) k ≡ false) (sym same) (without_itself xs y)))
+    (λ other. (let e : nat_eq y n ≡ false = grind (arith, nat_tests, other) in ap (λ (b : Bool). not b && has_node s n) e)
+    ∙ (is n small ∙ sym (without_other xs y n other)))
+
+-- the lowest node of a set is the lowest number of its list
+pub set_lowest : (s : NodeSet) (xs : List ℕ) (low : ℕ) → AreBelow 64 xs → IsSetOf s xs → ((n : ℕ) → 0 ≤ n → n < low → has_node s n ≡ false) →
+    (j : ℕ) → has_number xs j ≡ true → low ≤ j
+set_lowest s xs low below is none j has = dite (dec_lt j low) (λ less. absurd (let no = sym (none j (omega arith) less) ∙ (in_set s xs j below is ∙ has) in cc)) (λ more. omega (arith, more))
+
+-- a set without nodes is that of no number
+pub set_empty : (s : NodeSet) (xs : List ℕ) → AreBelow 64 xs → IsSetOf s xs → ((n : ℕ) → 0 ≤ n → n < 64 → has_node s n ≡ false) → xs ≡ []
+set_empty s [] below is none = refl
+set_empty s (x ∷ xs) below is none = absurd (let no = sym (none x (omega arith) below.0) ∙ (is x below.0 ∙ itself) in cc)
+  where
+    itself : has_number (x ∷ xs) x ≡ true
+    itself = let same : nat_eq x x ≡ true = grind (arith, nat_tests) in ap (λ (b : Bool). b || has_number xs x) same
+
+-- a list of one number that has a number is that number alone
+pub only_one : (xs : List ℕ) (n : ℕ) → length xs ≡ 1 → has_number xs n ≡ true → xs ≡ n ∷ []
+only_one [] n one has = absurd cc
+only_one (x ∷ []) n one has = by (nat_eq n x) refl has
+  where
+    by : (b : Bool) → nat_eq n x ≡ b → (b || false) ≡ true → x ∷ [] ≡ n ∷ []
+    by true h e = let same : x ≡ n = grind (arith, nat_tests, h) in ap (λ (k : ℕ). k ∷ []) same
+    by false h e = absurd cc
+only_one (x ∷ y ∷ xs) n one has = absurd (omega (arith, one))

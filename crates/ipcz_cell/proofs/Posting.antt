@@ -229,3 +229,8 @@ module _ (t : TableName) (n n' : Node) (hand : Option Message) (tos senders : Li
       let B = batch_slots t.count p senders in
       let P = probed_slots t.count p.node in
       front m1.1 ((P after ++ B) ++ P before) (p.node * t.count + to) k [] (ap (λ (m : BatchMine). m.1) e1 ∙ (ap (turned_by place) was.slots ∙ brought t.count p.node p.probed before after to place B (was.probed ∙ is) at)) slot
+
+-- a place for a message that holds none
+pub nothing_held : (place : Option Message) → is_some place ≡ false → place ≡ None
+nothing_held None e = refl
+nothing_held (Some x) e = absurd cc

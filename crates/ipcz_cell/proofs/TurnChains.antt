@@ -21,8 +21,8 @@ use Rattle.ipcz_cell.specs.Parts.{handed_part, part_handed}
 use Rattle.ipcz_cell.specs.Mails.{Handles, OldLoaded, old_named}
 use Rattle.ipcz_cell.specs.Turns.{Chooses}
 use Rattle.ipcz_cell.specs.TurnEnds.{Acts, IsDone}
-use Rattle.ipcz_cell.specs.declared.node_set.NodeSet.{NodeSet}
-use Rattle.ipcz_cell.specs.NodeSets.{has_node}
+use Rattle.ipcz_node.specs.declared.node_set.NodeSet.{NodeSet}
+use Rattle.ipcz_node.specs.NodeSets.{has_node}
 use Rattle.ipcz_cell.specs.TurnChains.{touches, some_touches, Did, TakesTurn, AreTurns, RunsTouching}
 use Rattle.ipcz_cell.proofs.TurnParts.{turn_done, turn_act}
 

@@ -5,6 +5,8 @@ use mathlib.Core.Option.{some}
 use Rattle.atomic_table.specs.Seated.{TableId}
 use Rattle.ipcz_base.specs.declared.message.Message.{Message}
 use Rattle.ipcz_node.specs.Node.{Node}
+use Rattle.ipcz_node.specs.NodeSets.{has_node}
+use Rattle.ipcz_node.specs.declared.node_set.NodeSet.{NodeSet}
 use Rattle.ipcz_world.specs.Soundness.{IsSound}
 use Rattle.ipcz_rule.specs.declared.view.View.{View}
 use Rattle.ipcz_rule.specs.declared.view.Part.{Part}
@@ -54,6 +56,10 @@ place_in (j ∷ js) i = cond (nat_eq i j) 0 (suc (place_in js i))
 abbrev pub AreBelow : ℕ → List ℕ → Type 0
 AreBelow n [] = Unit {0}
 AreBelow n (i ∷ is) = (i < n) × AreBelow n is
+
+-- a set has the nodes of a list
+abbrev pub IsSetOf : NodeSet → List ℕ → Type 0
+IsSetOf s nodes = (n : ℕ) → n < 64 → has_node s n ≡ has_number nodes n
 
 -- its seat is of this table, and has this node's state as its view says
 pub record IsSeated (t : TableName) (n : Node) (id : TableId) (me : BatchMine) : Type 0 where

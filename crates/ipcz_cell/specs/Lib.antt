@@ -13,7 +13,6 @@ pub mod Making
 pub mod Blanks
 pub mod Ending
 pub mod Claims
-pub mod NodeSets
 pub mod Turns
 pub mod TurnEnds
 pub mod TurnChains

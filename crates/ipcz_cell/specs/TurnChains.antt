@@ -8,8 +8,8 @@ use Rattle.ipcz_node.specs.declared.happened.Happened.{Happened}
 use Rattle.ipcz_node.specs.declared.happened.Happened.TheVariants as events
 use Rattle.ipcz_cell.specs.TableNames.{TableName}
 use Rattle.ipcz_cell.specs.CellStates.{CellState}
-use Rattle.ipcz_cell.specs.declared.node_set.NodeSet.{NodeSet}
-use Rattle.ipcz_cell.specs.NodeSets.{has_node}
+use Rattle.ipcz_node.specs.declared.node_set.NodeSet.{NodeSet}
+use Rattle.ipcz_node.specs.NodeSets.{has_node}
 use Rattle.ipcz_cell.specs.TurnEnds.{Turns}
 
 -- what a turn did: which act, and what happened

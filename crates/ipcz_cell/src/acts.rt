@@ -1,14 +1,13 @@
 //! Turns of a cell one after the other, whose events are not told: how many they were, and which nodes they touched.
 ghost use Rattle.std.specs.Prelude.{◌≡◌, ◌<◌, ◌||◌, ℕ};
 ghost use Rattle.ipcz_cell.specs.TurnChains.{touches, RunsTurns, RunsTouching};
-ghost use Rattle.ipcz_cell.specs.NodeSets.{has_node};
+ghost use Rattle.ipcz_node.specs.NodeSets.{has_node};
 
 use crate::bells::{Ringer, Unheard, Waking};
 use crate::cell::NodeCell;
 use crate::fabric::{Fabric, FabricName};
-use crate::node_set::NodeSet;
 use ipcz_base::Refusal;
-use ipcz_node::Act;
+use ipcz_node::{Act, NodeSet};
 
 // Adds the node that an act touches beside its own, if there is one.
 fn add_touched(touched: &mut NodeSet, act: Act)

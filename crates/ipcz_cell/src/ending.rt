@@ -221,10 +221,14 @@ fn read_box(word: u64, mut slot: Batch, hand: &mut Option<Message>) -> Mail
     ensures hand { hand.new ≡ hand_left word hand.old }
 {
     match word {
-        1 => match slot.take_first() {
-            Some(message) => Mail::Full(message),
-            None => Mail::Empty,
-        },
+        1 => {
+            let mut first = None;
+            slot.take_first(&mut first);
+            match first {
+                Some(message) => Mail::Full(message),
+                None => Mail::Empty,
+            }
+        }
         2 => match hand.take() {
             Some(message) => Mail::Hand(message),
             None => Mail::Empty,

@@ -54,24 +54,6 @@ fn is_set(inbox: u64, from: u8) -> bool
     inbox >> from & 1 == 1
 }
 
-/// The lowest bit from one on that is set, or 64.
-pub(crate) fn next_set(inbox: u64, from: u8) -> u8
-    requires { from ≤ 64 }
-    ensures from { from ≤ result }
-    ensures most { result ≤ 64 }
-    ensures clear { (j : ℕ) → from ≤ j → j < result → bit_at inbox j ≡ 0 }
-    ensures set { result < 64 → bit_at inbox result ≡ 1 }
-{
-    if from == 64 {
-        return 64;
-    }
-    let left = inbox >> from;
-    if left == 0 {
-        return 64;
-    }
-    from + left.trailing_zeros() as u8
-}
-
 // Loads the inbox of a node. X is what it tells.
 fn peek_here<F: FabricName, X: Outcome>(
     node: u8,

@@ -240,21 +240,27 @@ fn fill<F: FabricName>(
     if fabric.reuses {
         state.post_all(to, batch);
     } else {
-        batch.put_alone(state.post(to));
+        state.post_first(to, batch);
     }
 }
 
-// Takes the first message out of the slot that the seat took last.
-fn take_out<F: FabricName>(seat: &mut TableSeat, fabric: &Fabric<F>, slot: usize) -> Option<Message>
+// Takes the first message out of the slot that the seat took last, into an empty place.
+fn take_out<F: FabricName>(
+    seat: &mut TableSeat,
+    fabric: &Fabric<F>,
+    slot: usize,
+    place: &mut Option<Message>,
+)
+    requires empty { place.old ≡ None }
     requires own { seat.old.table_id ≡ F.table.id }
     requires slot { (batch : List MessageData) × (seat.old.me.1 ≡ (slot, batch) ∷ rest seat.old.me.1) }
     ensures table { seat.new.table_id ≡ seat.old.table_id }
     ensures taken { (batch : List MessageData) → seat.old.me.1 ≡ (slot, batch) ∷ rest seat.old.me.1 →
-        (result ≡ first_of batch) × ((mine_of seat.new.me) ≡ (seat.old.me.0.view, (slot, rest_of batch) ∷ rest seat.old.me.1)) }
+        (place.new ≡ first_of batch) × ((mine_of seat.new.me) ≡ (seat.old.me.0.view, (slot, rest_of batch) ∷ rest seat.old.me.1)) }
     ensures view { seat.new.me.0.view ≡ seat.old.me.0.view }
     ensures slots { SlotsStay seat.old.me seat.new.me }
 {
-    seat.slot_mut(&fabric.table.shared, slot).take_first()
+    seat.slot_mut(&fabric.table.shared, slot).take_first(place);
 }
 
 // Whether no message is left in the slot that the seat took last.
@@ -476,7 +482,7 @@ impl<F: FabricName> NodeCell<F> {
             return false;
         }
         let slot = slot_of(fabric, from, node);
-        self.message = take_out(&mut self.seat, fabric, slot);
+        take_out(&mut self.seat, fabric, slot, &mut self.message);
         turn_over(&mut self.seat, 1);
         self.held.push(from);
         self.state.look(from);
@@ -496,7 +502,7 @@ impl<F: FabricName> NodeCell<F> {
         let many = self.held.len();
         let place = self.held.place_of(from);
         turn_over(&mut self.seat, self.probed.len() + place);
-        self.message = take_out(&mut self.seat, fabric, slot);
+        take_out(&mut self.seat, fabric, slot, &mut self.message);
         look_on_here::<F, Brand>(node, &mut self.seat, fabric, from);
         turn_over(&mut self.seat, many - place);
         self.state.look(from);

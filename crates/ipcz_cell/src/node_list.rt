@@ -3,19 +3,22 @@ ghost use Rattle.std.specs.Prelude.{◌≡◌, ◌<◌, ◌≤◌, ◌++◌, ◌
 ghost use Rattle.ipcz_rule.specs.Rule.{has_number, without_number};
 ghost use Rattle.ipcz_cell.specs.Cells.{place_in, AreOnce};
 
+use ipcz_node::NodeSet;
 use std::alloc::{AllocError, Global};
 use std::marker::Model;
 
-/// Numbers below 64 in some order, none twice. There is room for each.
+/// Numbers below 64 in some order, none twice. There is room for each. Which there are is kept as a set beside the list, so that neither a number nor the
+/// lowest one is looked for.
 #[derive(Drop)]
 pub(crate) struct NodeList {
     nodes: Vec<u8>,
+    set: NodeSet,
 }
 
 impl Model for NodeList {
     ghost use Rattle.std.specs.Prelude.{◌≤◌, List, ℕ, vec_capacity};
     ghost use Rattle.std.specs.Coded.{codes};
-    ghost use Rattle.ipcz_cell.specs.Cells.{AreOnce, AreBelow};
+    ghost use Rattle.ipcz_cell.specs.Cells.{AreOnce, AreBelow, IsSetOf};
 
     ghost Value = { List ℕ };
 
@@ -23,7 +26,7 @@ impl Model for NodeList {
 
     ghost view = { λ a. a.nodes.items };
 
-    ghost invariant = { λ a. (64 ≤ vec_capacity a.nodes) × AreOnce a.nodes.items × AreBelow 64 a.nodes.items };
+    ghost invariant = { λ a. (64 ≤ vec_capacity a.nodes) × AreOnce a.nodes.items × AreBelow 64 a.nodes.items × IsSetOf a.set a.nodes.items };
 }
 
 impl NodeList {
@@ -33,6 +36,7 @@ impl NodeList {
     {
         Ok(NodeList {
             nodes: Vec::with_capacity(alloc, 64)?,
+            set: NodeSet::none(),
         })
     }
 
@@ -48,7 +52,7 @@ impl NodeList {
     pub(crate) fn has(&self, number: u8) -> bool
         ensures { result ≡ has_number self.now number }
     {
-        has_number(self.nodes.as_slice(), number)
+        self.set.has(number)
     }
 
     /// Takes the first number out, if there is one.
@@ -59,7 +63,9 @@ impl NodeList {
         if self.nodes.is_empty() {
             return None;
         }
-        Some(self.nodes.remove(0))
+        let number = self.nodes.remove(0);
+        self.set.remove(number);
+        Some(number)
     }
 
     /// Whether there is none.
@@ -82,7 +88,8 @@ impl NodeList {
     pub(crate) fn lowest(&self) -> Option<u8>
         ensures { MatchOption result (self.now ≡ []) (λ low. (has_number self.now low ≡ true) × ((j : ℕ) → has_number self.now j ≡ true → low ≤ j)) }
     {
-        lowest_of(self.nodes.as_slice())
+        let low = self.set.first_from(0);
+        if low < 64 { Some(low) } else { None }
     }
 
     /// Adds a number, as the last.
@@ -93,6 +100,7 @@ impl NodeList {
     {
         let _all = self.nodes.as_slice();
         self.nodes.push_reserved(number);
+        self.set.add(number);
     }
 
     /// Adds a number, as the first.
@@ -105,10 +113,28 @@ impl NodeList {
         let Ok(()) = self.nodes.insert(0, number) else {
             unreachable!()
         };
+        self.set.add(number);
     }
 
     /// Takes a number out, and tells how many stood before it.
+    #[inline(always)]
     pub(crate) fn take(&mut self, number: u8) -> usize
+        requires { has_number self.old number ≡ true }
+        ensures without { self.new ≡ without_number self.old number }
+        ensures place { (before : List ℕ) × (after : List ℕ) × (self.old ≡ before ++ number ∷ after) × (self.new ≡ before ++ after) ×
+            (result ≡ length before) }
+    {
+        if self.nodes.as_slice().len() == 1 {
+            self.nodes.clear();
+            self.set = NodeSet::none();
+            return 0;
+        }
+        self.take_of_many(number)
+    }
+
+    // The same, where it is looked for.
+    #[inline(never)]
+    fn take_of_many(&mut self, number: u8) -> usize
         requires { has_number self.old number ≡ true }
         ensures without { self.new ≡ without_number self.old number }
         ensures place { (before : List ℕ) × (after : List ℕ) × (self.old ≡ before ++ number ∷ after) × (self.new ≡ before ++ after) ×
@@ -116,17 +142,8 @@ impl NodeList {
     {
         let place = place_of(self.nodes.as_slice(), number);
         self.nodes.remove(place);
+        self.set.remove(number);
         place
-    }
-}
-
-// Whether a number stands in a list.
-fn has_number(nodes: &[u8], number: u8) -> bool
-    ensures { result ≡ has_number nodes.now number }
-{
-    match nodes {
-        [] => false,
-        [first, rest @ ..] => number == *first || has_number(rest, number),
     }
 }
 
@@ -145,18 +162,5 @@ fn place_of(nodes: &[u8], number: u8) -> usize
                 place_of(rest, number) + 1
             }
         }
-    }
-}
-
-// The lowest of some numbers, if there is one.
-fn lowest_of(nodes: &[u8]) -> Option<u8>
-    ensures { MatchOption result (nodes.now ≡ []) (λ low. (has_number nodes.now low ≡ true) × ((j : ℕ) → has_number nodes.now j ≡ true → low ≤ j)) }
-{
-    match nodes {
-        [] => None,
-        [first, rest @ ..] => match lowest_of(rest) {
-            Some(low) if low < *first => Some(low),
-            _ => Some(*first),
-        },
     }
 }

@@ -1,22 +1,22 @@
 //! The turns of a cell.
-ghost use Rattle.std.specs.Prelude.{◌≡◌, ◌<◌, ◌⊎◌, ℕ, true, not, None, Some, Ok};
+ghost use Rattle.std.specs.Prelude.{◌≡◌, ◌≤◌, ◌<◌, ◌⊎◌, ℕ, true, false, None, Some, Ok};
 ghost use Rattle.ipcz_base.specs.declared.side.Side.{Side as SideValue};
 ghost use Rattle.ipcz_node.specs.RoomyNodes.{IsPossibleAct};
 ghost use Rattle.ipcz_cell.specs.Mails.{IsTold};
 ghost use Rattle.ipcz_cell.specs.Turns.{Chooses, FindsFull, CanPost, FindsEmpty, IsInside};
 ghost use Rattle.ipcz_cell.specs.TurnEnds.{try_event, Acts, Turns};
-ghost use Rattle.ipcz_node.specs.Acts.{are_empty, close_turn, has_mail_for, router_turn};
+ghost use Rattle.ipcz_node.specs.Acts.{close_turn, has_mail_for, router_turn};
 ghost use Rattle.ipcz_node.specs.Node.{flagged_router, word_side};
 
 use crate::bells::{Ringer, Waking};
 use crate::cell::NodeCell;
 use crate::fabric::{Fabric, FabricName};
-use crate::inbox::{inbox_place, next_set};
+use crate::inbox::inbox_place;
 use crate::letting::GivenUp;
 use crate::mail::{mail_place, tell};
 use crate::words::LockTry;
 use ipcz_base::{End, LinkId, Refusal};
-use ipcz_node::{Act, Happened, Told};
+use ipcz_node::{Act, Happened, Told, next_set};
 use ipcz_router::act::RouterAct;
 use ipcz_word::LockPlan;
 
@@ -48,21 +48,24 @@ impl<F: FabricName> NodeCell<F> {
         batch
     }
 
-    // Whether any message waits to be posted.
-    fn has_mail(&self) -> bool
-        ensures { result ≡ not (are_empty self.now.part.state.outboxes) }
+    // The lowest node from one on that messages wait for, below 64, or 64.
+    #[inline(always)]
+    fn next_with_mail(&self, from: u8) -> u8
+        requires { from ≤ 64 }
+        ensures from { from ≤ result }
+        ensures most { result ≤ 64 }
+        ensures none { (n : ℕ) → from ≤ n → n < result → has_mail_for self.now.part.state n ≡ false }
+        ensures there { result < 64 → has_mail_for self.now.part.state result ≡ true }
     {
-        self.state.has_mail()
+        self.state.next_with_mail(from)
     }
 
-    // Whether messages wait for a node and its mailbox is this node's already, or is found empty.
+    // Whether the mailbox to a node that messages wait for is this node's already, or is found empty.
     fn can_post(&mut self, fabric: &Fabric<F>, to: u8) -> bool
-        requires { to < F.table.count }
+        requires inside { to < F.table.count }
+        requires mail { has_mail_for self.old.part.state to ≡ true }
         ensures { CanPost F.table to self.old result self.new }
     {
-        if !self.state.has_mail_for(to) {
-            return false;
-        }
         if self.probed.has(to) {
             return true;
         }
@@ -70,18 +73,22 @@ impl<F: FabricName> NodeCell<F> {
         self.load_mail(fabric, node, to) == 0
     }
 
-    // The lowest node that messages wait for and whose mailbox is this node's already, or is found empty. The mailboxes are loaded in
-    // order, up to that one.
+    // The lowest node that messages wait for and whose mailbox is this node's already, or is found empty. The mailboxes to those that messages wait for
+    // are loaded in order, up to that one.
     fn first_empty(&mut self, fabric: &Fabric<F>) -> Option<u8>
         ensures { FindsEmpty F.table self.old result self.new }
     {
-        if !self.has_mail() {
-            return None;
-        }
-        for to in 0..fabric.nodes {
+        let nodes = fabric.nodes;
+        let mut to = self.next_with_mail(0);
+        for tried in 0..nodes {
+            let _tried = tried;
+            if to >= nodes {
+                return None;
+            }
             if self.can_post(fabric, to) {
                 return Some(to);
             }
+            to = self.next_with_mail(to + 1);
         }
         None
     }

@@ -1,5 +1,6 @@
 pub mod Working
 pub mod Portaling
+pub mod PortalSets
 pub mod Holding
 pub mod HubAnswers
 pub mod Locking

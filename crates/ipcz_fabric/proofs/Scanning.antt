@@ -1,7 +1,8 @@
 -- A look at a list of portals: at one node, by the ends where something has come, and then at all of their nodes.
-use Rattle.std.specs.Prelude.{◌≡◌, ◌≢◌, ◌≤◌, ◌<◌, ◌+◌, ◌||◌, ℕ, Bool, true, false, List, length, refl, slice_get, Option, Some, None, IfSome, nat_eq, nat_lt}
+use Rattle.std.specs.Prelude.{◌≡◌, ◌≢◌, ◌≤◌, ◌<◌, ◌+◌, ℕ, Bool, true, false, List, length, refl, slice_get, Option, Some, None, IfSome, nat_eq}
 use Rattle.std.proofs.Common.{arith, ap, sym, subst, ◌∙◌, true≢false, inl, inr}
 use Rattle.std.proofs.lemmas.Bool.{cases_lt}
+use Rattle.std.proofs.lemmas.Option.{slice_get_within}
 use Rattle.std.proofs.lemmas.Bool.Decides.{nat_tests}
 use Rattle.ipcz_base.specs.declared.end.End.{End}
 use Rattle.ipcz_base.specs.declared.refusal.Refusal.{Refusal}
@@ -12,21 +13,11 @@ use Rattle.ipcz_router.specs.Router.{Router}
 use Rattle.ipcz_world.proofs.facts.Finding.{IsReadyThere, ready_there}
 use Rattle.ipcz_cell.specs.CellStates.{CellState}
 use Rattle.ipcz_cell.specs.TableNames.{TableName}
-use Rattle.ipcz_cell.specs.declared.node_set.NodeSet.{NodeSet}
-use Rattle.ipcz_cell.specs.NodeSets.{has_node}
-use Rattle.ipcz_cell.proofs.NodeSets.{beyond}
 use Rattle.ipcz_fabric.specs.declared.missed.Missed.{Missed}
 use Rattle.ipcz_fabric.specs.declared.missed.Missed.TheVariants.{Refused, Stopped}
 use Rattle.ipcz_fabric.specs.Portals.{PortalValue, portal_at}
 use Rattle.ipcz_fabric.specs.Readiness.{EachBefore, Finds, FindsHere, FindsNoneHere, IsThere, IsWhyNone, finds_at}
 use Rattle.ipcz_fabric.specs.Stopping.{IsStop}
-
--- a place has one portal
-same_portal : (portals : List PortalValue) (k : ℕ) (p q : PortalValue) → slice_get portals k ≡ Some p → slice_get portals k ≡ Some q → p ≡ q
-same_portal portals k p q a b = one (sym a ∙ b)
-  where
-    one : Some p ≡ Some q → p ≡ q
-    one h = cc
 
 is_portal : (p : PortalValue) (node : ℕ) (end : End) → p.node ≡ node → p.end ≡ end → p ≡ portal_at node end
 is_portal p node end a b = ap (λ (n : ℕ). portal_at n p.end) a ∙ ap (portal_at node) b
@@ -99,79 +90,55 @@ module _ (c : CellState) (portals : List PortalValue) where
             | inr high ↦ absurd (true≢false (sym t.ready ∙ none t.serial t.router high t.here))
           ]
 
--- what a look at some of the portals' nodes has found: the first portal where a get finds something, of those at nodes that were looked at; and why one
--- of these is stopped
-pub record IsLooked (t : TableName) (portals : List PortalValue) (looked : NodeSet) (first place : ℕ) (stopped : Option (ℕ × Refusal)) : Type 0 where
+-- what a look at the first so many of some nodes has found: the first portal where a get finds something, of those at nodes that were looked at; and why
+-- one of these is stopped
+pub record IsLooked (t : TableName) (portals : List PortalValue) (nodes : List ℕ) (first looked : ℕ) (stopped : Option (ℕ × Refusal)) : Type 0 where
   pub most : first ≤ length portals
   pub found : first < length portals → IsThere portals first (Finds t true)
-  pub nodes : EachBefore portals first (λ p. has_node looked p.node ≡ true → Finds t false p)
-  pub before : (k : ℕ) (p : PortalValue) → k < place → k < first → slice_get portals k ≡ Some p → Finds t false p
-  pub why : IfSome stopped (λ s. (s.0 < length portals) × IsStop s.1)
+  pub before : (j : ℕ) → j < looked → EachBefore portals first (λ p. slice_get nodes j ≡ Some p.node → Finds t false p)
+  pub why : IfSome stopped (λ s. IsStop s.1)
 
-module _ (t : TableName) (portals : List PortalValue) (looked : NodeSet) (first place : ℕ) (stopped : Option (ℕ × Refusal)) (p : PortalValue)
-    (here : slice_get portals place ≡ Some p) (node : ℕ) (own : node ≡ p.node) (so_far : IsLooked t portals looked first place stopped) where
-  -- (a portal at the place is that one)
-  at : (k : ℕ) (q : PortalValue) → k < place + 1 → place ≤ k → slice_get portals k ≡ Some q → q.node ≡ node
-  at k q low up is =
-      ap (λ (x : PortalValue). x.node) (same_portal portals place q p (subst (λ (i : ℕ). slice_get portals i ≡ Some q) (omega (arith, low, up)) is) here) ∙ sym own
+-- one more node is looked at
+pub look_more : (t : TableName) (portals : List PortalValue) (nodes : List ℕ) (first looked : ℕ) (stopped : Option (ℕ × Refusal)) (node found : ℕ)
+    (after : Option (ℕ × Refusal)) → slice_get nodes looked ≡ Some node → IsLooked t portals nodes first looked stopped → found ≤ first →
+    (found < first → IsThere portals found (Finds t true)) → EachBefore portals found (λ p. p.node ≡ node → Finds t false p) →
+    IfSome after (λ s. IsStop s.1) → IsLooked t portals nodes found (looked + 1) after
+look_more t portals nodes first looked stopped node found after here so_far le there none why = record {
+  most = omega (arith, le, so_far.most);
+  found = λ low. elim (cases_lt found first) [
+    | inl less ↦ there less
+    | inr up ↦
+        let same : first ≡ found = omega (arith, le, up) in
+        subst (λ (i : ℕ). IsThere portals i (Finds t true)) same (so_far.found (omega (arith, low, same)))
+  ];
+  before = λ j low k p below is own. elim (cases_lt j looked) [
+    | inl less ↦ so_far.before j less k p (omega (arith, below, le)) is own
+    | inr up ↦ none k p below is (one (sym own ∙ (ap (slice_get nodes) (omega (arith, low, up)) ∙ here)))
+  ];
+  why = why;
+}
+  where
+    one : {m n : ℕ} → Some m ≡ Some n → m ≡ n
+    one h = cc
 
-  -- the node of the next portal was looked at
-  pub look_on : has_node looked node ≡ true → IsLooked t portals looked first (place + 1) stopped
-  look_on has = record {
-    most = so_far.most;
-    found = so_far.found;
-    nodes = so_far.nodes;
-    before = λ k q low below is. elim (cases_lt k place) [
-      | inl less ↦ so_far.before k q less below is
-      | inr up ↦ so_far.nodes k q below is (ap (has_node looked) (at k q low up is) ∙ has)
-    ];
-    why = so_far.why;
-  }
+-- why a node is stopped, if one more may be
+pub stopped_more : (node : ℕ) (before after : Option (ℕ × Refusal)) (stop : Option Refusal) → IfSome stop IsStop → IfSome before (λ s. IsStop s.1) →
+    IfSome before (λ s. after ≡ Some s) → (before ≡ None → stop ≡ None → after ≡ None) → (before ≡ None → IfSome stop (λ why. after ≡ Some (node, why))) →
+    IfSome after (λ s. IsStop s.1)
+stopped_more node (Some s) after stop known good is none now = subst (λ (o : Option (ℕ × Refusal)). IfSome o (λ s. IsStop s.1)) (sym is) good
+stopped_more node None after None known good is none now = subst (λ (o : Option (ℕ × Refusal)). IfSome o (λ s. IsStop s.1)) (sym (none refl refl)) tt
+stopped_more node None after (Some why) known good is none now = subst (λ (o : Option (ℕ × Refusal)). IfSome o (λ s. IsStop s.1)) (sym (now refl)) known
 
-  -- it is looked at
-  pub look_more : (new : NodeSet) (found : ℕ) (after : Option (ℕ × Refusal)) →
-      ((n : ℕ) → n < 64 → has_node new n ≡ (nat_eq node n || has_node looked n)) → found ≤ first → (found < first → IsThere portals found (Finds t true)) →
-      EachBefore portals found (λ q. q.node ≡ node → Finds t false q) → IfSome after (λ s. (s.0 < length portals) × IsStop s.1) →
-      IsLooked t portals new found (place + 1) after
-  look_more new found after adds le there none why = record {
-    most = omega (arith, le, so_far.most);
-    found = λ low. elim (cases_lt found first) [
-      | inl less ↦ there less
-      | inr up ↦
-          let same : first ≡ found = omega (arith, le, up) in
-          subst (λ (i : ℕ). IsThere portals i (Finds t true)) same (so_far.found (omega (arith, low, same)))
-    ];
-    nodes = λ k q below is has. elim (cases_lt q.node 64) [
-      | inl few ↦ known k q below is (sym (adds q.node few) ∙ has)
-      | inr many ↦ absurd (true≢false (sym has ∙ sym (beyond new q.node many) ∙ above q.node many))
-    ];
-    before = λ k q low below is. elim (cases_lt k place) [
-      | inl less ↦ so_far.before k q less (omega (arith, below, le)) is
-      | inr up ↦ none k q below is (at k q low up is)
-    ];
-    why = why;
-  }
-    where
-      above : (n : ℕ) → 64 ≤ n → nat_lt n 64 ≡ false
-      above n many = grind (arith, nat_tests, many)
-
-      known : (k : ℕ) (q : PortalValue) → k < found → slice_get portals k ≡ Some q → (nat_eq node q.node || has_node looked q.node) ≡ true → Finds t false q
-      known k q below is has = go (nat_eq node q.node) refl has
-        where
-          go : (b : Bool) → nat_eq node q.node ≡ b → (b || has_node looked q.node) ≡ true → Finds t false q
-          go true same h = none k q below is (grind (arith, nat_tests, same))
-          go false other h = so_far.nodes k q (omega (arith, below, le)) is h
-
--- which portal's node is stopped, if one more may be
-pub stopped_more : (portals : List PortalValue) (place : ℕ) (before after : Option (ℕ × Refusal)) (stop : Option Refusal) → place < length portals →
-    IfSome stop IsStop → IfSome before (λ s. (s.0 < length portals) × IsStop s.1) → IfSome before (λ s. after ≡ Some s) →
-    (before ≡ None → stop ≡ None → after ≡ None) → (before ≡ None → IfSome stop (λ why. after ≡ Some (place, why))) →
-    IfSome after (λ s. (s.0 < length portals) × IsStop s.1)
-stopped_more portals place (Some s) after stop inside known good is none now = subst (λ (o : Option (ℕ × Refusal)). IfSome o (λ s. (s.0 < length portals) × IsStop s.1)) (sym is) good
-stopped_more portals place None after None inside known good is none now =
-    subst (λ (o : Option (ℕ × Refusal)). IfSome o (λ s. (s.0 < length portals) × IsStop s.1)) (sym (none refl refl)) tt
-stopped_more portals place None after (Some why) inside known good is none now =
-    subst (λ (o : Option (ℕ × Refusal)). IfSome o (λ s. (s.0 < length portals) × IsStop s.1)) (sym (now refl)) (inside, known)
+-- the place of one whose node is stopped, where the nodes' stops are known
+pub stopped_there : (portals : List PortalValue) (stopped : Option (ℕ × Refusal)) (there : Option (ℕ × Refusal)) → IfSome stopped (λ s. IsStop s.1) →
+    IfSome there (λ s. IfSome stopped (λ known. IsThere portals s.0 (λ p. p.node ≡ known.0))) → IfSome there (λ s. IfSome stopped (λ known. s.1 ≡ known.1)) →
+    (stopped ≡ None → there ≡ None) → IfSome there (λ s. (s.0 < length portals) × IsStop s.1)
+stopped_there portals stopped None known place why none = tt
+stopped_there portals (Some known) (Some s) good place why none = (slice_get_within portals s.0 place.0 place.1, subst IsStop (sym why) good)
+stopped_there portals None (Some s) known place why none = absurd (never (none refl))
+  where
+    never : Some s ≡ None → ⊥
+    never h = cc
 
 -- what is told where nothing is found
 pub told_none : (portals : List PortalValue) (stopped : Option (ℕ × Refusal)) (place : Option ℕ) (why : Missed) →
@@ -181,7 +148,11 @@ told_none portals None place why known none told = let n = none refl in subst (�
 told_none portals (Some s) place why known none told =
     subst (λ (o : Option ℕ). IsWhyNone portals o why) (sym told.0) (known.0, (s.1, told.1, known.1))
 
--- all places were looked at
-pub looked_at_all : (t : TableName) (portals : List PortalValue) (looked : NodeSet) (first place : ℕ) (stopped : Option (ℕ × Refusal)) →
-    IsLooked t portals looked first place stopped → first ≤ place → EachBefore portals first (Finds t false)
-looked_at_all t portals looked first place stopped l past k p below is = l.before k p (omega (arith, below, past)) below is
+-- all nodes were looked at, or there is no portal before the first
+pub looked_at_all : (t : TableName) (portals : List PortalValue) (nodes : List ℕ) (first looked : ℕ) (stopped : Option (ℕ × Refusal)) →
+    IsLooked t portals nodes first looked stopped → ((k : ℕ) (p : PortalValue) → slice_get portals k ≡ Some p → (j : ℕ) × (slice_get nodes j ≡ Some p.node)) →
+    (0 < first → length nodes ≤ looked) → EachBefore portals first (Finds t false)
+looked_at_all t portals nodes first looked stopped l all past k p below is =
+    let n = all k p is in
+    let within = slice_get_within nodes n.0 p.node n.1 in
+    l.before n.0 (omega (arith, within, past (omega (arith, below)))) k p below is n.1

@@ -3,6 +3,7 @@ pub mod Portals
 pub mod Selecting
 pub mod Sorting
 pub mod Stopping
+pub mod PortalSets
 pub mod Readiness
 pub mod Replays
 pub mod Hubs

@@ -1,5 +1,5 @@
 //! Desks: what lies behind a node's lock. It is the node's cell, whose history tells how its state was reached.
-ghost use Rattle.std.specs.Prelude.{◌≡◌, ◌<◌, ◌≤◌, ℕ, length, IfSome, Result, Ok, Err, true, MatchResult, None, Some, is_some, slice_index_or, unwrap_or, OnOk, IfOk, IfErr};
+ghost use Rattle.std.specs.Prelude.{◌≡◌, ◌<◌, ◌≤◌, ℕ, IfSome, Result, Ok, Err, true, MatchResult, None, Some, is_some, slice_index_or, unwrap_or, OnOk, IfOk, IfErr};
 ghost use Rattle.ipcz_node.specs.Calls.{put_refusal, put_number, get_refusal, got_at, close_refusal, next_sizes};
 ghost use Rattle.ipcz_node.specs.Arriving.{arrival_of};
 ghost use Rattle.ipcz_node.specs.Finding.{IsNextReady};
@@ -27,7 +27,7 @@ use crate::chair_bells::ChairBells;
 use crate::hub::Hub;
 use crate::missed::{Missed, is_empty, missed_at, stop_of};
 use crate::portal::{Portal, PortalPutRefused};
-use crate::readiness::place_in;
+use crate::portal_set::PortalSet;
 use crate::rest::Rest;
 use crate::waiting_room::WaitingRoom;
 use ipcz_base::{Bytes, End, Parcel, PortalStatus, Profile, Refusal, Sizes};
@@ -250,8 +250,7 @@ impl<F: FabricName> Desk<F> {
     }
 
     // The first place below a limit of a portal of the node where a get finds something; the limit if there is none.
-    pub(crate) fn first_ready(&self, portals: &[Portal<F>], limit: usize) -> usize
-        requires { limit ≤ length portals.now }
+    pub(crate) fn first_ready(&self, portals: &PortalSet<F>, limit: usize) -> usize
         ensures most { result ≤ limit }
         ensures found { result < limit → IsThere portals.now result (FindsHere self.now) }
         ensures none { EachBefore portals.now result (FindsNoneHere self.now) }
@@ -261,7 +260,7 @@ impl<F: FabricName> Desk<F> {
         let mut from = 0;
         while let Some((serial, end)) = self.cell.ready_from(from) {
             if self.cell.has_come(end) {
-                first = place_in(portals, first, node, end);
+                first = portals.place_below(first, node, end);
             }
             from = serial + 1;
         }

@@ -11,6 +11,8 @@ mod desk;
 mod hub;
 mod missed;
 mod portal;
+mod portal_note;
+mod portal_set;
 mod portals;
 mod readiness;
 mod rest;
@@ -27,6 +29,7 @@ pub use ipcz_cell::{
 };
 pub use missed::Missed;
 pub use portal::{Got, Portal, PortalPutRefused};
+pub use portal_set::PortalSet;
 pub use portals::{Arrival, Portals};
 pub use scoped::ScopedPortal;
 pub use selecting::NoneGot;

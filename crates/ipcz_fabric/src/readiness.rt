@@ -1,39 +1,17 @@
 //! At which of several portals something has come.
-ghost use Rattle.std.specs.Prelude.{◌≡◌, ◌≢◌, ◌<◌, ◌≤◌, true, false, None, IfOk, IfErr, IfSome, length};
-ghost use Rattle.ipcz_fabric.specs.Portals.{portal_at};
+ghost use Rattle.std.specs.Prelude.{◌≡◌, ◌<◌, ◌≤◌, true, false, None, IfOk, IfErr, IfSome};
 ghost use Rattle.ipcz_fabric.specs.Readiness.{EachBefore, Finds, IsFirstReady, IsNoneReady, IsThere};
 ghost use Rattle.ipcz_fabric.specs.Stopping.{IsStop};
 
 use crate::deadline::{Deadline, Patience};
 use crate::hub::Hub;
 use crate::missed::Missed;
-use crate::portal::Portal;
+use crate::portal_set::PortalSet;
 use crate::selecting::{NoneGot, are_empty};
-use ipcz_base::{End, Refusal};
-use ipcz_cell::{Bells, FabricName, NodeSet, Ticket};
+use ipcz_base::Refusal;
+use ipcz_cell::{Bells, FabricName, Ticket};
 use std::sync::Wait;
 use std::time::{Clock, Duration};
-
-/// The first place below a limit of the portal of an end at a node; the limit if there is none.
-pub(crate) fn place_in<F: FabricName>(
-    portals: &[Portal<F>],
-    limit: usize,
-    node: u8,
-    end: End,
-) -> usize
-    requires { limit ≤ length portals.now }
-    ensures most { result ≤ limit }
-    ensures there { result < limit → IsThere portals.now result (λ p. p ≡ portal_at node end) }
-    ensures first { EachBefore portals.now result (λ p. p ≢ portal_at node end) }
-{
-    for place in 0..limit {
-        let portal = &portals[place];
-        if portal.node() == node && portal.end() == end {
-            return place;
-        }
-    }
-    limit
-}
 
 // What is told where a get at each portal finds nothing: the node of that at a place is stopped, or nothing has come.
 fn none_of(stopped: Option<(usize, Refusal)>) -> NoneGot
@@ -50,17 +28,6 @@ fn none_of(stopped: Option<(usize, Refusal)>) -> NoneGot
             why: Missed::Refused(Refusal::Empty),
         },
     }
-}
-
-/// The node of all of these portals, if they are of one.
-pub(crate) fn only_node<F: FabricName>(portals: &[Portal<F>]) -> Option<u8> {
-    let node = portals.first()?.node();
-    for portal in portals {
-        if portal.node() != node {
-            return None;
-        }
-    }
-    Some(node)
 }
 
 /// Watches the bell of a node, or of all.
@@ -92,11 +59,10 @@ impl<F: FabricName> Hub<F> {
         &self,
         rt: &R,
         node: u8,
-        portals: &[Portal<F>],
+        portals: &PortalSet<F>,
         limit: usize,
     ) -> (usize, Option<Refusal>)
         requires inside { node < F.table.count }
-        requires few { limit ≤ length portals.now }
         ensures most { result.0 ≤ limit }
         ensures found { result.0 < limit → IsThere portals.now result.0 (Finds F.table true) }
         ensures none { EachBefore portals.now result.0 (λ p. p.node ≡ node → Finds F.table false p) }
@@ -107,35 +73,32 @@ impl<F: FabricName> Hub<F> {
     }
 
     // The first of some portals where a get finds something. Each of their nodes is looked at once.
-    fn first_ready<R: Wait>(&self, rt: &R, portals: &[Portal<F>]) -> Result<usize, NoneGot>
+    fn first_ready<R: Wait>(&self, rt: &R, portals: &PortalSet<F>) -> Result<usize, NoneGot>
         ensures ready { IfOk result (IsFirstReady F.table portals.now) }
         ensures none { IfErr result (λ e. IsNoneReady F.table portals.now e.place e.why) }
     {
-        let mut looked = NodeSet::none();
+        let nodes = portals.nodes();
         let mut first = portals.len();
         let mut stopped = None;
-        let mut place = 0;
-        while place < first {
-            let node = portals[place].place();
-            if !looked.has(node) {
-                looked.add(node);
-                let (found, stop) = self.look_at(rt, node, portals, first);
-                first = found;
-                stopped = stopped_at(stopped, place, stop);
-            }
-            place += 1;
+        let mut looked = 0;
+        while looked < nodes.len() && first > 0 {
+            let node = nodes[looked];
+            let (found, stop) = self.look_at(rt, node, portals, first);
+            first = found;
+            stopped = stopped_at(stopped, node, stop);
+            looked += 1;
         }
         if first < portals.len() {
             return Ok(first);
         }
-        Err(none_of(stopped))
+        Err(none_of(place_stopped(portals, stopped)))
     }
 
     // The same, asleep while there is none, as long as there is patience.
     fn wait_patiently<R: Wait, P: Patience>(
         &self,
         rt: &R,
-        portals: &[Portal<F>],
+        portals: &PortalSet<F>,
         patience: &P,
     ) -> Result<usize, NoneGot>
         ensures ready { IfOk result (IsFirstReady F.table portals.now) }
@@ -143,7 +106,7 @@ impl<F: FabricName> Hub<F> {
         ensures over { IfErr result (λ e. e.place ≡ None → P.over) }
     {
         let news = self.fabric().news();
-        let node = only_node(portals);
+        let node = portals.only_node();
         for _try in rt.forever() {
             let left = patience.left();
             let ticket = watch(news, node);
@@ -156,23 +119,27 @@ impl<F: FabricName> Hub<F> {
         unreachable!()
     }
 
-    /// Sleeps until something has come at one of some portals, a parcel or the close of its peer, and tells which: the place in the list of the first
-    /// of them where a get finds something. Nothing is taken, so that somebody else may get there first. It sleeps no longer than `limit` in all:
+    /// Sleeps until something has come at one of the portals of a set, a parcel or the close of its peer, and tells which: the place in the set of the
+    /// first of them where a get finds something. Nothing is taken, so that somebody else may get there first. It sleeps no longer than `limit` in all:
     /// `Duration::MAX` is without end, and `Duration::ZERO` doesn't sleep. The portals may be of several nodes, whose turns workers have to take meanwhile.
     ///
-    /// Each look takes the lock of each of the portals' nodes once, and searches what has come there, with a walk over the list for each end where something
-    /// has. If all are of one node, a message that is handled there ends the sleep for one look; else one that is handled at any node does. It takes no
-    /// memory, and is no call in the nodes' histories. Who wants all portals to have their turn puts the one that was served last at the end of the list.
+    /// Each look takes the lock of each of the portals' nodes at most once, and searches what has come there; each end where something has is looked up in the
+    /// set. So it costs the same in a set of one portal and in one of thousands. If all are of one node, a message that is handled there ends the sleep
+    /// for one look; else one that is handled at any node does. It takes no memory, and is no call in the nodes' histories.
+    ///
+    /// The first of the set is told first, so one where something comes all the time keeps those behind it waiting. Who wants all portals to have their
+    /// turn removes each one that was served, and adds them again once a wait with `Duration::ZERO` finds nothing at the others.
     ///
     /// Refused with `place` if nothing has come at any of the portals and the last turn of the node of that one was refused, so that its workers have ended
-    /// ([`Missed::Stopped`]). Without a place nothing has come in the time. So of an empty list. At a portal whose end the node's callers don't hold
+    /// ([`Missed::Stopped`]). Without a place nothing has come in the time. So of an empty set. At a portal whose end the node's callers don't hold
     /// nothing ever comes. A clock that can't be read ends the wait.
     ///
-    /// So `hub.wait_any(rt, &portals, Duration::from_secs(1))` is `Ok(1)` where the first parcel comes at `portals[1]`, and a get follows there.
+    /// So `hub.wait_any(rt, &set, Duration::from_secs(1))` is `Ok(1)` where the first parcel comes at the portal that was added as the second one, and a
+    /// get follows there.
     pub fn wait_any<R: Wait + Clock>(
         &self,
         rt: &R,
-        portals: &[Portal<F>],
+        portals: &PortalSet<F>,
         limit: Duration,
     ) -> Result<usize, NoneGot>
         ensures ready { IfOk result (IsFirstReady F.table portals.now) }
@@ -186,19 +153,33 @@ impl<F: FabricName> Hub<F> {
     }
 }
 
-// Which portal's node is stopped, and why: that which was known before, or else that of this place, if it is.
+// Which node is stopped, and why: that which was known before, or else this one, if it is.
 fn stopped_at(
-    before: Option<(usize, Refusal)>,
-    place: usize,
+    before: Option<(u8, Refusal)>,
+    node: u8,
     stop: Option<Refusal>,
-) -> Option<(usize, Refusal)>
+) -> Option<(u8, Refusal)>
     ensures before { IfSome before (λ s. result ≡ Some s) }
     ensures none { before ≡ None → stop ≡ None → result ≡ None }
-    ensures now { before ≡ None → IfSome stop (λ why. result ≡ Some (place, why)) }
+    ensures now { before ≡ None → IfSome stop (λ why. result ≡ Some (node, why)) }
 {
     match (before, stop) {
         (Some(before), _) => Some(before),
-        (None, Some(why)) => Some((place, why)),
+        (None, Some(why)) => Some((node, why)),
         (None, None) => None,
     }
+}
+
+// The first portal of a node that is stopped, and why it is.
+fn place_stopped<F: FabricName>(
+    portals: &PortalSet<F>,
+    stopped: Option<(u8, Refusal)>,
+) -> Option<(usize, Refusal)>
+    ensures place { IfSome result (λ s. IfSome stopped (λ known. IsThere portals.now s.0 (λ p. p.node ≡ known.0))) }
+    ensures why { IfSome result (λ s. IfSome stopped (λ known. s.1 ≡ known.1)) }
+    ensures some { stopped ≡ None → result ≡ None }
+{
+    let (node, why) = stopped?;
+    let place = portals.place_of_node(node)?;
+    Some((place, why))
 }

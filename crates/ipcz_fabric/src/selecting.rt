@@ -9,7 +9,7 @@ use crate::hub::Hub;
 use crate::missed::Missed;
 use crate::portal::Portal;
 use crate::portals::{Arrival, arrival_of};
-use crate::readiness::{only_node, sleep, watch};
+use crate::readiness::{sleep, watch};
 use ipcz_base::Refusal;
 use ipcz_cell::FabricName;
 use std::sync::Wait;
@@ -35,6 +35,17 @@ pub(crate) fn are_empty<T>(taken: &Result<T, NoneGot>) -> bool
     ensures { MatchResult taken.now (λ _. result ≡ false) (λ e. MatchBool result (e.place ≡ None) (e.place ≢ None)) }
 {
     matches!(taken, Err(NoneGot { place: None, .. }))
+}
+
+// The node of all of these portals, if they are of one.
+fn only_node<F: FabricName>(portals: &[Portal<F>]) -> Option<u8> {
+    let node = portals.first()?.node();
+    for portal in portals {
+        if portal.node() != node {
+            return None;
+        }
+    }
+    Some(node)
 }
 
 impl<F: FabricName> Caller<F> {
@@ -136,7 +147,7 @@ impl<F: FabricName> Hub<F> {
     ///
     /// Each look asks the portals in their order, each under its node's lock. If all are of one node, each message that is handled there ends the sleep
     /// for one look; else each that is handled at any node. Who wants all to have their turn puts the one that was served last at the end of the list.
-    /// For a long list see [`Hub::wait_any`].
+    /// For many portals see [`Hub::wait_any`].
     ///
     /// It takes no memory. `place` tells the portal that refuses the get: `Stranger` if the node's callers don't hold its end, `PeerClosed` if its peer is
     /// closed and all that was put there was got; take it out of the list then. Or nothing has come there and the last turn of its node was refused, so

@@ -38,7 +38,7 @@ const B1: End = End {
 
 /// A call on a node's cell, with what it gives.
 #[derive(Clone, Copy)]
-enum Call {
+pub(crate) enum Call {
     /// Opens a pair, which has these ends.
     Open(End, End),
     /// Opens pairs, which have the numbers from the first to the second.
@@ -65,6 +65,8 @@ enum Call {
     Claimed(u64),
     /// Loads a link word.
     Word(u64, u64),
+    /// Tells whether the node has nothing to do.
+    Quiet(bool),
 }
 
 // Whether an open gives a pair.
@@ -180,11 +182,12 @@ fn gives<F: FabricName>(
         Call::Close(at, number) => Ok(cell.close(fabric, at)? == number),
         Call::Claimed(count) => Ok(cell.claimed(fabric) == count),
         Call::Word(i, word) => Ok(cell.word(fabric, i) == Some(word)),
+        Call::Quiet(want) => Ok(cell.quiet(fabric) == want),
     }
 }
 
-// The first of these calls on cells that doesn't give what it should.
-fn first_wrong<F: FabricName>(
+/// The first of these calls on cells that doesn't give what it should.
+pub(crate) fn first_wrong<F: FabricName>(
     fabric: &Fabric<F>,
     cells: &mut [NodeCell<F>],
     alloc: Global,
@@ -201,8 +204,8 @@ fn first_wrong<F: FabricName>(
     Ok(None)
 }
 
-// The same, of the cells of a table.
-fn run<F: FabricName>(
+/// The same, of the cells of a table.
+pub(crate) fn run<F: FabricName>(
     blank: Blank,
     alloc: Global,
     calls: &[(usize, Call)],

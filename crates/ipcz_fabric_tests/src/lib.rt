@@ -3,6 +3,8 @@
 #![tactic(auto)]
 
 #[cfg(test)]
+mod batches;
+#[cfg(test)]
 mod cell_tables;
 #[cfg(test)]
 mod cell_waits;

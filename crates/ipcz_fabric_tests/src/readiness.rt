@@ -2,20 +2,32 @@
 ghost use Rattle.std.specs.Prelude.{◌≡◌};
 
 use crate::hub_tables::{both, hub_of};
-use crate::selecting::{list_of, long, sends};
+use crate::selecting::{long, sends};
 use ipcz_base::Refusal;
-use ipcz_fabric::{Blank, FabricName, Hub, Missed, Portal, start};
+use ipcz_fabric::{Blank, FabricName, Hub, Missed, Portal, PortalSet, start};
 use std::alloc::Global;
 use std::marker::Brand;
 use std::sync::Wait;
 use std::thread::{Threads, join, sleep};
 use std::time::{Clock, Duration, Instant};
 
+// A set of two portals.
+fn set_of<F: FabricName>(
+    alloc: Global,
+    first: &Portal<F>,
+    second: &Portal<F>,
+) -> Option<PortalSet<F>> {
+    let mut set = PortalSet::new(alloc);
+    set.add(first).ok()?;
+    set.add(second).ok()?;
+    Some(set)
+}
+
 // At which place something has come, or why there is nothing.
 fn told<F: FabricName, R: Wait + Clock>(
     rt: &R,
     hub: &Hub<F>,
-    portals: &[Portal<F>],
+    portals: &PortalSet<F>,
     limit: Duration,
 ) -> (Option<usize>, Option<Missed>) {
     match hub.wait_any(rt, portals, limit) {
@@ -36,20 +48,19 @@ fn answers<F: FabricName, R: Wait + Clock>(
     let (hub, firsts) = hub_of::<F>(blank)?;
     let (left, right) = both(firsts)?;
     let (near, far) = hub.open_pair(rt, 0).ok()?;
-    let list = list_of(alloc, left, far)?;
-    let before = told(rt, &hub, &list, Duration::ZERO);
+    let set = set_of(alloc, &left, &far)?;
+    let before = told(rt, &hub, &set, Duration::ZERO);
     if !sends(rt, &hub, alloc, &near, 0) {
         return None;
     }
-    let parcel = told(rt, &hub, &list, Duration::ZERO);
-    list.get(1)?.get(rt, &hub).ok()?;
-    let got = told(rt, &hub, &list, Duration::ZERO);
+    let parcel = told(rt, &hub, &set, Duration::ZERO);
+    far.get(rt, &hub).ok()?;
+    let got = told(rt, &hub, &set, Duration::ZERO);
     right.close(rt, &hub).ok()?;
     hub.acts(rt, 1, 100).ok()?;
     hub.acts(rt, 0, 100).ok()?;
-    let closed = told(rt, &hub, &list, Duration::ZERO);
-    let none: Vec<Portal<F>> = Vec::new(alloc);
-    let nothing = told(rt, &hub, &none, Duration::ZERO);
+    let closed = told(rt, &hub, &set, Duration::ZERO);
+    let nothing = told(rt, &hub, &PortalSet::new(alloc), Duration::ZERO);
     Some([before, parcel, got, closed, nothing])
 }
 
@@ -82,14 +93,14 @@ fn is_woken<F: FabricName + Send + Sync, R: Threads + Wait + Clock + Sync>(
     let (hub, firsts) = hub_of::<F>(blank)?;
     let (left, right) = both(firsts)?;
     let (near, far) = hub.open_pair(rt, 0).ok()?;
-    let list = list_of(alloc, right, far)?;
+    let set = set_of(alloc, &right, &far)?;
     let (sent, found) = join(
         rt,
         || {
             sleep(rt, Duration::from_millis(50));
             sends(rt, &hub, alloc, &near, 0)
         },
-        || told(rt, &hub, &list, long()),
+        || told(rt, &hub, &set, long()),
     );
     let spent = begin.elapsed(rt).ok()?;
     Some(sent && found == (Some(1), None) && spent < long() && left.node() == 0)
@@ -103,4 +114,61 @@ fn is_woken_of<R: Threads + Wait + Clock + Sync>(rt: &R, alloc: Global) -> Optio
 #[test]
 fn a_wait_at_portals_of_two_nodes_is_woken(rt: HostRuntime) {
     assert_eq!(rt; is_woken_of(&rt, rt.alloc()), Some(true));
+}
+
+// The places that a set tells of a first portal, of a second, of the first again and of the second again, and how many it has then; whether it has one at
+// 2, and one at 0 twice, and is empty then; and the place where a wait finds a parcel of the second portal, before the first was removed and behind
+// that, and once both were.
+fn changes<F: FabricName, R: Wait + Clock>(
+    rt: &R,
+    alloc: Global,
+    blank: Blank,
+) -> Option<([usize; 5], [bool; 4], [Option<usize>; 3])>
+    requires { blank ≡ F.table }
+{
+    let (hub, firsts) = hub_of::<F>(blank)?;
+    let (left, right) = both(firsts)?;
+    let (near, far) = hub.open_pair(rt, 0).ok()?;
+    let mut set = PortalSet::new(alloc);
+    let places = [
+        set.add(&right).ok()?,
+        set.add(&far).ok()?,
+        set.add(&right).ok()?,
+        set.place(&far)?,
+        set.len(),
+    ];
+    if !sends(rt, &hub, alloc, &near, 0) || left.node() != 0 {
+        return None;
+    }
+    let before = told(rt, &hub, &set, Duration::ZERO).0;
+    let none = set.remove(2);
+    let first = set.remove(0);
+    let behind = told(rt, &hub, &set, Duration::ZERO).0;
+    let last = set.remove(0);
+    let nothing = told(rt, &hub, &set, Duration::ZERO).0;
+    Some((
+        places,
+        [none, first, last, set.is_empty()],
+        [before, behind, nothing],
+    ))
+}
+
+fn changes_of<R: Wait + Clock>(
+    rt: &R,
+    alloc: Global,
+) -> Option<([usize; 5], [bool; 4], [Option<usize>; 3])> {
+    let blank = start(alloc, 2, 4).ok()?;
+    changes::<Brand, R>(rt, alloc, blank)
+}
+
+#[test]
+fn a_set_has_each_portal_once_and_the_last_one_takes_the_place_of_a_removed_one(rt: HostRuntime) {
+    assert_eq!(rt;
+        changes_of(&rt, rt.alloc()),
+        Some((
+            [0, 1, 0, 1, 2],
+            [false, true, true, true],
+            [Some(1), Some(0), None]
+        ))
+    );
 }

@@ -17,6 +17,7 @@ pub mod LinkPlaces
 pub mod Looking
 pub mod LoneNodes
 pub mod Mailing
+pub mod NodeSets
 pub mod Preparing
 pub mod Queues
 pub mod Readiness

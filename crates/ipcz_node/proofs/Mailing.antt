@@ -1,17 +1,22 @@
--- In how many outboxes messages wait: what a change of one does to it, and what it is if none do.
+-- In how many outboxes messages wait, and in which: what a change of one does to that, and what it is if none do.
 use Rattle.std.proofs.Common.{◌≡◌, ◌<◌, ◌≤◌, ◌+◌, ℕ, zero, suc, Bool, true, false, not, ◌&&◌, nat_eq, List, [], ◌∷◌, ◌++◌, length, replicate, refl, ap, arith}
 use Rattle.std.proofs.Common.{map, get_or, slice_set}
 use Rattle.std.proofs.lemmas.List.{length-map}
 use Rattle.std.specs.Prelude.{if◌then◌else◌}
 use Rattle.std.proofs.lemmas.Bool.Decides.{nat_tests}
+use Rattle.std.proofs.Common.{cond, sym, ◌∙◌}
 use Rattle.ipcz_base.specs.Indexed.{place_at, put_place}
+use Rattle.ipcz_base.proofs.Indexed.{place_at-put_place}
 use Rattle.ipcz_base.specs.declared.message.Message.{Message}
 use Rattle.ipcz_node.specs.RoomyNodes.{boxes_with_mail, one_with_mail}
 use Rattle.ipcz_node.specs.Acts.{are_empty, has_mail_for}
 use Rattle.ipcz_node.specs.Node.{Node}
+use Rattle.ipcz_node.specs.NodeSets.{AreWithMail, has_node, no_nodes}
+use Rattle.ipcz_node.specs.declared.node_set.NodeSet.{NodeSet}
+use Rattle.ipcz_node.proofs.NodeSets.{nobody}
 use Rattle.ipcz_node.proofs.Queues.{put_map, place_map}
 
-none_waits : (n : ℕ) → boxes_with_mail (replicate n []) ≡ 0
+pub none_waits : (n : ℕ) → boxes_with_mail (replicate n []) ≡ 0
 none_waits zero = refl
 none_waits (suc n) = omega (arith, none_waits n)
 
@@ -82,3 +87,28 @@ module _ {X : Type 0} (g : X → List Message) where
   -- there are as many queues as numbers of nodes
   pub waiting_few : (xs : List X) → length xs ≡ 256 → boxes_with_mail (map g xs) ≤ 256
   waiting_few xs all = omega (arith, all, length-map xs g, waiting_most (map g xs))
+
+blank_box : (k n : ℕ) → place_at {X = List Message} [] (replicate k []) n ≡ []
+unfolding place_at
+blank_box zero n = refl
+blank_box (suc k) zero = refl
+blank_box (suc k) (suc n) = blank_box k n
+
+-- where each outbox is empty, no node is in the set
+pub none_noted : (k : ℕ) → AreWithMail no_nodes (replicate k [])
+none_noted k = λ n low. nobody n ∙ sym (ap (λ (box : List Message). not (nat_eq (length box) 0)) (blank_box k n))
+
+-- one box is another, and whether messages wait there was noted
+pub mail_noted : (s later : NodeSet) (boxes others : List (List Message)) (to : ℕ) (box : List Message) → AreWithMail s boxes → others ≡ put_place [] boxes to box →
+    ((n : ℕ) → n < 64 → has_node later n ≡ (if nat_eq to n then not (nat_eq (length box) 0) else has_node s n)) → AreWithMail later others
+mail_noted s later boxes others to box was is noted n low = noted n low ∙ (go (nat_eq to n) ∙ sym (ap (λ (l : List Message). not (nat_eq (length l) 0)) (at ∙ ap (λ b. cond b box (place_at [] boxes n)) flip)))
+  where
+    at : place_at [] others n ≡ cond (nat_eq n to) box (place_at [] boxes n)
+    at = ap (λ l. place_at [] l n) is ∙ place_at-put_place [] boxes to box n
+
+    flip : nat_eq n to ≡ nat_eq to n
+    flip = grind (arith, nat_tests)
+
+    go : (b : Bool) → (if b then not (nat_eq (length box) 0) else has_node s n) ≡ not (nat_eq (length (cond b box (place_at [] boxes n))) 0)
+    go true = refl
+    go false = was n low

@@ -15,6 +15,7 @@ pub mod LinkPlaces
 pub mod Lone
 pub mod Looking
 pub mod Node
+pub mod NodeSets
 pub mod Preparing
 pub mod Rooms
 pub mod RoomyNodes

@@ -1,5 +1,5 @@
 //! Messages that go from one node to another in one step.
-ghost use Rattle.std.specs.Prelude.{◌≡◌, [], ◌∷◌, nat_eq, length};
+ghost use Rattle.std.specs.Prelude.{◌≡◌, [], None, nat_eq, length, option_to_list};
 ghost use Rattle.ipcz_node.specs.Acts.{first_of, rest_of};
 
 use crate::outbox::Outbox;
@@ -44,23 +44,23 @@ impl Batch {
         self.messages.is_empty()
     }
 
-    /// Takes the first message out, if one is left.
-    pub fn take_first(&mut self) -> Option<Message>
+    /// Takes the first message out into an empty place, if one is left.
+    #[inline(always)]
+    pub fn take_first(&mut self, place: &mut Option<Message>)
+        requires { place.old ≡ None }
         ensures messages { self.new ≡ rest_of self.old }
-        ensures message { result ≡ first_of self.old }
+        ensures message { place.new ≡ first_of self.old }
     {
-        self.messages.take_first()
+        self.messages.take_first(place);
     }
 
-    /// Makes a message the only one. It takes no memory.
-    pub fn put_alone(&mut self, message: Message)
+    /// Takes the first message of an outbox, if there is one. It takes no memory. What is left empty gives its room back.
+    pub(crate) fn take_first_of(&mut self, outbox: &mut Outbox, alloc: Global)
         requires { self.old ≡ [] }
-        ensures { self.new ≡ message ∷ [] }
+        ensures batch { self.new ≡ option_to_list (first_of outbox.old.messages) }
+        ensures outbox { outbox.new.messages ≡ rest_of outbox.old.messages }
     {
-        if self.messages.reserve().is_err() {
-            unreachable!()
-        }
-        self.messages.push(message);
+        outbox.move_first(alloc, &mut self.messages);
     }
 
     /// Takes the messages of an outbox, which gets what room there is here.

@@ -1,5 +1,5 @@
 //! The messages of a node that wait for a mailbox.
-ghost use Rattle.std.specs.Prelude.{◌≤◌, ◌≡◌, ◌<◌, ◌++◌, [], ◌∷◌, nat_eq, length, slice_get, option_copied, OnOk, IsOk};
+ghost use Rattle.std.specs.Prelude.{◌≤◌, ◌≡◌, ◌<◌, ◌++◌, [], ◌∷◌, nat_eq, length, slice_get, option_copied, option_to_list, None, OnOk, IsOk};
 ghost use Rattle.ipcz_node.specs.Acts.{first_of, rest_of};
 
 use ipcz_base::Message;
@@ -103,15 +103,31 @@ impl Outbox {
         }
     }
 
-    /// Takes the first message out, if there is one, and keeps the room.
+    /// Takes the first message out into an empty place, if there is one, and keeps the room.
     #[tactic(auto, unfolding(crate::specs::Acts::first_of, crate::specs::Acts::rest_of))]
-    pub fn take_first(&mut self) -> Option<Message>
+    #[inline(always)]
+    pub fn take_first(&mut self, place: &mut Option<Message>)
+        requires { place.old ≡ None }
         ensures messages { self.new.messages ≡ rest_of self.old.messages }
-        ensures message { result ≡ first_of self.old.messages }
+        ensures message { place.new ≡ first_of self.old.messages }
     {
-        let message = self.first.take();
-        self.first = self.rest.pop_front();
-        message
+        *place = self.first.take();
+        if !self.rest.is_empty() {
+            self.first = self.rest.pop_front();
+        }
+    }
+
+    /// Moves the first message into an empty outbox, if there is one. It takes no memory. What is left empty gives its room back.
+    pub(crate) fn move_first(&mut self, alloc: Global, other: &mut Outbox)
+        requires { other.old.messages ≡ [] }
+        ensures messages { self.new.messages ≡ rest_of self.old.messages }
+        ensures moved { other.new.messages ≡ option_to_list (first_of self.old.messages) }
+        ensures room { self.new.messages ≡ [] → self.new.room ≡ 0 }
+    {
+        self.take_first(&mut other.first);
+        if self.is_empty() {
+            self.give_back(alloc);
+        }
     }
 
     /// Takes the first message out, if there is one. What is left empty gives its room back.
@@ -120,7 +136,8 @@ impl Outbox {
         ensures message { result ≡ first_of self.old.messages }
         ensures room { self.new.messages ≡ [] → self.new.room ≡ 0 }
     {
-        let message = self.take_first();
+        let mut message = None;
+        self.take_first(&mut message);
         if self.is_empty() {
             self.give_back(alloc);
         }

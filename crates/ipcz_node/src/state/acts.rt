@@ -1,5 +1,5 @@
 //! Acts of a node's routers, and what they give their node.
-ghost use Rattle.std.specs.Prelude.{ℕ, ◌≡◌, ◌≤◌, ◌+◌, ◌++◌, Some, true, is_some, length, vec_capacity, vec_len, IsSomeAnd};
+ghost use Rattle.std.specs.Prelude.{ℕ, ◌≡◌, ◌≤◌, ◌+◌, ◌++◌, Some, true, is_some, length, vec_capacity, vec_len, option_to_list, IsSomeAnd};
 ghost use Rattle.ipcz_router.specs.Router.{Router as RouterRecord};
 ghost use Rattle.ipcz_router.specs.ActTable.{may_take};
 ghost use Rattle.ipcz_router.specs.ActEffects.{IsAnswerOf, apply, leaves_by, output_of};
@@ -7,10 +7,10 @@ ghost use Rattle.ipcz_node.specs.declared.act.Act.{Act};
 ghost use Rattle.ipcz_node.specs.Node.{router_in};
 ghost use Rattle.ipcz_node.specs.Sends.{send};
 ghost use Rattle.ipcz_node.specs.RoomyNodes.{IsReady, CanTell, IsReadyFor, IsPossibleAct};
-ghost use Rattle.ipcz_node.specs.Acts.{has_left, keep_or_drop, commit_router, commit, post_of, Answers, rest_of};
+ghost use Rattle.ipcz_node.specs.Acts.{has_left, keep_or_drop, commit_router, commit, first_of, post_of, Answers, rest_of};
 ghost use Rattle.std.specs.Prelude.{[]};
 ghost use Rattle.ipcz_base.specs.Indexed.{place_at, put_place};
-ghost use Rattle.ipcz_node.specs.Node.{outbox};
+ghost use Rattle.ipcz_node.specs.Node.{outbox, with_outbox};
 ghost use Rattle.ipcz_node.specs.Events.{act_event, event_of, link_acted, moved_by, router_event};
 
 use super::NodeState;
@@ -186,6 +186,15 @@ impl NodeState {
             unreachable!()
         };
         message
+    }
+
+    /// Takes the first message for a node out of its outbox, if there is one, into an empty batch. An outbox that is left empty gives its room back.
+    pub fn post_first(&mut self, to: u8, batch: &mut Batch)
+        requires { batch.old ≡ [] }
+        ensures node { self.new.node ≡ with_outbox self.old.node to (rest_of (outbox self.old.node to)) }
+        ensures batch { batch.new ≡ option_to_list (first_of (outbox self.old.node to)) }
+    {
+        self.outboxes.take_first(self.alloc, to, batch);
     }
 
     /// Takes all messages for a node out of its outbox, into an empty batch. The outbox has the batch's room then.

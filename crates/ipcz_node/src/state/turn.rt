@@ -1,5 +1,5 @@
 //! Which act a node takes next.
-ghost use Rattle.std.specs.Prelude.{◌≡◌, false, not};
+ghost use Rattle.std.specs.Prelude.{◌≡◌, ◌≤◌, ◌<◌, ℕ, true, false, not};
 ghost use Rattle.ipcz_base.specs.Indexed.{place_at};
 ghost use Rattle.ipcz_node.specs.Node.{flagged_router};
 ghost use Rattle.ipcz_node.specs.RoomyNodes.{IsPossibleAct};
@@ -60,6 +60,18 @@ impl NodeState {
         ensures { result ≡ has_mail_for self.now.node to }
     {
         self.outboxes.has_mail(to)
+    }
+
+    /// The lowest node from one on, below 64, for which a message waits to be posted, or 64. It takes no memory.
+    #[inline(always)]
+    pub fn next_with_mail(&self, from: u8) -> u8
+        requires { from ≤ 64 }
+        ensures from { from ≤ result }
+        ensures most { result ≤ 64 }
+        ensures none { (n : ℕ) → from ≤ n → n < result → has_mail_for self.now.node n ≡ false }
+        ensures there { result < 64 → has_mail_for self.now.node result ≡ true }
+    {
+        self.outboxes.next_with_mail(from)
     }
 
     // The lowest node whose mailbox to this one was seen full.

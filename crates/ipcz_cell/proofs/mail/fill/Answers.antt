@@ -8,9 +8,9 @@ pub slot_mut-batch-requires : goal.slot_mut-batch-requires
 slot_mut-batch-requires g c = (c.requires.own ∙ sym c.fabric.invariant.0, ([], c.requires.slot))
 
 pub returns-else-fabric-clause-node : goal.returns-else-fabric-clause-node
-returns-else-fabric-clause-node g c = alone_node g.F.FabricName.table c.args.to _ _ (sym c.fabric.invariant.9 ∙ c.if-fabric.false) c.post.ensures.node
+returns-else-fabric-clause-node g c = alone_node g.F.FabricName.table c.args.to _ _ (sym c.fabric.invariant.9 ∙ c.if-fabric.false) c.post_first.ensures.node
 
 pub returns-else-fabric-clause-filled : goal.returns-else-fabric-clause-filled
 returns-else-fabric-clause-filled g c =
     ap (λ (b : Batch). (c.args.seat.now.me.0.view, (c.args.slot, b) ∷ rest c.args.seat.now.me.1))
-    (c.put_alone.ensures ∙ alone_batch g.F.FabricName.table c.args.to _ c.post.result (sym c.fabric.invariant.9 ∙ c.if-fabric.false) c.post.ensures.message)
+    (alone_batch g.F.FabricName.table c.args.to c.args.state.now.node _ (sym c.fabric.invariant.9 ∙ c.if-fabric.false) c.post_first.ensures.batch)

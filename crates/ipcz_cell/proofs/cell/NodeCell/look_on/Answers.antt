@@ -1,12 +1,14 @@
 use Rattle.std.proofs.Common.{◌≡◌, ◌+◌, ◌-◌, [], ◌∷◌, ◌*◌, ℕ, suc, true, length, ap, sym, ◌∙◌, refl, arith}
 use Rattle.ipcz_rule.specs.declared.view.View.{View}
 use Rattle.ipcz_rule.specs.Batches.{BatchMine, batch_from}
+use Rattle.std.specs.Prelude.{is_some}
+use Rattle.ipcz_node.specs.Node.{Node}
 use Rattle.ipcz_cell.specs.CellStates.{CellState, part_in}
 use Rattle.ipcz_cell.specs.Cells.{has_batch}
 use Rattle.ipcz_cell.specs.Mails.{looked_on_part}
 use Rattle.ipcz_cell.specs.Seats.{mine_of}
 use Rattle.ipcz_cell.proofs.Seating.{number_is, number_inside}
-use Rattle.ipcz_cell.proofs.Posting.{front, held_first, looked_on_cell, held_of}
+use Rattle.ipcz_cell.proofs.Posting.{nothing_held, front, held_first, looked_on_cell, held_of}
 use Rattle.ipcz_cell.proofs.Turning.{append_length}
 use Rattle.ipcz_cell.proofs.Slotting.{none_then}
 use Rattle.ipcz_cell.proofs.cell.NodeCell.look_on.Goals as goal
@@ -53,7 +55,7 @@ invariant_of-self g c =
     let left : has_batch p c.args.from ≡ true = ap (λ (z : CellState). has_batch z.part c.args.from) c.self.view_is ∙ c.requires.left in (
       looked_on_cell t c.self.inside.state.node c.look.new.self.node c.self.inside.message c.self.inside.probed c.self.inside.held c.self.inside.seat.table_id c.turn_over-2.new.seat.table_id (mine_of c.self.inside.seat.me) was
           (c.turn_over-2.ensures.table ∙ (c.look_on_here.ensures.table ∙ (c.take_out.ensures.table ∙ c.turn_over.ensures.table))) (mine_of c.turn_over.new.seat.me) (mine_of c.take_out.new.seat.me) (mine_of c.look_on_here.new.seat.me) (mine_of c.turn_over-2.new.seat.me)
-          c.args.from _ _ c.slot_of-slot.result c.take_out.result place.0 place.1 c.look_on_here.ensures.sound (ap (λ (z : CellState). z.part.state.hand) c.self.view_is ∙ c.requires.idle) left once (held_of _ _ _ _ _ _ _ was c.args.from left)
+          c.args.from _ _ c.slot_of-slot.result c.take_out.new.place place.0 place.1 c.look_on_here.ensures.sound (ap (λ (z : CellState). z.part.state.hand) c.self.view_is ∙ c.requires.idle) left once (held_of _ _ _ _ _ _ _ was c.args.from left)
           place.2 before behind slot c.turn_over.ensures.me taken.0 taken.1 c.look_on_here.ensures.done c.turn_over-2.ensures.me c.look.ensures,
       none_then c.turn_over-2.ensures.slots (none_then c.look_on_here.ensures.slots (none_then c.take_out.ensures.slots (none_then c.turn_over.ensures.slots c.self.invariant.1))),
     )
@@ -90,3 +92,9 @@ returns-clause-seen g c =
     let view = c.take_out.ensures.view ∙ ap (λ (m : BatchMine). m.0) c.turn_over.ensures.me in
     ap (λ (m : BatchMine). m.0.seen) c.turn_over-2.ensures.me ∙ (ap (λ (m : BatchMine). m.0.seen) c.look_on_here.ensures.done ∙
     (ap (λ (v : View). v.seen) view ∙ ap (λ (z : CellState). z.seen) c.self.view_is))
+
+pub take_out-requires-clause-empty : goal.take_out-requires-clause-empty
+take_out-requires-clause-empty g c =
+    let was = c.self.invariant.0 in
+    let idle = ap (λ (z : Node). z.hand) (sym was.seated.state) ∙ (ap (λ (z : CellState). z.part.state.hand) c.self.view_is ∙ c.requires.idle) in
+    nothing_held c.self.inside.message (was.holding ∙ ap is_some idle)

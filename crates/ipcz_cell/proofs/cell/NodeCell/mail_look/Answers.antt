@@ -1,12 +1,14 @@
 use Rattle.std.proofs.Common.{◌≡◌, ◌+◌, ◌*◌, ◌∷◌, ℕ, true, false, ap, sym, ◌∙◌, refl, arith}
 use Rattle.ipcz_rule.specs.Batches.{BatchMine}
+use Rattle.std.specs.Prelude.{is_some}
+use Rattle.ipcz_node.specs.Node.{Node}
 use Rattle.ipcz_cell.specs.CellStates.{CellState, part_in}
 use Rattle.ipcz_cell.specs.Cells.{has_batch}
 use Rattle.ipcz_cell.specs.Mails.{mail_word}
 use Rattle.ipcz_cell.specs.Seats.{mine_of}
 use Rattle.ipcz_cell.proofs.Seating.{number_is, number_inside}
 use Rattle.ipcz_cell.proofs.Mailing.{told_hit, told_miss, load_tells, look_tells}
-use Rattle.ipcz_cell.proofs.Posting.{front, left_of, looked_cell}
+use Rattle.ipcz_cell.proofs.Posting.{nothing_held, front, left_of, looked_cell}
 use Rattle.ipcz_cell.proofs.Slotting.{none_then}
 use Rattle.ipcz_cell.proofs.cell.NodeCell.mail_look.Goals as goal
 
@@ -69,7 +71,13 @@ invariant_of-self-2 g c =
     let node : c.number-node.result ≡ (part_in c.self.inside.seat.me.0.view).node = c.number-node.ensures ∙ number_is _ _ _ _ was.seated in
     let idle = ap (λ (z : CellState). z.part.state.hand) c.self.view_is ∙ c.requires.idle in (
       looked_cell t c.self.inside.state.node c.look.new.self.node c.self.inside.message c.self.inside.probed c.self.inside.held c.self.inside.seat.table_id c.turn_over.new.seat.table_id (mine_of c.self.inside.seat.me) was
-          (c.turn_over.ensures.table ∙ (c.take_out.ensures.table ∙ done.table)) (mine_of c.look_here-found.new.seat.me) (mine_of c.take_out.new.seat.me) (mine_of c.turn_over.new.seat.me) c.args.from _ _ _ c.slot_of-slot.result hit.0 hit.1 c.take_out.result c.push.new.self done.sound
+          (c.turn_over.ensures.table ∙ (c.take_out.ensures.table ∙ done.table)) (mine_of c.look_here-found.new.seat.me) (mine_of c.take_out.new.seat.me) (mine_of c.turn_over.new.seat.me) c.args.from _ _ _ c.slot_of-slot.result hit.0 hit.1 c.take_out.new.place c.push.new.self done.sound
           (c.slot_of-slot.ensures.slot ∙ ap (λ (k : ℕ). c.args.from * t.count + k) node) idle c.requires.from (sym c.has.ensures ∙ c.if-has.false) hit.2 hit.3 taken.0 taken.1 c.turn_over.ensures.me c.push.ensures c.look.ensures,
       none_then c.turn_over.ensures.slots (none_then c.take_out.ensures.slots (none_then done.slots c.self.invariant.1)),
     )
+
+pub take_out-requires-clause-empty : goal.take_out-requires-clause-empty
+take_out-requires-clause-empty g c =
+    let was = c.self.invariant.0 in
+    let idle = ap (λ (z : Node). z.hand) (sym was.seated.state) ∙ (ap (λ (z : CellState). z.part.state.hand) c.self.view_is ∙ c.requires.idle) in
+    nothing_held c.self.inside.message (was.holding ∙ ap is_some idle)

@@ -1,7 +1,7 @@
 use Rattle.std.proofs.Common.{◌≡◌, List, ℕ, false, subst, sym, arith}
 use Rattle.ipcz_rule.specs.Rule.{has_number}
-use Rattle.ipcz_cell.specs.Cells.{AreOnce, AreBelow}
-use Rattle.ipcz_cell.proofs.Onces.{fewer, below_last, once_last}
+use Rattle.ipcz_cell.specs.Cells.{AreOnce, AreBelow, IsSetOf}
+use Rattle.ipcz_cell.proofs.Onces.{fewer, below_last, once_last, set_last}
 use Rattle.ipcz_cell.proofs.node_list.NodeList.push.Goals as goal
 
 pub push_reserved-requires : goal.push_reserved-requires
@@ -24,4 +24,5 @@ invariant_of-self c =
       omega (arith, capacity, room),
       subst AreOnce (sym e) (once_last c.self.inside.nodes.items c.args.number inv.1 absent),
       subst (AreBelow 64) (sym e) (below_last 64 c.self.inside.nodes.items c.args.number inv.2 c.requires.small),
+      subst (IsSetOf c.add.new.self) (sym e) (set_last c.self.inside.set c.add.new.self c.self.inside.nodes.items c.args.number inv.3 c.add.ensures),
     )

@@ -1,25 +1,14 @@
-use Rattle.std.proofs.Common.{arith}
-use Rattle.ipcz_cell.proofs.Taking.{taken_once, taken_below, taken_without, taken_place}
+use Rattle.std.proofs.Common.{[], length, ap, refl, sym, ◌∙◌}
+use Rattle.ipcz_cell.proofs.NumberClaims.{alone}
+use Rattle.ipcz_cell.proofs.Onces.{only_one}
 use Rattle.ipcz_cell.proofs.node_list.NodeList.take.Goals as goal
 
-pub remove-requires : goal.remove-requires
-remove-requires c =
-    let inside = c.place_of-place.ensures.inside in
-    let len = c.as_slice.ensures.len in
-    omega (arith, inside, len)
+pub returns-then-as_slice-eq1-clause-without : goal.returns-then-as_slice-eq1-clause-without
+returns-then-as_slice-eq1-clause-without c =
+    let is = only_one c.args.self.now c.args.number (ap length (sym c.self.view_is ∙ sym c.as_slice.ensures.value) ∙ c.if-as_slice-eq1.true) c.requires in
+    c.clear.ensures.items ∙ sym (alone c.args.number c.args.self.now is)
 
-pub invariant_of-self : goal.invariant_of-self
-invariant_of-self c =
-    let inv = c.self.invariant in
-    let capacity = c.remove.ensures.capacity in
-    let room = inv.0 in (
-      omega (arith, capacity, room),
-      taken_once _ _ _ _ _ _ c.requires c.self.view_is c.as_slice.ensures.value c.place_of-place.ensures.place c.remove.ensures.by_index.2 inv.1,
-      taken_below _ _ _ _ _ _ c.requires c.self.view_is c.as_slice.ensures.value c.place_of-place.ensures.place c.remove.ensures.by_index.2 inv.1 inv.2,
-    )
-
-pub returns-clause-without : goal.returns-clause-without
-returns-clause-without c = taken_without _ _ _ _ _ _ c.requires c.self.view_is c.as_slice.ensures.value c.place_of-place.ensures.place c.remove.ensures.by_index.2 c.self.invariant.1
-
-pub returns-clause-place : goal.returns-clause-place
-returns-clause-place c = taken_place _ _ _ _ _ _ c.requires c.self.view_is c.as_slice.ensures.value c.place_of-place.ensures.place c.remove.ensures.by_index.2 c.self.invariant.1
+pub returns-then-as_slice-eq1-clause-place : goal.returns-then-as_slice-eq1-clause-place
+returns-then-as_slice-eq1-clause-place c =
+    let is = only_one c.args.self.now c.args.number (ap length (sym c.self.view_is ∙ sym c.as_slice.ensures.value) ∙ c.if-as_slice-eq1.true) c.requires in
+    ([], [], is, c.clear.ensures.items, refl)

@@ -20,8 +20,8 @@ loop-serial-preserved g c =
     let is = λ (first : ℕ). IsScanned cell list (c.in-Some.serial + 1) first × (first ≤ c.args.limit) × (first < c.args.limit → IsThere list first (FindsHere cell)) in
     elim c.if-has_come.branch [
       | then-has_come w ↦
-          let found = w.place_in-first.result in
-          let is_here = w.place_in-first.ensures in
+          let found = w.place_below-first.result in
+          let is_here = w.place_below-first.ensures in
           subst is (sym w.first-is) (
             scan_found cell list c.node-node.result c.loop-serial.from c.in-Some.serial c.loop-serial.first found c.in-Some.end own next so_far.0 is_here.most is_here.first,
             omega (arith, is_here.most, so_far.1),

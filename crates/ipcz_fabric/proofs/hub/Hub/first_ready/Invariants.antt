@@ -1,10 +1,10 @@
-use Rattle.std.proofs.Common.{◌-◌}
+use Rattle.std.proofs.Common.{◌-◌, length}
 use Rattle.ipcz_fabric.proofs.Scanning.{IsLooked}
 use Rattle.ipcz_fabric.proofs.hub.Hub.first_ready.Given as goal
 
 -- what the looks so far have found
-abbrev pub invariant-loop-place : goal.invariant-loop-place
-invariant-loop-place g l = IsLooked g.F.FabricName.table l.portals l.looked l.first l.place l.stopped
+abbrev pub invariant-loop-looked : goal.invariant-loop-looked
+invariant-loop-looked g l = IsLooked g.F.FabricName.table l.portals l.nodes l.first l.looked l.stopped
 
-abbrev pub decreases-loop-place : goal.decreases-loop-place
-decreases-loop-place g l = l.first - l.place
+abbrev pub decreases-loop-looked : goal.decreases-loop-looked
+decreases-loop-looked g l = length l.nodes - l.looked

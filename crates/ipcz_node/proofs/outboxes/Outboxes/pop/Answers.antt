@@ -1,8 +1,8 @@
-use Rattle.std.proofs.Common.{◌<◌, [], length, length-set, ap, sym, ◌∙◌, arith}
+use Rattle.std.proofs.Common.{◌<◌, [], length, length-set, ap, sym, ◌∙◌, arith, refl}
 use Rattle.ipcz_base.specs.Indexed.{place_at, put_place}
 use Rattle.ipcz_node.specs.Acts.{first_of, rest_of}
 use Rattle.ipcz_node.proofs.Queues.{put_map, place_map, place_set}
-use Rattle.ipcz_node.proofs.Mailing.{waiting_set, waiting_few, one_most}
+use Rattle.ipcz_node.proofs.Mailing.{mail_noted, waiting_set, waiting_few, one_most}
 use Rattle.ipcz_node.proofs.outboxes.Outboxes.pop.Goals as goal
 
 pub returns-clause-messages : goal.returns-clause-messages
@@ -50,4 +50,7 @@ invariant_of-self c =
     c.index_mut-queue.ensures.value low in (
       length-set c.self.inside.queues.items c.from.result c.pop-message.new.self ∙ c.self.invariant.0,
       omega (arith, moved, c.count.ensures, c.count-before.ensures, c.self.invariant.1),
+      mail_noted _ _ _ _ c.args.to _ c.self.invariant.2
+          (put_map (λ q. q.messages) [] (λ b. c.pop-message.new.self.messages) c.self.inside.queues.items c.from.result c.args.to c.index_mut-queue.result.now c.pop-message.new.self c.index_mut-queue.ensures.value refl
+          c.from.ensures (omega (arith, low))) c.note.ensures,
     )

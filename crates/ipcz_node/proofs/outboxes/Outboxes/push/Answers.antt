@@ -1,8 +1,8 @@
-use Rattle.std.proofs.Common.{◌<◌, ◌++◌, ◌∷◌, [], ℕ, length, length-set, ap, sym, ◌∙◌, arith, subst}
+use Rattle.std.proofs.Common.{◌<◌, ◌++◌, ◌∷◌, [], ℕ, length, length-set, ap, sym, ◌∙◌, arith, refl, subst}
 use Rattle.ipcz_base.specs.Indexed.{place_at, put_place}
 use Rattle.ipcz_node.specs.RoomyNodes.{one_with_mail}
 use Rattle.ipcz_node.proofs.Queues.{put_map, place_map}
-use Rattle.ipcz_node.proofs.Mailing.{waiting_set, waiting_few, one_pushed, one_most}
+use Rattle.ipcz_node.proofs.Mailing.{mail_noted, waiting_set, waiting_few, one_pushed, one_most}
 use Rattle.ipcz_node.proofs.outboxes.Outboxes.push.Goals as goal
 
 pub push-requires : goal.push-requires
@@ -31,4 +31,7 @@ invariant_of-self c =
     let more = ap one_with_mail c.push.ensures ∙ one_pushed box c.args.message in (
       length-set c.self.inside.queues.items c.from.result c.push.new.self ∙ c.self.invariant.0,
       omega (arith, moved, more, one_most box, c.count.ensures, c.self.invariant.1),
+      mail_noted _ _ _ _ c.args.to _ c.self.invariant.2
+          (put_map (λ q. q.messages) [] (λ b. c.push.new.self.messages) c.self.inside.queues.items c.from.result c.args.to c.index_mut-queue.result.now c.push.new.self c.index_mut-queue.ensures.value refl
+          c.from.ensures (omega (arith, low))) c.note.ensures,
     )

@@ -1,6 +1,7 @@
 use Rattle.std.proofs.Common.{◌<◌, [], ℕ, ap, sym, ◌∙◌, arith, subst, ◌≤◌, List, map, slice_set, length-set}
 use Rattle.std.specs.Prelude.{OnOk}
 use Rattle.ipcz_base.specs.Indexed.{place_at}
+use Rattle.ipcz_node.specs.NodeSets.{AreWithMail}
 use Rattle.ipcz_node.specs.RoomyNodes.{boxes_with_mail}
 use Rattle.ipcz_node.proofs.Queues.{kept_map, place_set, place_map, raised}
 use Rattle.ipcz_node.proofs.outboxes.Outboxes.reserve.Goals as goal
@@ -42,4 +43,6 @@ invariant_of-self c = (
   c.self.invariant.1 ∙
       sym (ap boxes_with_mail (kept_map (λ q. q.messages) [] c.self.inside.queues.items c.from.result c.index_mut.result.now c.reserve.new.self
       c.index_mut.ensures.value c.reserve.ensures.messages)),
+  subst (AreWithMail c.self.inside.nodes) (sym (kept_map (λ q. q.messages) [] c.self.inside.queues.items c.from.result c.index_mut.result.now c.reserve.new.self
+      c.index_mut.ensures.value c.reserve.ensures.messages)) c.self.invariant.2,
 )

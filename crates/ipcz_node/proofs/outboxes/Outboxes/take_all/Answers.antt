@@ -1,8 +1,8 @@
-use Rattle.std.proofs.Common.{◌<◌, [], length, length-set, ap, sym, ◌∙◌, arith}
+use Rattle.std.proofs.Common.{◌<◌, [], length, length-set, ap, sym, ◌∙◌, arith, refl}
 use Rattle.ipcz_base.specs.Indexed.{place_at, put_place}
 use Rattle.ipcz_node.specs.RoomyNodes.{one_with_mail}
 use Rattle.ipcz_node.proofs.Queues.{put_map, place_map}
-use Rattle.ipcz_node.proofs.Mailing.{waiting_set}
+use Rattle.ipcz_node.proofs.Mailing.{mail_noted, waiting_set}
 use Rattle.ipcz_node.proofs.outboxes.Outboxes.take_all.Goals as goal
 
 pub returns-clause-messages : goal.returns-clause-messages
@@ -33,4 +33,7 @@ invariant_of-self c =
     let none = ap one_with_mail c.take_from.ensures.outbox in (
       length-set c.self.inside.queues.items c.from.result c.take_from.new.outbox ∙ c.self.invariant.0,
       omega (arith, moved, none, c.count-before.ensures, c.self.invariant.1),
+      mail_noted _ _ _ _ c.args.to _ c.self.invariant.2
+          (put_map (λ q. q.messages) [] (λ b. c.take_from.new.outbox.messages) c.self.inside.queues.items c.from.result c.args.to c.index_mut-queue.result.now c.take_from.new.outbox c.index_mut-queue.ensures.value refl
+          c.from.ensures (omega (arith, low))) c.note.ensures,
     )
