@@ -63,7 +63,7 @@ impl<'a, R: Wait + Clock, F: FabricName> Talker for Listed<'a, R, F> {
 impl<'a, R: Wait + Clock, F: FabricName> Listed<'a, R, F> {
     // Gets at the portal where something has come.
     fn get_ready(&self) -> bool {
-        let Ok(place) = self.hub.wait_any(self.rt, &self.set, Duration::ZERO) else {
+        let Ok(place) = self.hub.wait_any(self.rt, &self.set, 0, Duration::ZERO) else {
             return false;
         };
         match self.portals.get(place) {

@@ -9,6 +9,7 @@ mod Taking
 pub mod AskedInTurn
 pub mod Books
 pub mod Chairs
+pub mod Rounds
 pub mod Scanning
 pub mod Replaying
 pub mod Standing

@@ -1,5 +1,5 @@
--- Sets of portals, as lists in which none is twice: what an add and a removal make of such a list.
-use Rattle.std.specs.Prelude.{◌≡◌, ◌≢◌, ◌<◌, ◌+◌, ◌++◌, ◌⊎◌, ℕ, List, [], ◌∷◌, length, slice_get, Some}
+-- Sets of portals, as lists in which none is twice: what an add and a removal make of such a list, and the round from a place on.
+use Rattle.std.specs.Prelude.{◌≡◌, ◌≢◌, ◌<◌, ◌+◌, ◌-◌, ◌++◌, ◌⊎◌, ℕ, List, [], ◌∷◌, length, slice_get, Some, MatchBool, drop, nat_lt, take}
 use Rattle.std.specs.Ordering.{nat_cmp, ordering_then}
 use Rattle.std.specs.declared.cmp.Ordering.{Ordering}
 use Rattle.std.specs.BTreeMap.{BTreeMap, get}
@@ -34,3 +34,11 @@ pub record AreNoted (count : ℕ) (portals : List PortalValue) (places : BTreeMa
   pub there : (k : ℕ × End) (i : ℕ) → get key_cmp places k ≡ Some i → slice_get portals i ≡ Some (portal_at k.0 k.1)
   pub noded : (i : ℕ) (p : PortalValue) → slice_get portals i ≡ Some p → (j : ℕ) × (slice_get nodes j ≡ Some p.node)
   pub inside : (j n : ℕ) → slice_get nodes j ≡ Some n → n < count
+
+-- these portals in a round that begins at a place: those from there on, and then those before it
+abbrev pub in_round : List PortalValue → ℕ → List PortalValue
+in_round portals from = drop from portals ++ take from portals
+
+-- a place, of so many, comes as the n-th in a round that begins at a place; the first one as that of number 0
+abbrev pub IsNth : ℕ → ℕ → ℕ → ℕ → Type 0
+IsNth count from place nth = MatchBool (nat_lt place from) (nth ≡ count - from + place) (nth ≡ place - from)

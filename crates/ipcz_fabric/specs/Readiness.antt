@@ -1,5 +1,5 @@
 -- At which of several portals a get finds something: a parcel, or that the peer has closed.
-use Rattle.std.specs.Prelude.{◌≡◌, ◌<◌, ℕ, Bool, true, false, List, length, slice_get, Option, Some, None}
+use Rattle.std.specs.Prelude.{◌≡◌, ◌⊎◌, ◌<◌, ◌≤◌, ℕ, Bool, true, false, List, length, slice_get, Option, Some, None, MatchBool, nat_lt}
 use Rattle.ipcz_base.specs.declared.end.End.{End}
 use Rattle.ipcz_base.specs.declared.refusal.Refusal.{Refusal}
 use Rattle.ipcz_base.specs.declared.refusal.Refusal.TheVariants.{Empty}
@@ -37,9 +37,14 @@ FindsNoneHere c p = p.node ≡ c.part.node → finds_at c.part.state p.end ≡ f
 abbrev pub Finds : TableName → Bool → PortalValue → Type 0
 Finds t found p = CellWhere t p.node (λ c. finds_at c.part.state p.end ≡ found)
 
--- the first of these portals where a get finds something is that at a place
-abbrev pub IsFirstReady : TableName → List PortalValue → ℕ → Type 0
-IsFirstReady t portals place = IsThere portals place (Finds t true) × EachBefore portals place (Finds t false)
+-- a place comes before another one in a round that begins at a place: those before that one come behind all others
+abbrev pub ComesBefore : ℕ → ℕ → ℕ → Type 0
+ComesBefore from k place = MatchBool (nat_lt place from) ((k < place) ⊎ (from ≤ k)) ((from ≤ k) × (k < place))
+
+-- the first of these portals where a get finds something, in a round that begins at a place, is that at another place
+abbrev pub IsFirstFrom : TableName → List PortalValue → ℕ → ℕ → Type 0
+IsFirstFrom t portals from place = IsThere portals place (Finds t true) ×
+    ((k : ℕ) (p : PortalValue) → ComesBefore from k place → slice_get portals k ≡ Some p → Finds t false p)
 
 -- why a wait at portals ends where a get at each finds nothing: the node of the portal at a place is stopped, or nothing has come
 abbrev pub IsWhyNone : List PortalValue → Option ℕ → Missed → Type 0

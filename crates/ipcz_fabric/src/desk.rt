@@ -1,5 +1,5 @@
 //! Desks: what lies behind a node's lock. It is the node's cell, whose history tells how its state was reached.
-ghost use Rattle.std.specs.Prelude.{◌≡◌, ◌<◌, ◌≤◌, ℕ, IfSome, Result, Ok, Err, true, MatchResult, None, Some, is_some, slice_index_or, unwrap_or, OnOk, IfOk, IfErr};
+ghost use Rattle.std.specs.Prelude.{◌≡◌, ◌<◌, ◌≤◌, ℕ, IfSome, Result, Ok, Err, true, MatchResult, None, Some, is_some, length, slice_index_or, unwrap_or, OnOk, IfOk, IfErr};
 ghost use Rattle.ipcz_node.specs.Calls.{put_refusal, put_number, get_refusal, got_at, close_refusal, next_sizes};
 ghost use Rattle.ipcz_node.specs.Arriving.{arrival_of};
 ghost use Rattle.ipcz_node.specs.Finding.{IsNextReady};
@@ -16,6 +16,7 @@ ghost use Rattle.ipcz_cell.specs.Retries.{Retries};
 ghost use Rattle.ipcz_cell.specs.TurnChains.{RunsTurns};
 ghost use Rattle.ipcz_cell.specs.TurnEnds.{Turns};
 ghost use Rattle.ipcz_fabric.specs.Places.{IsCellOf, IsRefusedInOrder};
+ghost use Rattle.ipcz_fabric.specs.PortalSets.{in_round};
 ghost use Rattle.ipcz_fabric.specs.Portals.{ends_of, has_ends, wants_list};
 ghost use Rattle.ipcz_fabric.specs.Replays.{Extends, IsNotedCell, Leaves, LeavesPart, PutsAt, entered};
 ghost use Rattle.ipcz_fabric.specs.Readiness.{EachBefore, FindsHere, FindsNoneHere, IsThere};
@@ -249,18 +250,20 @@ impl<F: FabricName> Desk<F> {
         self.cell.ready_from(serial)
     }
 
-    // The first place below a limit of a portal of the node where a get finds something; the limit if there is none.
-    pub(crate) fn first_ready(&self, portals: &PortalSet<F>, limit: usize) -> usize
+    // As the how-many-th, below a limit, the first portal of the node comes where a get finds something, in a round that begins at a place; the limit if there
+    // is none.
+    pub(crate) fn first_ready(&self, portals: &PortalSet<F>, begin: usize, limit: usize) -> usize
+        requires { begin ≤ length portals.now }
         ensures most { result ≤ limit }
-        ensures found { result < limit → IsThere portals.now result (FindsHere self.now) }
-        ensures none { EachBefore portals.now result (FindsNoneHere self.now) }
+        ensures found { result < limit → IsThere (in_round portals.now begin) result (FindsHere self.now) }
+        ensures none { EachBefore (in_round portals.now begin) result (FindsNoneHere self.now) }
     {
         let node = self.cell.node();
         let mut first = limit;
         let mut from = 0;
         while let Some((serial, end)) = self.cell.ready_from(from) {
             if self.cell.has_come(end) {
-                first = portals.place_below(first, node, end);
+                first = portals.nth_below(first, begin, node, end);
             }
             from = serial + 1;
         }

@@ -1,9 +1,9 @@
 //! Sets of portals, at which a wait is.
 ghost use Rattle.std.specs.Prelude.{◌≡◌, ◌≢◌, ◌<◌, ◌≤◌, ◌+◌, [], ℕ, true, None, Some, length, slice_get, vec_len, vec_capacity, IfOk, IfSome, MatchBool, OnErr};
-ghost use Rattle.std.specs.Prelude.{is_some, nat_eq};
+ghost use Rattle.std.specs.Prelude.{is_some, nat_eq, nat_lt, if◌then◌else◌};
 ghost use Rattle.std.specs.BTreeMap.{Updates, get};
 ghost use Rattle.ipcz_fabric.specs.Portals.{PortalValue, portal_at};
-ghost use Rattle.ipcz_fabric.specs.PortalSets.{AreOnce, IsAdded, IsRemoved, key_cmp};
+ghost use Rattle.ipcz_fabric.specs.PortalSets.{AreOnce, IsAdded, IsNth, IsRemoved, in_round, key_cmp};
 ghost use Rattle.ipcz_fabric.specs.Readiness.{EachBefore, IsThere};
 
 use crate::portal::Portal;
@@ -227,15 +227,52 @@ impl<F: FabricName> PortalSet<F> {
         self.places.get(&(node, end)).copied()
     }
 
-    // The place of the portal of an end at a node, if it is below a limit; else the limit.
-    pub(crate) fn place_below(&self, limit: usize, node: u8, end: End) -> usize
-        ensures most { result ≤ limit }
-        ensures there { result < limit → IsThere self.now result (λ p. p ≡ portal_at node end) }
-        ensures first { EachBefore self.now result (λ p. p ≢ portal_at node end) }
+    // The place at which a round begins that is to begin at this one: the first place, if there is none of that number.
+    pub(crate) fn beginning(&self, from: usize) -> usize
+        ensures { result ≡ (if nat_lt from (length self.now) then from else 0) }
     {
-        match self.place_of(node, end) {
-            Some(place) if place < limit => place,
-            _ => limit,
+        if from < self.portals.len() { from } else { 0 }
+    }
+
+    // As the how-many-th the portal of an end at a node comes in a round that begins at a place, if that is below a limit; else the limit.
+    pub(crate) fn nth_below(&self, limit: usize, from: usize, node: u8, end: End) -> usize
+        requires { from ≤ length self.now }
+        ensures most { result ≤ limit }
+        ensures there { result < limit → IsThere (in_round self.now from) result (λ p. p ≡ portal_at node end) }
+        ensures first { EachBefore (in_round self.now from) result (λ p. p ≢ portal_at node end) }
+    {
+        let Some(place) = self.place_of(node, end) else {
+            return limit;
+        };
+        let nth = nth_of(self.portals.len(), from, place);
+        if nth < limit { nth } else { limit }
+    }
+
+    // The place that comes as the n-th in a round that begins at a place.
+    pub(crate) fn place_of_nth(&self, from: usize, nth: usize) -> usize
+        requires from { from ≤ length self.now }
+        requires nth { nth < length self.now }
+        ensures inside { result < length self.now }
+        ensures nth { IsNth (length self.now) from result nth }
+    {
+        let behind = self.portals.len() - from;
+        if nth < behind {
+            from + nth
+        } else {
+            nth - behind
         }
+    }
+}
+
+// As the how-many-th a place comes, of so many, in a round that begins at a place.
+fn nth_of(count: usize, from: usize, place: usize) -> usize
+    requires from { from ≤ count }
+    requires inside { place < count }
+    ensures { IsNth count from place result }
+{
+    if place < from {
+        count - from + place
+    } else {
+        place - from
     }
 }

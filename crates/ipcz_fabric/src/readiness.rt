@@ -1,6 +1,7 @@
 //! At which of several portals something has come.
-ghost use Rattle.std.specs.Prelude.{◌≡◌, ◌<◌, ◌≤◌, true, false, None, IfOk, IfErr, IfSome};
-ghost use Rattle.ipcz_fabric.specs.Readiness.{EachBefore, Finds, IsFirstReady, IsNoneReady, IsThere};
+ghost use Rattle.std.specs.Prelude.{◌≡◌, ◌<◌, ◌≤◌, true, false, None, IfOk, IfErr, IfSome, length};
+ghost use Rattle.ipcz_fabric.specs.PortalSets.{in_round};
+ghost use Rattle.ipcz_fabric.specs.Readiness.{EachBefore, Finds, IsFirstFrom, IsNoneReady, IsThere};
 ghost use Rattle.ipcz_fabric.specs.Stopping.{IsStop};
 
 use crate::deadline::{Deadline, Patience};
@@ -53,28 +54,36 @@ pub(crate) fn sleep<R: Wait>(
 }
 
 impl<F: FabricName> Hub<F> {
-    // The first of some portals below a limit that is of a node and where a get finds something, by one look under that node's lock; the limit if there
-    // is none. And why the node is stopped, if it is.
+    // As the how-many-th, below a limit, the first portal comes that is of a node and where a get finds something, in a round that begins at a place, by one
+    // look under that node's lock; the limit if there is none. And why the node is stopped, if it is.
     fn look_at<R: Wait>(
         &self,
         rt: &R,
         node: u8,
         portals: &PortalSet<F>,
+        from: usize,
         limit: usize,
     ) -> (usize, Option<Refusal>)
         requires inside { node < F.table.count }
+        requires from { from ≤ length portals.now }
         ensures most { result.0 ≤ limit }
-        ensures found { result.0 < limit → IsThere portals.now result.0 (Finds F.table true) }
-        ensures none { EachBefore portals.now result.0 (λ p. p.node ≡ node → Finds F.table false p) }
+        ensures found { result.0 < limit → IsThere (in_round portals.now from) result.0 (Finds F.table true) }
+        ensures none { EachBefore (in_round portals.now from) result.0 (λ p. p.node ≡ node → Finds F.table false p) }
         ensures stop { IfSome result.1 IsStop }
     {
         let desk = self.lock(rt, node);
-        (desk.first_ready(portals, limit), desk.stop())
+        (desk.first_ready(portals, from, limit), desk.stop())
     }
 
-    // The first of some portals where a get finds something. Each of their nodes is looked at once.
-    fn first_ready<R: Wait>(&self, rt: &R, portals: &PortalSet<F>) -> Result<usize, NoneGot>
-        ensures ready { IfOk result (IsFirstReady F.table portals.now) }
+    // The first of some portals where a get finds something, in a round that begins at a place. Each of their nodes is looked at once.
+    fn first_ready<R: Wait>(
+        &self,
+        rt: &R,
+        portals: &PortalSet<F>,
+        from: usize,
+    ) -> Result<usize, NoneGot>
+        requires { from ≤ length portals.now }
+        ensures ready { IfOk result (IsFirstFrom F.table portals.now from) }
         ensures none { IfErr result (λ e. IsNoneReady F.table portals.now e.place e.why) }
     {
         let nodes = portals.nodes();
@@ -83,13 +92,13 @@ impl<F: FabricName> Hub<F> {
         let mut looked = 0;
         while looked < nodes.len() && first > 0 {
             let node = nodes[looked];
-            let (found, stop) = self.look_at(rt, node, portals, first);
+            let (found, stop) = self.look_at(rt, node, portals, from, first);
             first = found;
             stopped = stopped_at(stopped, node, stop);
             looked += 1;
         }
         if first < portals.len() {
-            return Ok(first);
+            return Ok(portals.place_of_nth(from, first));
         }
         Err(none_of(place_stopped(portals, stopped)))
     }
@@ -99,9 +108,11 @@ impl<F: FabricName> Hub<F> {
         &self,
         rt: &R,
         portals: &PortalSet<F>,
+        from: usize,
         patience: &P,
     ) -> Result<usize, NoneGot>
-        ensures ready { IfOk result (IsFirstReady F.table portals.now) }
+        requires { from ≤ length portals.now }
+        ensures ready { IfOk result (IsFirstFrom F.table portals.now from) }
         ensures none { IfErr result (λ e. IsNoneReady F.table portals.now e.place e.why) }
         ensures over { IfErr result (λ e. e.place ≡ None → P.over) }
     {
@@ -110,7 +121,7 @@ impl<F: FabricName> Hub<F> {
         for _try in rt.forever() {
             let left = patience.left();
             let ticket = watch(news, node);
-            let ready = self.first_ready(rt, portals);
+            let ready = self.first_ready(rt, portals, from);
             if left.is_zero() || !are_empty(&ready) {
                 return ready;
             }
@@ -123,33 +134,36 @@ impl<F: FabricName> Hub<F> {
     /// first of them where a get finds something. Nothing is taken, so that somebody else may get there first. It sleeps no longer than `limit` in all:
     /// `Duration::MAX` is without end, and `Duration::ZERO` doesn't sleep. The portals may be of several nodes, whose turns workers have to take meanwhile.
     ///
+    /// Each look begins at the place `from`, and those before it come behind the last one. Who always begins at 0 hears of the first portals first, and one
+    /// where something comes all the time keeps those behind it waiting. Who begins one behind the place that was told last gives each portal its turn.
+    /// A place behind the last counts as 0.
+    ///
     /// Each look takes the lock of each of the portals' nodes at most once, and searches what has come there; each end where something has is looked up in the
     /// set. So it costs the same in a set of one portal and in one of thousands. If all are of one node, a message that is handled there ends the sleep
     /// for one look; else one that is handled at any node does. It takes no memory, and is no call in the nodes' histories.
-    ///
-    /// The first of the set is told first, so one where something comes all the time keeps those behind it waiting. Who wants all portals to have their
-    /// turn removes each one that was served, and adds them again once a wait with `Duration::ZERO` finds nothing at the others.
     ///
     /// Refused with `place` if nothing has come at any of the portals and the last turn of the node of that one was refused, so that its workers have ended
     /// ([`Missed::Stopped`]). Without a place nothing has come in the time. So of an empty set. At a portal whose end the node's callers don't hold
     /// nothing ever comes. A clock that can't be read ends the wait.
     ///
-    /// So `hub.wait_any(rt, &set, Duration::from_secs(1))` is `Ok(1)` where the first parcel comes at the portal that was added as the second one, and a
-    /// get follows there.
+    /// So `hub.wait_any(rt, &set, 0, Duration::from_secs(1))` is `Ok(1)` where the first parcel comes at the portal that was added as the second one. A get
+    /// follows there, and then `hub.wait_any(rt, &set, 2, limit)`.
     pub fn wait_any<R: Wait + Clock>(
         &self,
         rt: &R,
         portals: &PortalSet<F>,
+        from: usize,
         limit: Duration,
     ) -> Result<usize, NoneGot>
-        ensures ready { IfOk result (IsFirstReady F.table portals.now) }
+        ensures ready { IfOk result (IsFirstFrom F.table portals.now from) }
         ensures none { IfErr result (λ e. IsNoneReady F.table portals.now e.place e.why) }
     {
-        let first = self.first_ready(rt, portals);
+        let begin = portals.beginning(from);
+        let first = self.first_ready(rt, portals, begin);
         if !are_empty(&first) {
             return first;
         }
-        self.wait_patiently(rt, portals, &Deadline::new(rt, limit))
+        self.wait_patiently(rt, portals, begin, &Deadline::new(rt, limit))
     }
 }
 

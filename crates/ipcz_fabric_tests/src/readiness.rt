@@ -23,14 +23,15 @@ fn set_of<F: FabricName>(
     Some(set)
 }
 
-// At which place something has come, or why there is nothing.
+// At which place something has come, in a round that begins at this one, or why there is nothing.
 fn told<F: FabricName, R: Wait + Clock>(
     rt: &R,
     hub: &Hub<F>,
     portals: &PortalSet<F>,
+    from: usize,
     limit: Duration,
 ) -> (Option<usize>, Option<Missed>) {
-    match hub.wait_any(rt, portals, limit) {
+    match hub.wait_any(rt, portals, from, limit) {
         Ok(place) => (Some(place), None),
         Err(none) => (none.place, Some(none.why)),
     }
@@ -49,18 +50,18 @@ fn answers<F: FabricName, R: Wait + Clock>(
     let (left, right) = both(firsts)?;
     let (near, far) = hub.open_pair(rt, 0).ok()?;
     let set = set_of(alloc, &left, &far)?;
-    let before = told(rt, &hub, &set, Duration::ZERO);
+    let before = told(rt, &hub, &set, 0, Duration::ZERO);
     if !sends(rt, &hub, alloc, &near, 0) {
         return None;
     }
-    let parcel = told(rt, &hub, &set, Duration::ZERO);
+    let parcel = told(rt, &hub, &set, 0, Duration::ZERO);
     far.get(rt, &hub).ok()?;
-    let got = told(rt, &hub, &set, Duration::ZERO);
+    let got = told(rt, &hub, &set, 0, Duration::ZERO);
     right.close(rt, &hub).ok()?;
     hub.acts(rt, 1, 100).ok()?;
     hub.acts(rt, 0, 100).ok()?;
-    let closed = told(rt, &hub, &set, Duration::ZERO);
-    let nothing = told(rt, &hub, &PortalSet::new(alloc), Duration::ZERO);
+    let closed = told(rt, &hub, &set, 0, Duration::ZERO);
+    let nothing = told(rt, &hub, &PortalSet::new(alloc), 0, Duration::ZERO);
     Some([before, parcel, got, closed, nothing])
 }
 
@@ -100,7 +101,7 @@ fn is_woken<F: FabricName + Send + Sync, R: Threads + Wait + Clock + Sync>(
             sleep(rt, Duration::from_millis(50));
             sends(rt, &hub, alloc, &near, 0)
         },
-        || told(rt, &hub, &set, long()),
+        || told(rt, &hub, &set, 0, long()),
     );
     let spent = begin.elapsed(rt).ok()?;
     Some(sent && found == (Some(1), None) && spent < long() && left.node() == 0)
@@ -140,12 +141,12 @@ fn changes<F: FabricName, R: Wait + Clock>(
     if !sends(rt, &hub, alloc, &near, 0) || left.node() != 0 {
         return None;
     }
-    let before = told(rt, &hub, &set, Duration::ZERO).0;
+    let before = told(rt, &hub, &set, 0, Duration::ZERO).0;
     let none = set.remove(2);
     let first = set.remove(0);
-    let behind = told(rt, &hub, &set, Duration::ZERO).0;
+    let behind = told(rt, &hub, &set, 0, Duration::ZERO).0;
     let last = set.remove(0);
-    let nothing = told(rt, &hub, &set, Duration::ZERO).0;
+    let nothing = told(rt, &hub, &set, 0, Duration::ZERO).0;
     Some((
         places,
         [none, first, last, set.is_empty()],
@@ -170,5 +171,49 @@ fn a_set_has_each_portal_once_and_the_last_one_takes_the_place_of_a_removed_one(
             [false, true, true, true],
             [Some(1), Some(0), None]
         ))
+    );
+}
+
+// The places that waits tell which begin at 0, 1, 2 and 3, at three portals of which the second and the third have a parcel; and those of waits that
+// begin at 0 and at 2, once the third's was got.
+fn rounds<F: FabricName, R: Wait + Clock>(
+    rt: &R,
+    alloc: Global,
+    blank: Blank,
+) -> Option<[Option<usize>; 6]>
+    requires { blank ≡ F.table }
+{
+    let (hub, firsts) = hub_of::<F>(blank)?;
+    let (left, right) = both(firsts)?;
+    let (near, far) = hub.open_pair(rt, 0).ok()?;
+    let (front, back) = hub.open_pair(rt, 0).ok()?;
+    let mut set = set_of(alloc, &left, &far)?;
+    set.add(&back).ok()?;
+    if !sends(rt, &hub, alloc, &near, 0)
+        || !sends(rt, &hub, alloc, &front, 0)
+        || right.node() != 1
+    {
+        return None;
+    }
+    let first = told(rt, &hub, &set, 0, Duration::ZERO).0;
+    let second = told(rt, &hub, &set, 1, Duration::ZERO).0;
+    let third = told(rt, &hub, &set, 2, Duration::ZERO).0;
+    let behind = told(rt, &hub, &set, 3, Duration::ZERO).0;
+    back.get(rt, &hub).ok()?;
+    let left_first = told(rt, &hub, &set, 0, Duration::ZERO).0;
+    let left_third = told(rt, &hub, &set, 2, Duration::ZERO).0;
+    Some([first, second, third, behind, left_first, left_third])
+}
+
+fn rounds_of<R: Wait + Clock>(rt: &R, alloc: Global) -> Option<[Option<usize>; 6]> {
+    let blank = start(alloc, 2, 4).ok()?;
+    rounds::<Brand, R>(rt, alloc, blank)
+}
+
+#[test]
+fn a_wait_begins_where_it_is_to_begin_and_comes_round(rt: HostRuntime) {
+    assert_eq!(rt;
+        rounds_of(&rt, rt.alloc()),
+        Some([Some(1), Some(1), Some(2), Some(1), Some(1), Some(1)])
     );
 }
