@@ -7,19 +7,18 @@ ghost use Rattle.ipcz_world.specs.Arrived.{AreOutOfRoute, arrival_in};
 ghost use Rattle.ipcz_base.specs.declared.link_end.LinkEnd.{LinkEnd};
 ghost use Rattle.ipcz_word.specs.Layout.{word_of_bits};
 ghost use Rattle.ipcz_world.specs.Asking.{can_act, hand_at, IsActed, WhyNotTaken};
-ghost use Rattle.ipcz_world.specs.Books.{Books, advance, no_books};
+ghost use Rattle.ipcz_world.specs.Books.{Books, no_books};
 ghost use Rattle.ipcz_world.specs.Carrying.{IsCarried, IsLone, IsLoneSender};
 ghost use Rattle.ipcz_world.specs.Coding.{IsTable};
 ghost use Rattle.ipcz_world.specs.HeldEnds.{grown};
 ghost use Rattle.ipcz_world.specs.Holding.{holder_of, routers_at, shown_word};
 ghost use Rattle.ipcz_world.specs.Lawful.{IsWithinLimits, Lawful};
-ghost use Rattle.ipcz_world.specs.Lawfulness.{IsLawful};
+ghost use Rattle.ipcz_world.specs.Lawfulness.{IsLawful, IsPlainReply, KeepsLawful, StaysLawful};
 ghost use Rattle.ipcz_world.specs.Listing.{ArePossible, possible_acts};
 ghost use Rattle.ipcz_world.specs.Owed.{IsWet};
 ghost use Rattle.ipcz_world.specs.Parts.{world_of_parts};
-ghost use Rattle.ipcz_world.specs.Plain.{Plain};
 ghost use Rattle.ipcz_world.specs.Retries.{AllMayAsk, LetAskTold};
-ghost use Rattle.ipcz_world.specs.Routes.{Routes, first_routes, routes_after};
+ghost use Rattle.ipcz_world.specs.Routes.{Routes, first_routes};
 ghost use Rattle.ipcz_world.specs.Steps.{GivesOrNoMemory, StepAny, StepFirst, next_sizes, put_of, put_reply, put_step};
 ghost use Rattle.ipcz_world.specs.FirstRuns.{AreSteps, KeepsLaw};
 ghost use Rattle.ipcz_world.specs.Turns.{next_at};
@@ -138,7 +137,7 @@ impl World {
     pub fn add_words(&mut self, count: u64) -> Result<(), Refusal>
         ensures more { OnOk result (self.new ≡ grown self.old count) }
         ensures none { count ≡ 0 → IsOk result }
-        ensures lawful { OnOk result ((b : Books) → (g : Routes) → Lawful self.old b g → Lawful self.new b g) }
+        ensures lawful { OnOk result (StaysLawful self.old self.new) }
         ensures err { OnErr result (self.new ≡ self.old) }
         ensures why { IfErr result (λ e. e ≡ Refusal.OutOfMemory) }
     {
@@ -159,7 +158,7 @@ impl World {
         ensures each { AllMayAsk self.old self.new }
         ensures asked { LetAskTold self.old result self.new }
         ensures wet { IsWet self.new }
-        ensures lawful { (b : Books) → (g : Routes) → Lawful self.old b g → Lawful self.new b g }
+        ensures lawful { StaysLawful self.old self.new }
     {
         self.state.retry()
     }
@@ -225,9 +224,8 @@ impl World {
     /// `Turn(0)`, where nothing waits, `Turned(Idle)`.
     pub fn step(&mut self, step: &Step) -> Reply
         ensures step { StepFirst self.old step.now result self.new }
-        ensures lawful { (b : Books) → (g : Routes) → Lawful self.old b g →
-            Lawful self.new (advance self.old b step.now result) (routes_after self.old g step.now result) }
-        ensures plain { (b : Books) → (g : Routes) → Lawful self.old b g → Plain b step.now result (advance self.old b step.now result) }
+        ensures lawful { KeepsLawful self.old step.now result self.new }
+        ensures plain { IsPlainReply self.old step.now result }
     {
         self.state.step(step)
     }
@@ -265,10 +263,8 @@ impl World {
     pub fn act(&mut self, node: u8, act: Act) -> Result<Happened, NotTaken>
         ensures acted { IfOk result (λ event. IsActed self.old node act event self.new) }
         ensures step { IfOk result (λ event. StepAny self.old (Step.Turn node) (Reply.Turned event) self.new) }
-        ensures lawful { IfOk result (λ event. (b : Books) → (g : Routes) → Lawful self.old b g →
-            Lawful self.new (advance self.old b (Step.Turn node) (Reply.Turned event)) (routes_after self.old g (Step.Turn node) (Reply.Turned event))) }
-        ensures plain { IfOk result (λ event. (b : Books) → (g : Routes) → Lawful self.old b g →
-            Plain b (Step.Turn node) (Reply.Turned event) (advance self.old b (Step.Turn node) (Reply.Turned event))) }
+        ensures lawful { IfOk result (λ event. KeepsLawful self.old (Step.Turn node) (Reply.Turned event) self.new) }
+        ensures plain { IfOk result (λ event. IsPlainReply self.old (Step.Turn node) (Reply.Turned event)) }
         ensures why { IfErr result (λ why. WhyNotTaken self.old node act why) }
         ensures err { OnErr result (self.new ≡ self.old) }
     {
@@ -308,11 +304,8 @@ impl World {
         ensures step { StepFirst self.old (Step.PutWide node at bytes ends) (put_reply result) self.new }
         ensures order { GivesOrNoMemory self.old (put_step Profile.Wide self.old node at (record { bytes = bytes; ends = ends })) (put_reply result) self.new }
         ensures back { IfErr result (λ e. (e.bytes ≡ bytes) × (e.ends ≡ ends)) }
-        ensures lawful { (b : Books) → (g : Routes) → Lawful self.old b g →
-            Lawful self.new (advance self.old b (Step.PutWide node at bytes ends) (put_reply result))
-            (routes_after self.old g (Step.PutWide node at bytes ends) (put_reply result)) }
-        ensures plain { (b : Books) → (g : Routes) → Lawful self.old b g →
-            Plain b (Step.PutWide node at bytes ends) (put_reply result) (advance self.old b (Step.PutWide node at bytes ends) (put_reply result)) }
+        ensures lawful { KeepsLawful self.old (Step.PutWide node at bytes ends) (put_reply result) self.new }
+        ensures plain { IsPlainReply self.old (Step.PutWide node at bytes ends) (put_reply result) }
     {
         self.put_as(Profile::Wide, node, at, bytes, ends)
     }
@@ -327,11 +320,8 @@ impl World {
         ensures step { StepFirst self.old (Step.Put node at bytes ends) (put_reply result) self.new }
         ensures order { GivesOrNoMemory self.old (put_step Profile.Printed self.old node at (record { bytes = bytes; ends = ends })) (put_reply result) self.new }
         ensures back { IfErr result (λ e. (e.bytes ≡ bytes) × (e.ends ≡ ends)) }
-        ensures lawful { (b : Books) → (g : Routes) → Lawful self.old b g →
-            Lawful self.new (advance self.old b (Step.Put node at bytes ends) (put_reply result))
-            (routes_after self.old g (Step.Put node at bytes ends) (put_reply result)) }
-        ensures plain { (b : Books) → (g : Routes) → Lawful self.old b g →
-            Plain b (Step.Put node at bytes ends) (put_reply result) (advance self.old b (Step.Put node at bytes ends) (put_reply result)) }
+        ensures lawful { KeepsLawful self.old (Step.Put node at bytes ends) (put_reply result) self.new }
+        ensures plain { IsPlainReply self.old (Step.Put node at bytes ends) (put_reply result) }
     {
         self.put_as(Profile::Printed, node, at, bytes, ends)
     }
@@ -357,11 +347,8 @@ impl World {
         ensures step { StepFirst self.old (put_of profile node at bytes ends) (put_reply result) self.new }
         ensures order { GivesOrNoMemory self.old (put_step profile self.old node at (record { bytes = bytes; ends = ends })) (put_reply result) self.new }
         ensures back { IfErr result (λ e. (e.bytes ≡ bytes) × (e.ends ≡ ends)) }
-        ensures lawful { (b : Books) → (g : Routes) → Lawful self.old b g →
-            Lawful self.new (advance self.old b (put_of profile node at bytes ends) (put_reply result))
-            (routes_after self.old g (put_of profile node at bytes ends) (put_reply result)) }
-        ensures plain { (b : Books) → (g : Routes) → Lawful self.old b g →
-            Plain b (put_of profile node at bytes ends) (put_reply result) (advance self.old b (put_of profile node at bytes ends) (put_reply result)) }
+        ensures lawful { KeepsLawful self.old (put_of profile node at bytes ends) (put_reply result) self.new }
+        ensures plain { IsPlainReply self.old (put_of profile node at bytes ends) (put_reply result) }
     {
         self.state.put_given(profile, node, at, bytes, ends)
     }
@@ -375,10 +362,8 @@ impl World {
     /// After `world.put_wide(0, left, bytes, ends)` and a settle, `world.get(1, right)` is `Got(0, parcel)`, if `right` is the peer of `left`.
     pub fn get(&mut self, node: u8, at: End) -> Reply
         ensures step { StepFirst self.old (Step.Get node at) result self.new }
-        ensures lawful { (b : Books) → (g : Routes) → Lawful self.old b g →
-            Lawful self.new (advance self.old b (Step.Get node at) result) (routes_after self.old g (Step.Get node at) result) }
-        ensures plain { (b : Books) → (g : Routes) → Lawful self.old b g →
-            Plain b (Step.Get node at) result (advance self.old b (Step.Get node at) result) }
+        ensures lawful { KeepsLawful self.old (Step.Get node at) result self.new }
+        ensures plain { IsPlainReply self.old (Step.Get node at) result }
     {
         self.state.get_given(node, at)
     }
