@@ -87,6 +87,19 @@ module _ (x : Node) (serial : ℕ) (link : LinkEnd) (sends : SendsNext x serial 
         ∙ put-same [] x.outboxes link.other (omega (arith, l, sends.each))) j;
   }
 
+-- code took the item of a node that sends one first: the node behind it, whose router was changed so, and what code was given
+pub record HasSent (change : Router → Router) {x : Node} {serial : ℕ} {link : LinkEnd} (sends : SendsNext x serial link) (new : Node) (number : ℕ)
+    (item : Item) : Type 0 where
+  pub behind : new ≡ with_router x serial (change (sender x serial link sends))
+  pub number_is : number ≡ (sender x serial link sends).out_queue.current
+  pub item_is : item ≡ (sent_first x serial link sends).item
+  pub low : x.next_peripheral ≤ no_number
+
+-- these make the message that the node sends
+pub told : {change : Router → Router} {x : Node} {serial : ℕ} {link : LinkEnd} {sends : SendsNext x serial link} {new : Node} {number : ℕ} {item : Item} →
+    HasSent change sends new number item → lone_message link number item ≡ sent_message x serial link sends
+told {link = link} sent = λ j. lone_message link (sent.number_is j) (sent.item_is j)
+
 module _ (w : World) (n m : ℕ) (is : IsPassing w n m) (apart : n ≡ m → ⊥) where
   abbrev at : Node → Node → Mail → World
   at x y b = pair w n m x y b
@@ -315,15 +328,13 @@ module _ (w : World) (n m : ℕ) (is : IsPassing w n m) (apart : n ≡ m → ⊥
       (walked w0 _ (done + 4) (next_node w m) after)
 
   -- and from the start to the first message in hand
-  pub first-walk : (serial : ℕ) (link : LinkEnd) (sends : SendsNext (node_at w n) serial link) → link.other ≡ m →
-      (node_at w n).next_peripheral ≤ no_number → Quiet (node_at w m) →
-      Walk w (with_hand (set_node w n (sent_node (node_at w n) serial link sends)) n m (sent_message (node_at w n) serial link sends)) 3
-      (next_node w m)
-  first-walk serial link sends to low quiet =
-      let x = sent_node (node_at w n) serial link sends in
-      let msg = sent_message (node_at w n) serial link sends in
-      subst (λ u. Walk w u 3 (next_node w m)) (sym (held-first x msg))
-      (walked w _ 3 (next_node w m) (passed-first serial link sends to low quiet (on_way-start w)))
+  pub first-walk : {serial : ℕ} {link : LinkEnd} {sends : SendsNext (node_at w n) serial link} {x : Node} {number : ℕ} {item : Item} → link.other ≡ m →
+      HasSent pop_out sends x number item → Quiet (node_at w m) →
+      Walk w (with_hand (set_node w n x) n m (lone_message link number item)) 3 (next_node w m)
+  first-walk {serial} {link} {sends} to sent quiet =
+      subst (λ u. Walk w u 3 (next_node w m))
+      (sym ((λ j. with_hand (set_node w n (sent.behind j)) n m (told sent j)) ∙ held-first (sent_node (node_at w n) serial link sends) _))
+      (walked w _ 3 (next_node w m) (passed-first serial link sends to sent.low quiet (on_way-start w)))
 
 -- a node that was written as it was
 pub rewritten : (w : World) (m : ℕ) (z : Node) → HasLengths w → m < w.count → z ≡ node_at w m → set_node w m z ≡ w
@@ -441,25 +452,26 @@ module _ (w u : World) (n m : ℕ) (over : LinkEnd) (number : ℕ) (item : Item)
       (sent_message (node_at w n) serial link sends)) (done + 4) (next_node w m)) (sym handed-world)
       (passed-walk w n m is apart serial link sends to low over number item handed_node handed-node allowed w0 done walk))
 
--- the sender as code finds it: its router, what it gives, and the node behind it
-module _ (x old new : Node) (serial : ℕ) (link : LinkEnd) (sends : SendsNext x serial link) (same : old ≡ x) where
-  pub found-here : router_in old serial ≡ Some (sender x serial link sends)
+-- such a node as code finds it
+module _ {x old : Node} {serial : ℕ} {link : LinkEnd} (sends : SendsNext x serial link) (same : old ≡ x) where
+  found-here : router_in old serial ≡ Some (sender x serial link sends)
   found-here = ap (λ k. router_in k serial) same ∙ sends.sender.here
 
   pub found-item : IsSomeAnd (router_in old serial) (λ (r : Router). is_some (current_item r.out_queue) ≡ true)
   found-item = subst (λ o. IsSomeAnd o (λ (r : Router). is_some (current_item r.out_queue) ≡ true)) (sym found-here)
       (ap is_some (sent_first x serial link sends).current)
 
-  pub found-behind : ((r : Router) → router_in old serial ≡ Some r → new ≡ with_router old serial (pop_out r)) →
-      new ≡ sent_node x serial link sends
-  found-behind is = is (sender x serial link sends) found-here ∙ ap (λ k. with_router k serial (pop_out (sender x serial link sends))) same
-
-  pub found-message : (number : ℕ) (item : Item) → ((r : Router) → router_in old serial ≡ Some r → number ≡ r.out_queue.current) →
-      ((r : Router) → router_in old serial ≡ Some r → Some item ≡ current_item r.out_queue) →
-      lone_message link number item ≡ sent_message x serial link sends
-  found-message number item is holds =
-      let both : Some item ≡ Some (sent_first x serial link sends).item =
-      holds (sender x serial link sends) found-here ∙ (sent_first x serial link sends).current in
-      let it : item ≡ (sent_first x serial link sends).item = cc in
-      ap (λ k. lone_message link k item) (is (sender x serial link sends) found-here)
-      ∙ ap (lone_message link (sender x serial link sends).out_queue.current) it
+  pub has-sent : {change : Router → Router} {new : Node} {number : ℕ} {item : Item} →
+      ((r : Router) → router_in old serial ≡ Some r → new ≡ with_router old serial (change r)) →
+      ((r : Router) → router_in old serial ≡ Some r → number ≡ r.out_queue.current) →
+      ((r : Router) → router_in old serial ≡ Some r → Some item ≡ current_item r.out_queue) → old.next_peripheral ≤ no_number →
+      HasSent change sends new number item
+  has-sent {change} {item = item} is first holds low =
+      let one = sender x serial link sends in
+      let both : Some item ≡ Some (sent_first x serial link sends).item = holds one found-here ∙ (sent_first x serial link sends).current in
+      record {
+        behind = is one found-here ∙ ap (λ k. with_router k serial (change one)) same;
+        number_is = first one found-here;
+        item_is = cc;
+        low = subst (λ (k : Node). k.next_peripheral ≤ no_number) same low;
+      }

@@ -1,6 +1,6 @@
 -- An item passes within a node: it leaves its router, is posted, looked at and handed, while no other node has an act. Between items routers rest.
 use Rattle.std.specs.Prelude.{◌≡◌, ◌≤◌, ◌<◌, ℕ, ◌+◌, Bool, true, false, cond, nat_eq, nat_lt, Option, Some, None, List, [], ◌∷◌, is_some, refl}
-use Rattle.std.proofs.Common.{arith, ap, sym, subst, ◌∙◌, inl, inr}
+use Rattle.std.proofs.Common.{arith, ap, sym, subst, subst₂, ◌∙◌, inl, inr}
 use Rattle.std.proofs.lemmas.Bool.Decides.{nat_tests}
 use Rattle.std.specs.FinMap.{get}
 use Rattle.ipcz_world.proofs.Vocabulary.{Node, World, Message, Empty, bare_node, commit, opposite, outbox, after_act, hand_message, mail_at, node_at}
@@ -8,7 +8,7 @@ use Rattle.ipcz_world.proofs.Vocabulary.{put_place, set_mail, set_node, way, Lin
 use Rattle.ipcz_world.proofs.Vocabulary.{leaves_by, act_lacks_serials, are_empty, close_turn, commit_router, first_of, has_mail_for, keep_or_drop}
 use Rattle.ipcz_world.proofs.Vocabulary.{post_of, router_turn, deliver, fits, SendsNext, node_limit, Mail, IsPassing, with_hand, next_node}
 use Rattle.ipcz_world.proofs.Vocabulary.{after_hand, after_look, after_post, full_message, is_clear, is_full, is_idle, next_at, turn_lacks_serials}
-use Rattle.ipcz_world.proofs.Vocabulary.{Walk, source_for}
+use Rattle.ipcz_world.proofs.Vocabulary.{Item, Walk, pop_out, source_for}
 use Rattle.ipcz_router.specs.declared.act.RouterAct.TheVariants as router_acts
 use Rattle.ipcz_node.specs.declared.act.Act.TheVariants as acts
 use Rattle.ipcz_node.specs.Node.{Found, router_in, with_router}
@@ -19,12 +19,14 @@ use Rattle.ipcz_node.specs.Hands.{fits_item, message_lacks_serials}
 use Rattle.ipcz_node.specs.Lone.{RestsNext}
 use Rattle.ipcz_node.proofs.LoneNodes.{first_freely, first_sent, item_unheld}
 use Rattle.ipcz_world.specs.declared.mail.Mail.TheVariants.{Full, Hand}
+use Rattle.ipcz_world.specs.Carrying.{lone_message}
 use Rattle.ipcz_world.specs.Turns.{hand_lacks_serials}
 use Rattle.ipcz_world.specs.Visiting.{IsNextBusy, IsPlace}
 use Rattle.ipcz_world.proofs.acts.Updating.{node-here, put-twice, set-twice}
 use Rattle.ipcz_world.proofs.code.GoingOn.{go-on, router-acts}
 use Rattle.ipcz_world.proofs.code.LoneWorlds.{Quiet, hand_act, look_act, own_act, post_act, quiet_idle, quiet_is, way-apart, way-from, way-within}
-use Rattle.ipcz_world.proofs.code.Passing.{box-others, box-there, mail-there, own_send, passing-taker, posted, sender, sent_first, sent_message, sent_node, waiting_node}
+use Rattle.ipcz_world.proofs.code.Passing.{HasSent, box-others, box-there, mail-there, own_send, passing-taker, posted, sender, sent_first, sent_message}
+use Rattle.ipcz_world.proofs.code.Passing.{sent_node, told, waiting_node}
 use Rattle.ipcz_world.proofs.code.Slots.{put-same}
 use Rattle.ipcz_world.proofs.code.Visiting.{OnWay, on_way-walked, walked}
 use Rattle.ipcz_world.proofs.facts.Finding.{found_tells}
@@ -318,13 +320,6 @@ module _ (w : World) (n : ℕ) (is : IsPassing w n n) where
         (subst (λ v. Walk w0 v (done + 3 + 1) (next_node w n)) (single-box z ∙ sym (same None))
         (walked w0 _ (done + 3 + 1) (next_node w n) on))
 
--- the world behind a send, as code has it
-pub sent-passing : (w : World) (n serial : ℕ) (link : LinkEnd) (x : Node) (sends : SendsNext (node_at w n) serial link) → IsPassing w n n →
-    x ≡ sent_node (node_at w n) serial link sends → link.other ≡ n → IsPassing (set_node w n x) n link.other
-sent-passing w n serial link x sends is behind to =
-    subst (λ m. IsPassing (set_node w n x) n m) (sym to)
-    (passing-taker w n n x is (ap (λ (k : Node). k.count) behind ∙ is.counts n is.here) (ap (λ (k : Node). k.hand) behind ∙ sends.hand))
-
 -- a node that hands an item to itself, as code has it
 abbrev pub IsHandedHere : World → ℕ → World → Node → ℕ → Message → Type 0
 IsHandedHere w n u x m msg = (source : Option ℕ) → u ≡ set_node (set_node w n x) m (deliver (node_at (set_node w n x) m) n msg source)
@@ -332,23 +327,45 @@ IsHandedHere w n u x m msg = (source : Option ℕ) → u ≡ set_node (set_node 
 abbrev pub IsAllowedHere : World → ℕ → Node → ℕ → Message → Type 0
 IsAllowedHere w n x m msg = (source : Option ℕ) → message_lacks_serials (node_at (set_node w n x) m) n msg source ≡ false
 
-pub taken-walk : (w u w0 : World) (n serial : ℕ) (link : LinkEnd) (x : Node) (msg : Message) (sends : SendsNext (node_at w n) serial link)
-    (done from : ℕ) → IsPassing w n n → x ≡ sent_node (node_at w n) serial link sends → msg ≡ sent_message (node_at w n) serial link sends →
-    link.other ≡ n → (node_at w n).next_peripheral ≤ no_number → IsHandedHere w n u x link.other msg → IsAllowedHere w n x link.other msg →
-    IsPlace w from → Walk w0 w done from → Walk w0 u (done + 4) (next_node w n)
-taken-walk w u w0 n serial link x msg sends done from is behind told to low handed allowed place walk =
-    here-walk w n is w0 serial link sends to low u
-    (subst (λ y. IsHandedHere w n u y n (sent_message (node_at w n) serial link sends)) behind
-    (subst (λ k. IsHandedHere w n u x n k) told (subst (λ m. IsHandedHere w n u x m msg) to handed)))
-    (subst (λ y. IsAllowedHere w n y n (sent_message (node_at w n) serial link sends)) behind
-    (subst (λ k. IsAllowedHere w n x n k) told (subst (λ m. IsAllowedHere w n x m msg) to allowed))) done from place walk
+-- so many acts of a node lead on from one world to another, and the node behind it is visited next
+pub record LeadsOn (w u : World) (n acts : ℕ) : Type 0 where
+  pub count : u.count ≡ w.count
+  pub walk : (w0 : World) (done from : ℕ) → Walk w0 w done from → IsPlace w from → Walk w0 u (done + acts) (next_node u n)
 
-pub kept-walk : (w u w0 : World) (n serial : ℕ) (link : LinkEnd) (x : Node) (msg : Message) (sends : SendsNext (node_at w n) serial link)
-    (done from : ℕ) → IsPassing w n n → x ≡ sent_node (node_at w n) serial link sends → msg ≡ sent_message (node_at w n) serial link sends →
-    link.other ≡ n → (node_at w n).next_peripheral ≤ no_number → u ≡ with_hand (set_node w n x) n link.other msg → IsPlace w from →
-    Walk w0 w done from → Walk w0 u (done + 3) (next_node w n)
-kept-walk w u w0 n serial link x msg sends done from is behind told to low left place walk =
-    subst (λ v. Walk w0 v (done + 3) (next_node w n))
-    (sym (left ∙ ap (λ m. with_hand (set_node w n x) n m msg) to ∙ ap (with_hand (set_node w n x) n n) told
-    ∙ ap (λ y. with_hand (set_node w n y) n n (sent_message (node_at w n) serial link sends)) behind))
-    (left-walk w n is w0 serial link sends to low done from place walk)
+-- code has sent an item within a node, and has the world in another form
+module _ {v w : World} (view : v ≡ w) {n serial : ℕ} {link : LinkEnd} (is : IsPassing w n n) {sends : SendsNext (node_at w n) serial link}
+    (to : link.other ≡ n) {x : Node} {number : ℕ} {item : Item} (sent : HasSent pop_out sends x number item) where
+  pub sent-passing : IsPassing (set_node v n x) n link.other
+  sent-passing =
+      let counted = ap (λ (k : Node). k.count) sent.behind ∙ is.counts n is.here in
+      let free = ap (λ (k : Node). k.hand) sent.behind ∙ sends.hand in
+      subst₂ (λ u m. IsPassing (set_node u n x) n m) (sym view) (sym to) (passing-taker w n n x is counted free)
+
+  -- then it hands the item
+  pub handed-leads : (u : World) → IsHandedHere v n u x link.other (lone_message link number item) →
+      IsAllowedHere v n x link.other (lone_message link number item) → LeadsOn w u n 4
+  unfolding set_node
+  handed-leads u handed allowed =
+      let x2 = sent_node (node_at w n) serial link sends in
+      let msg = sent_message (node_at w n) serial link sends in
+      let same : IsHandedHere w n u x2 n msg = λ source. handed source ∙ (λ j. set_node (set_node (view j) n (sent.behind j)) (to j)
+      (deliver (node_at (set_node (view j) n (sent.behind j)) (to j)) n (told sent j) source)) in
+      let lacks : IsAllowedHere w n x2 n msg = λ source.
+      sym (λ j. message_lacks_serials (node_at (set_node (view j) n (sent.behind j)) (to j)) n (told sent j) source) ∙ allowed source in
+      record {
+        count = ap (λ (z : World). z.count) (same None);
+        walk = λ w0 done from walk place. subst (Walk w0 u (done + 4)) (ap (λ z. next_node z n) (sym (same None)))
+            (here-walk w n is w0 serial link sends to sent.low u same lacks done from place walk);
+      }
+
+  -- or leaves its message in hand
+  pub left-leads : (u : World) → u ≡ with_hand (set_node v n x) n link.other (lone_message link number item) → LeadsOn w u n 3
+  unfolding set_node set_mail
+  left-leads u left =
+      let same : u ≡ with_hand (set_node w n (sent_node (node_at w n) serial link sends)) n n (sent_message (node_at w n) serial link sends) =
+      left ∙ (λ j. with_hand (set_node (view j) n (sent.behind j)) n (to j) (told sent j)) in
+      record {
+        count = ap (λ (z : World). z.count) same;
+        walk = λ w0 done from walk place. subst (λ z. Walk w0 z (done + 3) (next_node z n)) (sym same)
+            (left-walk w n is w0 serial link sends to sent.low done from place walk);
+      }

@@ -1,11 +1,10 @@
-use Rattle.std.proofs.Common.{◌≡◌, ◌∙◌, ◌≤◌, ◌+◌, None, nat_lt, if◌then◌else◌, ap, sym, subst}
-use Rattle.ipcz_world.proofs.Vocabulary.{Empty, LinkEnd, Node, World, mail_at, node_at, set_mail, set_node, way, no_number, SendsNext, IsPassing}
-use Rattle.ipcz_world.proofs.Vocabulary.{with_hand, HasLengths, Walk, the_view}
+use Rattle.std.proofs.Common.{◌≡◌, ◌∙◌, inl, inr, ap, sym, subst, refl, arith}
+use Rattle.ipcz_world.proofs.Vocabulary.{LinkEnd, World, mail_at, node_at, set_mail, set_node, SendsNext, IsPassing, with_hand, the_view}
 use Rattle.ipcz_world.specs.Carrying.{lone_message}
-use Rattle.ipcz_world.specs.Visiting.{IsPlace}
 use Rattle.ipcz_world.proofs.code.LoneFinds.{next_is}
-use Rattle.ipcz_world.proofs.code.Passing.{found-behind, found-item, found-message, handed-counts, handed-passing}
-use Rattle.ipcz_world.proofs.code.PassingWithin.{kept-walk, sent-passing, taken-walk}
+use Rattle.ipcz_world.proofs.code.LoneSenders.{lengths-kept}
+use Rattle.ipcz_world.proofs.code.Passing.{found-item, handed-passing, has-sent}
+use Rattle.ipcz_world.proofs.code.PassingWithin.{handed-leads, left-leads, sent-passing}
 use Rattle.ipcz_world.proofs.state.State.pass_at.Goals as goal
 
 pub returns-in_default-clause-begun : goal.returns-in_default-clause-begun
@@ -25,166 +24,60 @@ returns-then-link-n-clause-begun c serial link sends to =
 pub send_next-number-requires : goal.send_next-number-requires
 unfolding node_at
 send_next-number-requires c =
-    let w = the_view c.self.inside in
-    let sends = subst (λ x. SendsNext x c.in-Some.serial c.in-Some.link) c.node.ensures c.in-Some.ensures.some in
-    found-item (node_at w c.args.n) c.node_mut.result.now.node c.node_mut.result.now.node c.in-Some.serial c.in-Some.link sends
-    c.node_mut.ensures.value
+    found-item (subst (λ x. SendsNext x c.in-Some.serial c.in-Some.link) c.node.ensures c.in-Some.ensures.some) c.node_mut.ensures.value
 
 pub hand_alone-requires-clause-lengths : goal.hand_alone-requires-clause-lengths
-unfolding node_at set_node
+unfolding set_node
 hand_alone-requires-clause-lengths c =
-    let w = the_view c.self.inside in
-    let n = c.args.n in
-    let serial = c.in-Some.serial in
-    let link = c.in-Some.link in
-    let x = c.send_next-number.new.self.node in
-    let passing = subst (λ v. IsPassing v n n) (sym c.self.view_is) c.requires in
-    let sends : SendsNext (node_at w n) serial link = subst (λ x. SendsNext x serial link) c.node.ensures c.in-Some.ensures.some in
-    let behind = found-behind (node_at w n) c.node_mut.result.now.node x serial link sends c.node_mut.ensures.value c.send_next-number.ensures.node in
-    let after = sent-passing w n serial link x sends passing behind c.if-link-n.false in
-    after.lengths
+    let passing = subst (λ v. IsPassing v c.args.n c.args.n) (sym c.self.view_is) c.requires in
+    lengths-kept (the_view c.self.inside) c.args.n c.send_next-number.new.self.node passing.lengths passing.here
 
-pub returns-then-hand_alone-clause-passing : goal.returns-then-hand_alone-clause-passing
+pub returns-then-hand_alone : goal.returns-then-hand_alone
 unfolding node_at set_node
-returns-then-hand_alone-clause-passing c _ =
-    let w = the_view c.self.inside in
-    let n = c.args.n in
-    let serial = c.in-Some.serial in
-    let link = c.in-Some.link in
-    let x = c.send_next-number.new.self.node in
-    let passing = subst (λ v. IsPassing v n n) (sym c.self.view_is) c.requires in
-    let sends : SendsNext (node_at w n) serial link = subst (λ x. SendsNext x serial link) c.node.ensures c.in-Some.ensures.some in
-    let behind = found-behind (node_at w n) c.node_mut.result.now.node x serial link sends c.node_mut.ensures.value c.send_next-number.ensures.node in
-    let after = sent-passing w n serial link x sends passing behind c.if-link-n.false in
+returns-then-hand_alone c =
+    let there = ap (λ (v : World). node_at v c.args.n) c.self.view_is in
+    let sends = subst (λ x. SendsNext x c.in-Some.serial c.in-Some.link) (c.node.ensures ∙ there) c.in-Some.ensures.some in
+    let s = c.send_next-number.ensures in
+    let sent = has-sent sends (c.node_mut.ensures.value ∙ there) s.node s.number s.item s.serials in
     let taken = c.hand_alone.ensures.taken c.if-hand_alone.true in
-    subst (λ m. IsPassing c.hand_alone.new.self n m) c.if-link-n.false
-    (handed-passing (set_node w n x) c.hand_alone.new.self n link.other link c.send_next-number.result.0 c.send_next-number.result.1 after taken)
+    let after = sent-passing c.self.view_is c.requires c.if-link-n.false sent in
+    let on = handed-leads c.self.view_is c.requires c.if-link-n.false sent c.hand_alone.new.self taken (c.hand_alone.ensures.allowed c.if-hand_alone.true) in
+    record {
+      passing = λ _. subst (IsPassing c.hand_alone.new.self c.args.n) c.if-link-n.false (handed-passing _ _ _ _ c.in-Some.link _ _ after taken);
+      acts = inr (inr refl);
+      none = λ e. cc;
+      walk = λ _. on.walk;
+      count = on.count;
+      begun = λ _ _ _ _. omega arith;
+    }
 
-pub returns-then-hand_alone-clause-walk : goal.returns-then-hand_alone-clause-walk
-unfolding node_at set_node
-returns-then-hand_alone-clause-walk c _ w0 acts from walk place =
-    let w = the_view c.self.inside in
-    let n = c.args.n in
-    let serial = c.in-Some.serial in
-    let link = c.in-Some.link in
-    let x = c.send_next-number.new.self.node in
-    let passing = subst (λ v. IsPassing v n n) (sym c.self.view_is) c.requires in
-    let sends : SendsNext (node_at w n) serial link = subst (λ x. SendsNext x serial link) c.node.ensures c.in-Some.ensures.some in
-    let behind = found-behind (node_at w n) c.node_mut.result.now.node x serial link sends c.node_mut.ensures.value c.send_next-number.ensures.node in
-    let after = sent-passing w n serial link x sends passing behind c.if-link-n.false in
-    let told = found-message (node_at w n) c.node_mut.result.now.node c.node_mut.result.now.node serial link sends c.node_mut.ensures.value
-    c.send_next-number.result.0 c.send_next-number.result.1 c.send_next-number.ensures.number c.send_next-number.ensures.item in
-    let low : (node_at w n).next_peripheral ≤ no_number =
-    subst (λ (k : Node). k.next_peripheral ≤ no_number) c.node_mut.ensures.value c.send_next-number.ensures.serials in
-    let taken = c.hand_alone.ensures.taken c.if-hand_alone.true in
-    let counts : c.hand_alone.new.self.count ≡ w.count =
-    handed-counts (set_node w n x) c.hand_alone.new.self n link.other link c.send_next-number.result.0 c.send_next-number.result.1 after taken in
-    subst (λ k. Walk w0 c.hand_alone.new.self (acts + 4) k) (ap (λ c. if nat_lt (n + 1) c then n + 1 else 0) (sym counts))
-    (taken-walk w c.hand_alone.new.self w0 n serial link x (lone_message link c.send_next-number.result.0 c.send_next-number.result.1) sends acts from
-    passing behind told c.if-link-n.false low taken (c.hand_alone.ensures.allowed c.if-hand_alone.true)
-    (subst (λ v. IsPlace v from) (sym c.self.view_is) place) (subst (λ v. Walk w0 v acts from) (sym c.self.view_is) walk))
+pub leave_in_hand-requires : goal.leave_in_hand-requires
+unfolding node_at set_node mail_at
+leave_in_hand-requires c =
+    let there = ap (λ (v : World). node_at v c.args.n) c.self.view_is in
+    let sends = subst (λ x. SendsNext x c.in-Some.serial c.in-Some.link) (c.node.ensures ∙ there) c.in-Some.ensures.some in
+    let s = c.send_next-number.ensures in
+    let sent = has-sent sends (c.node_mut.ensures.value ∙ there) s.node s.number s.item s.serials in
+    let left = (c.hand_alone.ensures.left c.if-hand_alone.false).0 in
+    let after = subst (λ v. IsPassing v c.args.n c.in-Some.link.other) (sym left) (sent-passing c.self.view_is c.requires c.if-link-n.false sent) in
+    record { lengths = after.lengths; here = after.here; there = after.there; hand = after.hand; clear = after.box }
 
-pub returns-then-hand_alone-clause-count : goal.returns-then-hand_alone-clause-count
-unfolding node_at set_node
-returns-then-hand_alone-clause-count c =
-    let w = the_view c.self.inside in
-    let n = c.args.n in
-    let serial = c.in-Some.serial in
-    let link = c.in-Some.link in
-    let x = c.send_next-number.new.self.node in
-    let passing = subst (λ v. IsPassing v n n) (sym c.self.view_is) c.requires in
-    let sends : SendsNext (node_at w n) serial link = subst (λ x. SendsNext x serial link) c.node.ensures c.in-Some.ensures.some in
-    let behind = found-behind (node_at w n) c.node_mut.result.now.node x serial link sends c.node_mut.ensures.value c.send_next-number.ensures.node in
-    let after = sent-passing w n serial link x sends passing behind c.if-link-n.false in
-    let taken = c.hand_alone.ensures.taken c.if-hand_alone.true in
-    handed-counts (set_node w n x) c.hand_alone.new.self n link.other link c.send_next-number.result.0 c.send_next-number.result.1 after taken
-    ∙ ap (λ (v : World). v.count) c.self.view_is
-
-pub leave_in_hand-requires-clause-lengths : goal.leave_in_hand-requires-clause-lengths
-unfolding node_at set_node
-leave_in_hand-requires-clause-lengths c =
-    let w = the_view c.self.inside in
-    let n = c.args.n in
-    let serial = c.in-Some.serial in
-    let link = c.in-Some.link in
-    let x = c.send_next-number.new.self.node in
-    let passing = subst (λ v. IsPassing v n n) (sym c.self.view_is) c.requires in
-    let sends : SendsNext (node_at w n) serial link = subst (λ x. SendsNext x serial link) c.node.ensures c.in-Some.ensures.some in
-    let behind = found-behind (node_at w n) c.node_mut.result.now.node x serial link sends c.node_mut.ensures.value c.send_next-number.ensures.node in
-    let after = sent-passing w n serial link x sends passing behind c.if-link-n.false in
-    let left = c.hand_alone.ensures.left c.if-hand_alone.false in
-    subst HasLengths (sym left.0) after.lengths
-
-pub leave_in_hand-requires-clause-hand : goal.leave_in_hand-requires-clause-hand
-unfolding node_at set_node
-leave_in_hand-requires-clause-hand c =
-    let w = the_view c.self.inside in
-    let n = c.args.n in
-    let serial = c.in-Some.serial in
-    let link = c.in-Some.link in
-    let x = c.send_next-number.new.self.node in
-    let passing = subst (λ v. IsPassing v n n) (sym c.self.view_is) c.requires in
-    let sends : SendsNext (node_at w n) serial link = subst (λ x. SendsNext x serial link) c.node.ensures c.in-Some.ensures.some in
-    let behind = found-behind (node_at w n) c.node_mut.result.now.node x serial link sends c.node_mut.ensures.value c.send_next-number.ensures.node in
-    let after = sent-passing w n serial link x sends passing behind c.if-link-n.false in
-    let left = c.hand_alone.ensures.left c.if-hand_alone.false in
-    subst (λ v. (node_at v link.other).hand ≡ None) (sym left.0) after.hand
-
-pub leave_in_hand-requires-clause-clear : goal.leave_in_hand-requires-clause-clear
-unfolding node_at set_node
-leave_in_hand-requires-clause-clear c =
-    let w = the_view c.self.inside in
-    let n = c.args.n in
-    let serial = c.in-Some.serial in
-    let link = c.in-Some.link in
-    let x = c.send_next-number.new.self.node in
-    let passing = subst (λ v. IsPassing v n n) (sym c.self.view_is) c.requires in
-    let sends : SendsNext (node_at w n) serial link = subst (λ x. SendsNext x serial link) c.node.ensures c.in-Some.ensures.some in
-    let behind = found-behind (node_at w n) c.node_mut.result.now.node x serial link sends c.node_mut.ensures.value c.send_next-number.ensures.node in
-    let after = sent-passing w n serial link x sends passing behind c.if-link-n.false in
-    let left = c.hand_alone.ensures.left c.if-hand_alone.false in
-    subst (λ v. mail_at v (way v n link.other) ≡ Empty) (sym left.0) after.box
-
-pub returns-clause-walk : goal.returns-clause-walk
+pub returns : goal.returns
 unfolding node_at set_node set_mail
-returns-clause-walk c _ w0 acts from walk place =
-    let w = the_view c.self.inside in
-    let n = c.args.n in
-    let serial = c.in-Some.serial in
-    let link = c.in-Some.link in
-    let x = c.send_next-number.new.self.node in
-    let passing = subst (λ v. IsPassing v n n) (sym c.self.view_is) c.requires in
-    let sends : SendsNext (node_at w n) serial link = subst (λ x. SendsNext x serial link) c.node.ensures c.in-Some.ensures.some in
-    let behind = found-behind (node_at w n) c.node_mut.result.now.node x serial link sends c.node_mut.ensures.value c.send_next-number.ensures.node in
-    let after = sent-passing w n serial link x sends passing behind c.if-link-n.false in
-    let told = found-message (node_at w n) c.node_mut.result.now.node c.node_mut.result.now.node serial link sends c.node_mut.ensures.value
-    c.send_next-number.result.0 c.send_next-number.result.1 c.send_next-number.ensures.number c.send_next-number.ensures.item in
-    let low : (node_at w n).next_peripheral ≤ no_number =
-    subst (λ (k : Node). k.next_peripheral ≤ no_number) c.node_mut.ensures.value c.send_next-number.ensures.serials in
+returns c =
+    let there = ap (λ (v : World). node_at v c.args.n) c.self.view_is in
+    let sends = subst (λ x. SendsNext x c.in-Some.serial c.in-Some.link) (c.node.ensures ∙ there) c.in-Some.ensures.some in
+    let s = c.send_next-number.ensures in
+    let sent = has-sent sends (c.node_mut.ensures.value ∙ there) s.node s.number s.item s.serials in
     let left = c.hand_alone.ensures.left c.if-hand_alone.false in
-    let world : c.leave_in_hand.new.self ≡ with_hand (set_node w n x) n link.other (lone_message link c.send_next-number.result.0 c.send_next-number.result.1) =
-    c.leave_in_hand.ensures ∙ ap (λ v. with_hand v n link.other (lone_message link c.send_next-number.result.0 c.hand_alone.new.item)) left.0
-    ∙ ap (λ i. with_hand (set_node w n x) n link.other (lone_message link c.send_next-number.result.0 i)) left.1 in
-    let counts : c.leave_in_hand.new.self.count ≡ w.count = ap (λ (v : World). v.count) world in
-    subst (λ k. Walk w0 c.leave_in_hand.new.self (acts + 3) k) (ap (λ c. if nat_lt (n + 1) c then n + 1 else 0) (sym counts))
-    (kept-walk w c.leave_in_hand.new.self w0 n serial link x (lone_message link c.send_next-number.result.0 c.send_next-number.result.1) sends acts from
-    passing behind told c.if-link-n.false low world (subst (λ v. IsPlace v from) (sym c.self.view_is) place)
-    (subst (λ v. Walk w0 v acts from) (sym c.self.view_is) walk))
-
-pub returns-clause-count : goal.returns-clause-count
-unfolding node_at set_node set_mail
-returns-clause-count c =
-    let w = the_view c.self.inside in
-    let n = c.args.n in
-    let serial = c.in-Some.serial in
-    let link = c.in-Some.link in
-    let x = c.send_next-number.new.self.node in
-    let passing = subst (λ v. IsPassing v n n) (sym c.self.view_is) c.requires in
-    let sends : SendsNext (node_at w n) serial link = subst (λ x. SendsNext x serial link) c.node.ensures c.in-Some.ensures.some in
-    let behind = found-behind (node_at w n) c.node_mut.result.now.node x serial link sends c.node_mut.ensures.value c.send_next-number.ensures.node in
-    let after = sent-passing w n serial link x sends passing behind c.if-link-n.false in
-    let left = c.hand_alone.ensures.left c.if-hand_alone.false in
-    let world : c.leave_in_hand.new.self ≡ with_hand (set_node w n x) n link.other (lone_message link c.send_next-number.result.0 c.send_next-number.result.1) =
-    c.leave_in_hand.ensures ∙ ap (λ v. with_hand v n link.other (lone_message link c.send_next-number.result.0 c.hand_alone.new.item)) left.0
-    ∙ ap (λ i. with_hand (set_node w n x) n link.other (lone_message link c.send_next-number.result.0 i)) left.1 in
-    ap (λ (v : World). v.count) world ∙ ap (λ (v : World). v.count) c.self.view_is
+    let world = c.leave_in_hand.ensures ∙ (λ j. with_hand (left.0 j) c.args.n c.in-Some.link.other
+    (lone_message c.in-Some.link c.send_next-number.result.0 (left.1 j))) in
+    let on = left-leads c.self.view_is c.requires c.if-link-n.false sent c.leave_in_hand.new.self world in
+    record {
+      passing = λ e. cc;
+      acts = inr (inl refl);
+      none = λ e. cc;
+      walk = λ _. on.walk;
+      count = on.count;
+      begun = λ _ _ _ _. omega arith;
+    }

@@ -1,49 +1,37 @@
-use Rattle.std.proofs.Common.{◌≡◌, ◌∙◌, ◌≤◌, ◌+◌, nat_lt, if◌then◌else◌, ap, sym, subst, refl, arith}
-use Rattle.ipcz_world.proofs.Vocabulary.{LinkEnd, Node, World, node_at, set_mail, set_node, no_number, IsPassing, with_hand, next_node, IsRegular}
-use Rattle.ipcz_world.proofs.Vocabulary.{Walk, the_view}
+use Rattle.std.proofs.Common.{◌≡◌, ◌∙◌, ◌+◌, ap, sym, subst, subst₂, refl, arith}
+use Rattle.ipcz_world.proofs.Vocabulary.{LinkEnd, Node, World, node_at, set_mail, set_node, IsPassing, with_hand, next_node, IsRegular, Walk, the_view}
 use Rattle.ipcz_world.specs.Carrying.{IsLoneSender, lone_message}
 use Rattle.ipcz_world.proofs.code.LoneWorlds.{quiet_is}
-use Rattle.ipcz_world.proofs.code.Passing.{first-walk, found-behind, found-item, found-message, passing-alone, passing-sender, sent_message}
+use Rattle.ipcz_world.proofs.code.Passing.{first-walk, found-item, has-sent, passing-alone, passing-sender}
 use Rattle.ipcz_world.proofs.state.State.pass_over.Goals.{then-loop-acts-test+else-pass_on, else-loop-acts-test}
 use Rattle.ipcz_world.proofs.state.State.pass_over.Goals as goal
 
 pub send_next-first-requires : goal.send_next-first-requires
 unfolding node_at
 send_next-first-requires c =
-    let w = the_view c.self.inside in
     let lone = subst (λ v. IsLoneSender v c.args.n c.args.serial c.args.link) (sym c.self.view_is) c.requires.lone in
-    found-item (node_at w c.args.n) c.node_mut.result.now.node c.node_mut.result.now.node c.args.serial c.args.link lone.sends
-    c.node_mut.ensures.value
+    found-item lone.sends c.node_mut.ensures.value
 
 pub loop-acts-init : goal.loop-acts-init
 unfolding node_at set_node
 loop-acts-init c =
     let w = the_view c.self.inside in
     let n = c.args.n in
-    let serial = c.args.serial in
     let link = c.args.link in
     let x = c.send_next-first.new.self.node in
-    let lone = subst (λ v. IsLoneSender v n serial link) (sym c.self.view_is) c.requires.lone in
-    let passing = passing-alone w n serial link (subst IsRegular (sym c.self.view_is) c.requires.regular) lone in
-    let behind = found-behind (node_at w n) c.node_mut.result.now.node x serial link lone.sends c.node_mut.ensures.value
-    c.send_next-first.ensures.node in
-    let told = found-message (node_at w n) c.node_mut.result.now.node x serial link lone.sends c.node_mut.ensures.value
-    c.send_next-first.result.0 c.send_next-first.result.1 c.send_next-first.ensures.number c.send_next-first.ensures.item in
-    let low : (node_at w n).next_peripheral ≤ no_number =
-    subst (λ (k : Node). k.next_peripheral ≤ no_number) c.node_mut.ensures.value c.send_next-first.ensures.serials in
+    let lone = subst (λ v. IsLoneSender v n c.args.serial link) (sym c.self.view_is) c.requires.lone in
+    let passing = passing-alone w n c.args.serial link (subst IsRegular (sym c.self.view_is) c.requires.regular) lone in
+    let s = c.send_next-first.ensures in
+    let sent = has-sent lone.sends c.node_mut.ensures.value s.node s.number s.item s.serials in
     let quiet = quiet_is (node_at w link.other) (lone.others link.other lone.there (λ e. c.requires.apart (sym e))) in
-    let walk = first-walk w n link.other passing c.requires.apart serial link lone.sends refl low quiet in
     record {
       laps = (0, refl);
       within = omega (arith, c.requires.enough);
       to = refl;
-      passing = passing-sender w n link.other x passing c.requires.apart
-          (ap (λ (k : Node). k.count) behind ∙ passing.counts n passing.here);
+      passing = passing-sender w n link.other x passing c.requires.apart (ap (λ (k : Node). k.count) sent.behind ∙ passing.counts n passing.here);
       walk = subst (λ v. Walk v (with_hand (set_node w n x) n link.other
           (lone_message link c.send_next-first.result.0 c.send_next-first.result.1)) 3 (next_node w link.other)) c.self.view_is
-          (subst (λ k. Walk w (with_hand (set_node w n x) n link.other k) 3 (next_node w link.other)) (sym told)
-          (subst (λ y. Walk w (with_hand (set_node w n y) n link.other (sent_message (node_at w n) serial link lone.sends)) 3
-          (next_node w link.other)) (sym behind) walk));
+          (first-walk w n link.other passing c.requires.apart refl sent quiet);
     }
 
 pub overflow_sub-most : goal.overflow_sub-most
@@ -80,145 +68,46 @@ loop-acts-preserved c =
           held.walk));
     }
 
-pub leave_in_hand-requires-clause-lengths : goal.leave_in_hand-requires-clause-lengths
-leave_in_hand-requires-clause-lengths c =
-    let self_is : c.loop-acts-test.self ≡ c.loop-acts.self = elim c.loop-acts-test.branch [
-      | then-loop-acts-test+else-pass_on b ↦ b.self-is ∙ (b.pass_on.ensures.left b.if-pass_on.false).0
-      | else-loop-acts-test b ↦ b.self-is
+pub leave_in_hand-requires : goal.leave_in_hand-requires
+leave_in_hand-requires c =
+    let l = c.loop-acts in
+    let t = c.loop-acts-test in
+    let same : (t.self ≡ l.self) × (t.over ≡ l.over) = elim t.branch [
+      | then-loop-acts-test+else-pass_on b ↦ let left = b.pass_on.ensures.left b.if-pass_on.false in (b.self-is ∙ left.0, b.over-is ∙ left.1)
+      | else-loop-acts-test b ↦ (b.self-is, b.over-is)
     ] in
-    let over_is : c.loop-acts-test.over ≡ c.loop-acts.over = elim c.loop-acts-test.branch [
-      | then-loop-acts-test+else-pass_on b ↦ b.over-is ∙ (b.pass_on.ensures.left b.if-pass_on.false).1
-      | else-loop-acts-test b ↦ b.over-is
-    ] in
-    let passing : IsPassing c.loop-acts-test.self c.args.n c.loop-acts-test.over.other =
-    subst (λ v. IsPassing v c.args.n c.loop-acts-test.over.other) (sym self_is)
-    (subst (IsPassing c.loop-acts.self c.args.n) (sym (ap (λ (e : LinkEnd). e.other) over_is ∙ c.loop-acts.invariant.to)) c.loop-acts.invariant.passing) in
-    passing.lengths
-
-pub leave_in_hand-requires-clause-here : goal.leave_in_hand-requires-clause-here
-leave_in_hand-requires-clause-here c =
-    let self_is : c.loop-acts-test.self ≡ c.loop-acts.self = elim c.loop-acts-test.branch [
-      | then-loop-acts-test+else-pass_on b ↦ b.self-is ∙ (b.pass_on.ensures.left b.if-pass_on.false).0
-      | else-loop-acts-test b ↦ b.self-is
-    ] in
-    let over_is : c.loop-acts-test.over ≡ c.loop-acts.over = elim c.loop-acts-test.branch [
-      | then-loop-acts-test+else-pass_on b ↦ b.over-is ∙ (b.pass_on.ensures.left b.if-pass_on.false).1
-      | else-loop-acts-test b ↦ b.over-is
-    ] in
-    let passing : IsPassing c.loop-acts-test.self c.args.n c.loop-acts-test.over.other =
-    subst (λ v. IsPassing v c.args.n c.loop-acts-test.over.other) (sym self_is)
-    (subst (IsPassing c.loop-acts.self c.args.n) (sym (ap (λ (e : LinkEnd). e.other) over_is ∙ c.loop-acts.invariant.to)) c.loop-acts.invariant.passing) in
-    passing.here
-
-pub leave_in_hand-requires-clause-there : goal.leave_in_hand-requires-clause-there
-leave_in_hand-requires-clause-there c =
-    let self_is : c.loop-acts-test.self ≡ c.loop-acts.self = elim c.loop-acts-test.branch [
-      | then-loop-acts-test+else-pass_on b ↦ b.self-is ∙ (b.pass_on.ensures.left b.if-pass_on.false).0
-      | else-loop-acts-test b ↦ b.self-is
-    ] in
-    let over_is : c.loop-acts-test.over ≡ c.loop-acts.over = elim c.loop-acts-test.branch [
-      | then-loop-acts-test+else-pass_on b ↦ b.over-is ∙ (b.pass_on.ensures.left b.if-pass_on.false).1
-      | else-loop-acts-test b ↦ b.over-is
-    ] in
-    let passing : IsPassing c.loop-acts-test.self c.args.n c.loop-acts-test.over.other =
-    subst (λ v. IsPassing v c.args.n c.loop-acts-test.over.other) (sym self_is)
-    (subst (IsPassing c.loop-acts.self c.args.n) (sym (ap (λ (e : LinkEnd). e.other) over_is ∙ c.loop-acts.invariant.to)) c.loop-acts.invariant.passing) in
-    passing.there
-
-pub leave_in_hand-requires-clause-hand : goal.leave_in_hand-requires-clause-hand
-leave_in_hand-requires-clause-hand c =
-    let self_is : c.loop-acts-test.self ≡ c.loop-acts.self = elim c.loop-acts-test.branch [
-      | then-loop-acts-test+else-pass_on b ↦ b.self-is ∙ (b.pass_on.ensures.left b.if-pass_on.false).0
-      | else-loop-acts-test b ↦ b.self-is
-    ] in
-    let over_is : c.loop-acts-test.over ≡ c.loop-acts.over = elim c.loop-acts-test.branch [
-      | then-loop-acts-test+else-pass_on b ↦ b.over-is ∙ (b.pass_on.ensures.left b.if-pass_on.false).1
-      | else-loop-acts-test b ↦ b.over-is
-    ] in
-    let passing : IsPassing c.loop-acts-test.self c.args.n c.loop-acts-test.over.other =
-    subst (λ v. IsPassing v c.args.n c.loop-acts-test.over.other) (sym self_is)
-    (subst (IsPassing c.loop-acts.self c.args.n) (sym (ap (λ (e : LinkEnd). e.other) over_is ∙ c.loop-acts.invariant.to)) c.loop-acts.invariant.passing) in
-    passing.hand
-
-pub leave_in_hand-requires-clause-clear : goal.leave_in_hand-requires-clause-clear
-leave_in_hand-requires-clause-clear c =
-    let self_is : c.loop-acts-test.self ≡ c.loop-acts.self = elim c.loop-acts-test.branch [
-      | then-loop-acts-test+else-pass_on b ↦ b.self-is ∙ (b.pass_on.ensures.left b.if-pass_on.false).0
-      | else-loop-acts-test b ↦ b.self-is
-    ] in
-    let over_is : c.loop-acts-test.over ≡ c.loop-acts.over = elim c.loop-acts-test.branch [
-      | then-loop-acts-test+else-pass_on b ↦ b.over-is ∙ (b.pass_on.ensures.left b.if-pass_on.false).1
-      | else-loop-acts-test b ↦ b.over-is
-    ] in
-    let passing : IsPassing c.loop-acts-test.self c.args.n c.loop-acts-test.over.other =
-    subst (λ v. IsPassing v c.args.n c.loop-acts-test.over.other) (sym self_is)
-    (subst (IsPassing c.loop-acts.self c.args.n) (sym (ap (λ (e : LinkEnd). e.other) over_is ∙ c.loop-acts.invariant.to)) c.loop-acts.invariant.passing) in
-    passing.box
+    let to = ap (λ (e : LinkEnd). e.other) same.1 ∙ l.invariant.to in
+    let passing = subst₂ (λ v m. IsPassing v c.args.n m) (sym same.0) (sym to) l.invariant.passing in
+    record { lengths = passing.lengths; here = passing.here; there = passing.there; hand = passing.hand; clear = passing.box }
 
 pub next_node-requires : goal.next_node-requires
 unfolding set_node set_mail
 next_node-requires c =
-    let self_is : c.loop-acts-test.self ≡ c.loop-acts.self = elim c.loop-acts-test.branch [
+    let same : c.loop-acts-test.self ≡ c.loop-acts.self = elim c.loop-acts-test.branch [
       | then-loop-acts-test+else-pass_on b ↦ b.self-is ∙ (b.pass_on.ensures.left b.if-pass_on.false).0
       | else-loop-acts-test b ↦ b.self-is
     ] in
-    let over_is : c.loop-acts-test.over ≡ c.loop-acts.over = elim c.loop-acts-test.branch [
-      | then-loop-acts-test+else-pass_on b ↦ b.over-is ∙ (b.pass_on.ensures.left b.if-pass_on.false).1
-      | else-loop-acts-test b ↦ b.over-is
-    ] in
-    let number_is : c.loop-acts-test.number ≡ c.loop-acts.number = elim c.loop-acts-test.branch [
-      | then-loop-acts-test+else-pass_on b ↦ b.number-is ∙ (b.pass_on.ensures.left b.if-pass_on.false).2
-      | else-loop-acts-test b ↦ b.number-is
-    ] in
-    let item_is : c.loop-acts-test.item ≡ c.loop-acts.item = elim c.loop-acts-test.branch [
-      | then-loop-acts-test+else-pass_on b ↦ b.item-is ∙ (b.pass_on.ensures.left b.if-pass_on.false).3
-      | else-loop-acts-test b ↦ b.item-is
-    ] in
-    let to = ap (λ (e : LinkEnd). e.other) over_is ∙ c.loop-acts.invariant.to in
-    let world : c.leave_in_hand.new.self ≡ with_hand c.loop-acts.self c.args.n c.args.link.other
-    (lone_message c.loop-acts.over c.loop-acts.number c.loop-acts.item) =
-    c.leave_in_hand.ensures
-    ∙ ap (λ m. with_hand c.loop-acts-test.self c.args.n m (lone_message c.loop-acts-test.over c.loop-acts-test.number c.loop-acts-test.item)) to
-    ∙ ap (λ v. with_hand v c.args.n c.args.link.other (lone_message c.loop-acts-test.over c.loop-acts-test.number c.loop-acts-test.item)) self_is
-    ∙ ap (λ e. with_hand c.loop-acts.self c.args.n c.args.link.other (lone_message e c.loop-acts-test.number c.loop-acts-test.item)) over_is
-    ∙ ap (λ k. with_hand c.loop-acts.self c.args.n c.args.link.other (lone_message c.loop-acts.over k c.loop-acts-test.item)) number_is
-    ∙ ap (λ i. with_hand c.loop-acts.self c.args.n c.args.link.other (lone_message c.loop-acts.over c.loop-acts.number i)) item_is in
-    let counts : c.leave_in_hand.new.self.count ≡ c.loop-acts.self.count = ap (λ (v : World). v.count) world in
-    record { node = omega (arith, c.loop-acts.invariant.passing.there, counts) }
+    let held = ap (λ (v : World). v.count) c.leave_in_hand.ensures in
+    let kept = ap (λ (v : World). v.count) same in
+    record { node = omega (arith, c.loop-acts.invariant.passing.there, held, kept) }
 
 pub returns-clause-walk : goal.returns-clause-walk
 unfolding set_node set_mail
 returns-clause-walk c =
-    let self_is : c.loop-acts-test.self ≡ c.loop-acts.self = elim c.loop-acts-test.branch [
-      | then-loop-acts-test+else-pass_on b ↦ b.self-is ∙ (b.pass_on.ensures.left b.if-pass_on.false).0
-      | else-loop-acts-test b ↦ b.self-is
+    let l = c.loop-acts in
+    let t = c.loop-acts-test in
+    let n = c.args.n in
+    let same : (t.self ≡ l.self) × (t.over ≡ l.over) × (t.number ≡ l.number) × (t.item ≡ l.item) = elim t.branch [
+      | then-loop-acts-test+else-pass_on b ↦
+          let left = b.pass_on.ensures.left b.if-pass_on.false in
+          (b.self-is ∙ left.0, b.over-is ∙ left.1, b.number-is ∙ left.2, b.item-is ∙ left.3)
+      | else-loop-acts-test b ↦ (b.self-is, b.over-is, b.number-is, b.item-is)
     ] in
-    let over_is : c.loop-acts-test.over ≡ c.loop-acts.over = elim c.loop-acts-test.branch [
-      | then-loop-acts-test+else-pass_on b ↦ b.over-is ∙ (b.pass_on.ensures.left b.if-pass_on.false).1
-      | else-loop-acts-test b ↦ b.over-is
-    ] in
-    let number_is : c.loop-acts-test.number ≡ c.loop-acts.number = elim c.loop-acts-test.branch [
-      | then-loop-acts-test+else-pass_on b ↦ b.number-is ∙ (b.pass_on.ensures.left b.if-pass_on.false).2
-      | else-loop-acts-test b ↦ b.number-is
-    ] in
-    let item_is : c.loop-acts-test.item ≡ c.loop-acts.item = elim c.loop-acts-test.branch [
-      | then-loop-acts-test+else-pass_on b ↦ b.item-is ∙ (b.pass_on.ensures.left b.if-pass_on.false).3
-      | else-loop-acts-test b ↦ b.item-is
-    ] in
-    let to = ap (λ (e : LinkEnd). e.other) over_is ∙ c.loop-acts.invariant.to in
-    let world : c.leave_in_hand.new.self ≡ with_hand c.loop-acts.self c.args.n c.args.link.other
-    (lone_message c.loop-acts.over c.loop-acts.number c.loop-acts.item) =
-    c.leave_in_hand.ensures
-    ∙ ap (λ m. with_hand c.loop-acts-test.self c.args.n m (lone_message c.loop-acts-test.over c.loop-acts-test.number c.loop-acts-test.item)) to
-    ∙ ap (λ v. with_hand v c.args.n c.args.link.other (lone_message c.loop-acts-test.over c.loop-acts-test.number c.loop-acts-test.item)) self_is
-    ∙ ap (λ e. with_hand c.loop-acts.self c.args.n c.args.link.other (lone_message e c.loop-acts-test.number c.loop-acts-test.item)) over_is
-    ∙ ap (λ k. with_hand c.loop-acts.self c.args.n c.args.link.other (lone_message c.loop-acts.over k c.loop-acts-test.item)) number_is
-    ∙ ap (λ i. with_hand c.loop-acts.self c.args.n c.args.link.other (lone_message c.loop-acts.over c.loop-acts.number i)) item_is in
-    let counts : c.leave_in_hand.new.self.count ≡ c.loop-acts.self.count = ap (λ (v : World). v.count) world in
-    let next : c.next_node.result ≡ next_node c.loop-acts.self c.args.link.other =
-    c.next_node.ensures ∙ ap (λ k. if nat_lt (c.args.link.other + 1) k then c.args.link.other + 1 else 0) counts in
-    subst (λ k. Walk c.args.self.now c.leave_in_hand.new.self c.loop-acts.acts k) (sym next)
-    (subst (λ v. Walk c.args.self.now v c.loop-acts.acts (next_node c.loop-acts.self c.args.link.other)) (sym world) c.loop-acts.invariant.walk)
+    let world : c.leave_in_hand.new.self ≡ with_hand l.self n c.args.link.other (lone_message l.over l.number l.item) =
+    c.leave_in_hand.ensures ∙ (λ j. with_hand (same.0 j) n (same.1 j).other (lone_message (same.1 j) (same.2 j) (same.3 j)))
+    ∙ ap (λ m. with_hand l.self n m (lone_message l.over l.number l.item)) l.invariant.to in
+    let next = c.next_node.ensures ∙ ap (λ v. next_node v c.args.link.other) world in
+    subst₂ (λ v k. Walk c.args.self.now v l.acts k) (sym world) (sym next) l.invariant.walk
 
 pub returns-clause-within : goal.returns-clause-within
 returns-clause-within c =
