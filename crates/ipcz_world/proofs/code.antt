@@ -1,3 +1,4 @@
+pub mod Arriving
 pub mod Asked
 pub mod Beginning
 pub mod Calling
@@ -10,7 +11,6 @@ pub mod Kept
 pub mod Listed
 pub mod Listing
 pub mod LoneFinds
-pub mod LoneSenders
 pub mod LoneWorlds
 pub mod Marks
 pub mod Passing
@@ -30,4 +30,5 @@ pub mod Visiting
 pub mod WordNumbers
 pub mod WordSources
 pub mod Wordless
+pub mod Writes
 pub mod Retrying

@@ -26,11 +26,11 @@ use Rattle.ipcz_world.proofs.code.GoingOn.{first-busy, go-on, next-busy, router-
 use Rattle.ipcz_world.proofs.code.LoneWorlds.{Quiet, hand_act, look_act, own_act, post_act, put-apart, quiet_idle, quiet_is, pair, pair-start}
 use Rattle.ipcz_world.proofs.code.LoneWorlds.{box-here, node-other, node-sender, node-taker, none-elsewhere, none-from, none-to}
 use Rattle.ipcz_world.proofs.code.LoneWorlds.{write-box, write-sender, write-taker}
-use Rattle.ipcz_world.proofs.code.LoneSenders.{lengths-kept}
 use Rattle.ipcz_world.proofs.frames.Frames.{node-set_node}
 use Rattle.ipcz_world.proofs.acts.Updating.{node-here, put-twice}
 use Rattle.ipcz_world.proofs.code.Slots.{put-same}
 use Rattle.ipcz_world.proofs.code.Visiting.{OnWay, next-place, on_way-start, on_way-walked, walked}
+use Rattle.ipcz_world.proofs.code.Writes.{lengths-kept}
 
 -- a node that sends an item first, over one link
 module _ (x : Node) (serial : ℕ) (link : LinkEnd) (sends : SendsNext x serial link) where

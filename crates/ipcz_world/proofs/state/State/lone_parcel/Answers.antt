@@ -1,97 +1,39 @@
-use Rattle.std.proofs.Common.{◌≡◌, ◌∙◌, ◌<◌, ◌≤◌, ◌+◌, ℕ, Bool, true, false, true≢false, nat_lt, ap, sym, subst, refl, arith}
-use Rattle.std.proofs.lemmas.Bool.Decides.{nat_tests}
-use Rattle.ipcz_world.proofs.Vocabulary.{LinkEnd, World, Empty, mail_at, node_at, place_at, way, is_quiet, Mail, is_clear, is_full, IsLone}
-use Rattle.ipcz_node.specs.Lone.{SendsOnly}
-use Rattle.ipcz_world.specs.declared.mail.Mail.TheVariants.{Full, Hand}
-use Rattle.ipcz_world.specs.Carrying.{AreQuiet}
-use Rattle.ipcz_world.proofs.code.LoneFinds.{busy_is, link_is, lone_alone}
+use Rattle.std.proofs.Common.{◌∙◌, sym}
+use Rattle.ipcz_world.proofs.Vocabulary.{mail_at, node_at}
+use Rattle.ipcz_world.proofs.code.LoneFinds.{alone, found-lone, none-beyond, none-full, none-held, only_one, sends-there}
 use Rattle.ipcz_world.proofs.state.State.lone_parcel.Goals.{then-link-self-via-then-link-self, then-link-self-via-else-link-self+then-not-is_clear}
 use Rattle.ipcz_world.proofs.state.State.lone_parcel.Goals as goal
-
-empty_is : (b : Mail) → is_clear b ≡ true → b ≡ Empty
-unfolding is_clear
-empty_is Empty h = refl
-empty_is (Full m) h = cc
-empty_is (Hand m) h = cc
-
-others : (w : World) (n k : ℕ) → AreQuiet w 0 n → AreQuiet w (n + 1) w.count → k < w.count → (k ≡ n → ⊥) → is_quiet (node_at w k) ≡ true
-others w n k before behind l ne = go (nat_lt k n) refl
-  where
-    go : (b : Bool) → nat_lt k n ≡ b → is_quiet (node_at w k) ≡ true
-    go true e = before k (omega arith) (grind (arith, e, nat_tests))
-    go false e = behind k (grind (arith, e, ne, nat_tests)) l
 
 pub returns-clause-some : goal.returns-clause-some
 unfolding node_at mail_at
 returns-clause-some c =
-    let w = c.args.self.now in
-    let n = c.in-Some.n in
-    let serial = c.in-Some-only_sender.serial in
-    let link = c.in-Some-only_sender.link in
-    let clear : is_clear (place_at Empty c.self.inside.mail c.way.result) ≡ true = sym c.is_clear.ensures ∙ c.if-not-is_clear.false in
-    let there : is_clear (place_at Empty c.self.inside.mail (way w n link.other)) ≡ true =
-    subst (λ k. is_clear (place_at Empty c.self.inside.mail k) ≡ true) c.way.ensures.way clear in
-    record {
-      mail = subst (λ (u : World). (k : ℕ) → is_full (mail_at u k) ≡ false) c.self.view_is (c.has_full.ensures.none c.if-has_full.false);
-      here = c.in-Some.ensures.here;
-      there = subst (λ (u : World). link.other < u.count) c.self.view_is c.if-link-self.false;
-      others = λ k l ne. others w n k c.in-Some.ensures.before c.in-Some.ensures.behind l ne;
-      box = empty_is (mail_at w (way w n link.other))
-          (subst (λ (u : World). is_clear (mail_at u (way w n link.other)) ≡ true) c.self.view_is there);
-      sends = subst (λ x. SendsOnly x serial link) (c.node.ensures ∙ ap (λ (u : World). node_at u n) c.self.view_is)
-          c.in-Some-only_sender.ensures.some;
-    }
+    let at = c.in-Some.ensures in
+    found-lone c.self.view_is (c.has_full.ensures.none c.if-has_full.false) at.here at.before at.behind c.node.ensures
+    c.in-Some-only_sender.ensures.some c.if-link-self.false c.way.ensures.way (sym c.is_clear.ensures ∙ c.if-not-is_clear.false)
 
 pub returns-then-has_full-clause-none : goal.returns-then-has_full-clause-none
 unfolding mail_at
 returns-then-has_full-clause-none c n serial link lone =
-    let t = c.has_full.ensures.some c.if-has_full.true in
-    let full : is_full (mail_at c.args.self.now t.0) ≡ true =
-    subst (λ (u : World). is_full (mail_at u t.0) ≡ true) c.self.view_is t.1 in
-    true≢false (sym full ∙ lone.mail t.0)
+    none-full c.self.view_is (c.has_full.ensures.some c.if-has_full.true) lone
 
 pub returns-in_default-clause-none : goal.returns-in_default-clause-none
 returns-in_default-clause-none c n serial link lone =
-    c.in_default.ensures.none n (lone_alone c.args.self.now n serial link lone)
-
--- the only node that isn't quiet is the one that was found
-sends_there : (w : World) (n serial : ℕ) (link : LinkEnd) (k : ℕ) → IsLone w n serial link → k < w.count →
-    is_quiet (node_at w k) ≡ false → SendsOnly (node_at w k) serial link
-sends_there w n serial link k lone l busy =
-    subst (λ i. SendsOnly (node_at w i) serial link) (busy_is w n k (lone_alone w n serial link lone) l busy) lone.sends
+    c.in_default.ensures.none n (alone lone)
 
 pub returns-in_default-only_sender-clause-none : goal.returns-in_default-only_sender-clause-none
 unfolding node_at
 returns-in_default-only_sender-clause-none c n serial link lone =
-    let w = c.args.self.now in
-    let k = c.in-Some.n in
-    c.in_default-only_sender.ensures.none serial link
-    (subst (λ x. SendsOnly x serial link) (sym (c.node.ensures ∙ ap (λ (u : World). node_at u k) c.self.view_is))
-    (sends_there w n serial link k lone c.in-Some.ensures.here c.in-Some.ensures.busy))
+    let at = c.in-Some.ensures in
+    c.in_default-only_sender.ensures.none serial link (sends-there c.self.view_is lone at.here at.busy c.node.ensures)
 
 pub returns-then-link-self-clause-none : goal.returns-then-link-self-clause-none
-unfolding node_at mail_at is_clear
+unfolding node_at mail_at
 returns-then-link-self-clause-none c n serial link lone =
-    let w = c.args.self.now in
-    let k = c.in-Some.n in
-    let found = c.in-Some-only_sender.link in
-    let here : n ≡ k = busy_is w n k (lone_alone w n serial link lone) c.in-Some.ensures.here c.in-Some.ensures.busy in
-    let sends = subst (λ x. SendsOnly x c.in-Some-only_sender.serial found) (c.node.ensures ∙ ap (λ (u : World). node_at u k) c.self.view_is)
-    c.in-Some-only_sender.ensures.some in
-    let same : link ≡ found = link_is (node_at w k) serial c.in-Some-only_sender.serial link found
-    (sends_there w n serial link k lone c.in-Some.ensures.here c.in-Some.ensures.busy) sends in
-    let there : found.other < w.count = subst (λ (e : LinkEnd). e.other < w.count) same lone.there in
-    let box : mail_at w (way w k found.other) ≡ Empty = subst (λ (e : LinkEnd). mail_at w (way w k e.other) ≡ Empty) same
-    (subst (λ i. mail_at w (way w i link.other) ≡ Empty) here lone.box) in
+    let at = c.in-Some.ensures in
     elim c.then-link-self.branch [
       | then-link-self-via-then-link-self b ↦
-          let beyond : w.count ≤ found.other = subst (λ (u : World). u.count ≤ found.other) c.self.view_is b.if-link-self.true in
-          omega (arith, there, beyond)
+          none-beyond c.self.view_is lone at.here at.busy c.node.ensures only_one c.in-Some-only_sender.ensures.some b.if-link-self.true
       | then-link-self-via-else-link-self+then-not-is_clear b ↦
-          let held : is_clear (place_at Empty c.self.inside.mail b.way.result) ≡ false = sym b.is_clear.ensures ∙ b.if-not-is_clear.true in
-          let told : is_clear (place_at Empty c.self.inside.mail (way w k found.other)) ≡ false =
-          subst (λ i. is_clear (place_at Empty c.self.inside.mail i) ≡ false) b.way.ensures.way held in
-          let at : is_clear (mail_at w (way w k found.other)) ≡ false =
-          subst (λ (u : World). is_clear (mail_at u (way w k found.other)) ≡ false) c.self.view_is told in
-          true≢false (sym (ap is_clear box) ∙ at)
+          none-held c.self.view_is lone at.here at.busy c.node.ensures only_one c.in-Some-only_sender.ensures.some b.way.ensures.way
+          (sym b.is_clear.ensures ∙ b.if-not-is_clear.true)
     ]

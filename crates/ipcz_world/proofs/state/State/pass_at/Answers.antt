@@ -1,10 +1,10 @@
-use Rattle.std.proofs.Common.{◌≡◌, ◌∙◌, inl, inr, ap, sym, subst, refl, arith}
+use Rattle.std.proofs.Common.{◌∙◌, inl, inr, ap, sym, subst, refl, arith}
 use Rattle.ipcz_world.proofs.Vocabulary.{LinkEnd, World, mail_at, node_at, set_mail, set_node, SendsNext, IsPassing, with_hand, the_view}
 use Rattle.ipcz_world.specs.Carrying.{lone_message}
-use Rattle.ipcz_world.proofs.code.LoneFinds.{next_is}
-use Rattle.ipcz_world.proofs.code.LoneSenders.{lengths-kept}
+use Rattle.ipcz_world.proofs.code.LoneFinds.{link_is, lowest}
 use Rattle.ipcz_world.proofs.code.Passing.{found-item, handed-passing, has-sent}
 use Rattle.ipcz_world.proofs.code.PassingWithin.{handed-leads, left-leads, sent-passing}
+use Rattle.ipcz_world.proofs.code.Writes.{lengths-kept}
 use Rattle.ipcz_world.proofs.state.State.pass_at.Goals as goal
 
 pub returns-in_default-clause-begun : goal.returns-in_default-clause-begun
@@ -18,7 +18,7 @@ unfolding node_at
 returns-then-link-n-clause-begun c serial link sends to =
     let found = subst (λ x. SendsNext x c.in-Some.serial c.in-Some.link) (c.node.ensures ∙ ap (λ (v : World). node_at v c.args.n) c.self.view_is)
     c.in-Some.ensures.some in
-    let same : link ≡ c.in-Some.link = next_is (node_at c.args.self.now c.args.n) serial c.in-Some.serial link c.in-Some.link sends found in
+    let same = link_is lowest sends found in
     absurd (c.if-link-n.true (sym (to ∙ ap (λ (e : LinkEnd). e.other) same)))
 
 pub send_next-number-requires : goal.send_next-number-requires
