@@ -336,12 +336,14 @@ module _ (w : World) (n m : ℕ) (is : IsPassing w n m) (apart : n ≡ m → ⊥
       (sym ((λ j. with_hand (set_node w n (sent.behind j)) n m (told sent j)) ∙ held-first (sent_node (node_at w n) serial link sends) _))
       (walked w _ 3 (next_node w m) (passed-first serial link sends to sent.low quiet (on_way-start w)))
 
--- a node that was written as it was
-pub rewritten : (w : World) (m : ℕ) (z : Node) → HasLengths w → m < w.count → z ≡ node_at w m → set_node w m z ≡ w
+-- a node that code wrote as it was
+pub rewritten : {v w : World} → v ≡ w → (m : ℕ) (z : Node) → HasLengths w → m < w.count → z ≡ node_at v m → set_node v m z ≡ w
 unfolding set_node node_at
-rewritten w m z has l same = λ j. record w {
-  nodes = (ap (put_place (bare_node 0 0) w.nodes m) same ∙ put-same (bare_node 0 0) w.nodes m (omega (arith, l, has.nodes))) j;
-}
+rewritten {w = w} view m z has l same =
+    let there = same ∙ ap (λ (u : World). node_at u m) view in
+    ap (λ (u : World). set_node u m z) view ∙ (λ j. record w {
+      nodes = (ap (put_place (bare_node 0 0) w.nodes m) there ∙ put-same (bare_node 0 0) w.nodes m (omega (arith, l, has.nodes))) j;
+    })
 
 -- the sender is as it was behind a change of the taker
 pub behind-taker : (w : World) (n m : ℕ) (z : Node) → (n ≡ m → ⊥) → node_at (set_node w m z) n ≡ node_at w n
@@ -349,50 +351,32 @@ behind-taker w n m z apart =
     let other : nat_eq n m ≡ false = grind (arith, apart, nat_tests) in
     node-set_node w m z n ∙ ap (λ c. cond c z (node_at w n)) other
 
--- items may pass on behind a change of the sender, and of the taker
-pub passing-sender : (w : World) (n m : ℕ) (x : Node) → IsPassing w n m → (n ≡ m → ⊥) → x.count ≡ w.count → IsPassing (set_node w n x) n m
+-- items may pass on behind a change of one of the two nodes, if the taker's hand is free then
+passing-behind : (w : World) (n m p : ℕ) (x : Node) → IsPassing w n m → p < w.count → ((k : ℕ) → (k ≡ n → ⊥) → (k ≡ m → ⊥) → k ≡ p → ⊥) →
+    x.count ≡ w.count → (node_at (set_node w p x) m).hand ≡ None → IsPassing (set_node w p x) n m
 unfolding set_node mail_at
-passing-sender w n m x is apart counted = record {
-  lengths = lengths-kept w n x is.lengths is.here;
-  counts = λ k l. go k l (nat_eq k n) refl;
+passing-behind w n m p x is here neither counted free = record {
+  lengths = lengths-kept w p x is.lengths here;
+  counts = λ k l. go k l (nat_eq k p) refl;
   mail = is.mail;
   here = is.here;
   there = is.there;
-  others = λ k l kn km. subst (λ z. is_quiet z ≡ true) (sym (elsewhere k kn)) (is.others k l kn km);
+  others = λ k l kn km. subst (λ z. is_quiet z ≡ true) (sym (behind-taker w k p x (neither k kn km))) (is.others k l kn km);
   box = is.box;
-  hand = ap (λ (z : Node). z.hand) (elsewhere m (λ e. apart (sym e))) ∙ is.hand;
+  hand = free;
 }
   where
-    elsewhere : (k : ℕ) → (k ≡ n → ⊥) → node_at (set_node w n x) k ≡ node_at w k
-    elsewhere k ne =
-        let other : nat_eq k n ≡ false = grind (arith, ne, nat_tests) in
-        node-set_node w n x k ∙ ap (λ c. cond c x (node_at w k)) other
+    go : (k : ℕ) → k < w.count → (c : Bool) → nat_eq k p ≡ c → (node_at (set_node w p x) k).count ≡ w.count
+    go k l true e = ap (λ (z : Node). z.count) (node-set_node w p x k ∙ ap (λ c. cond c x (node_at w k)) e) ∙ counted
+    go k l false e = ap (λ (z : Node). z.count) (node-set_node w p x k ∙ ap (λ c. cond c x (node_at w k)) e) ∙ is.counts k l
 
-    go : (k : ℕ) → k < w.count → (c : Bool) → nat_eq k n ≡ c → (node_at (set_node w n x) k).count ≡ w.count
-    go k l true e = ap (λ (z : Node). z.count) (node-set_node w n x k ∙ ap (λ c. cond c x (node_at w k)) e) ∙ counted
-    go k l false e = ap (λ (z : Node). z.count) (node-set_node w n x k ∙ ap (λ c. cond c x (node_at w k)) e) ∙ is.counts k l
+pub passing-sender : (w : World) (n m : ℕ) (x : Node) → IsPassing w n m → (n ≡ m → ⊥) → x.count ≡ w.count → IsPassing (set_node w n x) n m
+passing-sender w n m x is apart counted =
+    passing-behind w n m n x is is.here (λ k kn _. kn) counted (ap (λ (z : Node). z.hand) (behind-taker w m n x (λ e. apart (sym e))) ∙ is.hand)
 
 pub passing-taker : (w : World) (n m : ℕ) (z : Node) → IsPassing w n m → z.count ≡ w.count → z.hand ≡ None → IsPassing (set_node w m z) n m
-unfolding set_node mail_at
-passing-taker w n m z is counted free = record {
-  lengths = lengths-kept w m z is.lengths is.there;
-  counts = λ k l. go k l (nat_eq k m) refl;
-  mail = is.mail;
-  here = is.here;
-  there = is.there;
-  others = λ k l kn km. subst (λ z. is_quiet z ≡ true) (sym (elsewhere k km)) (is.others k l kn km);
-  box = is.box;
-  hand = ap (λ (z : Node). z.hand) (node-here w m z) ∙ free;
-}
-  where
-    elsewhere : (k : ℕ) → (k ≡ m → ⊥) → node_at (set_node w m z) k ≡ node_at w k
-    elsewhere k ne =
-        let other : nat_eq k m ≡ false = grind (arith, ne, nat_tests) in
-        node-set_node w m z k ∙ ap (λ c. cond c z (node_at w k)) other
-
-    go : (k : ℕ) → k < w.count → (c : Bool) → nat_eq k m ≡ c → (node_at (set_node w m z) k).count ≡ w.count
-    go k l true e = ap (λ (y : Node). y.count) (node-set_node w m z k ∙ ap (λ c. cond c z (node_at w k)) e) ∙ counted
-    go k l false e = ap (λ (y : Node). y.count) (node-set_node w m z k ∙ ap (λ c. cond c z (node_at w k)) e) ∙ is.counts k l
+passing-taker w n m z is counted free =
+    passing-behind w n m m z is is.there (λ k _ km. km) counted (ap (λ (y : Node). y.hand) (node-here w m z) ∙ free)
 
 -- they may where a node has to send one, and nothing else is to be done
 pub passing-alone : (w : World) (n serial : ℕ) (link : LinkEnd) → IsRegular w → IsLoneSender w n serial link → IsPassing w n link.other

@@ -77,7 +77,13 @@ rested-is : (x : Node) (serial : ℕ) (r : Router) → get x.routers serial ≡ 
 unfolding commit commit_router keep_or_drop leaves_by on_router send output_of apply
 rested-is x serial r here = ap (λ o. on_router x o (commit_router x serial router_acts.Rest Plain)) here
 
-module _ (w : World) (n serial : ℕ) (is : IsPassing w n n) (rests : RestsNext (node_at w n) serial) (x : Node)
+-- so many acts of a node lead on from one world to another, and the node behind it is visited next
+pub record LeadsOn (w u : World) (n acts : ℕ) : Type 0 where
+  pub count : u.count ≡ w.count
+  pub walk : (w0 : World) (done from : ℕ) → Walk w0 w done from → IsPlace w from → Walk w0 u (done + acts) (next_node u n)
+
+-- a router of a node rests, and code has the world in another form
+module _ {v w : World} (view : v ≡ w) {n serial : ℕ} (is : IsPassing w n n) (rests : RestsNext (node_at w n) serial) {x : Node}
     (behind : x ≡ commit (node_at w n) (acts.Router serial router_acts.Rest) Plain) where
   abbrev rester : (r : Router) × (get (node_at w n).routers serial ≡ Some r)
   rester = rests-there (node_at w n) serial rests
@@ -86,24 +92,27 @@ module _ (w : World) (n serial : ℕ) (is : IsPassing w n n) (rests : RestsNext 
   after = behind ∙ rested-is (node_at w n) serial rester.0 rester.1
 
   -- items may pass then as before
-  pub rest-passing : IsPassing (set_node w n x) n n
+  pub rest-passing : IsPassing (set_node v n x) n n
   rest-passing =
-      passing-taker w n n x is (ap (λ (k : Node). k.count) after ∙ is.counts n is.here) (ap (λ (k : Node). k.hand) after ∙ is.hand)
+      let counted = ap (λ (k : Node). k.count) after ∙ is.counts n is.here in
+      subst (λ u. IsPassing (set_node u n x) n n) (sym view) (passing-taker w n n x is counted (ap (λ (k : Node). k.hand) after ∙ is.hand))
 
   -- and the rest is one act
-  pub rest-walk : (w0 : World) (done from : ℕ) → act_lacks_serials (node_at w n) (acts.Router serial router_acts.Rest) ≡ false → IsPlace w from →
-      Walk w0 w done from → Walk w0 (set_node w n x) (done + 1) (next_node w n)
-  unfolding turn_lacks_serials is_idle
-  rest-walk w0 done from allowed place walk =
+  pub rest-leads : act_lacks_serials (node_at w n) (acts.Router serial router_acts.Rest) ≡ false → LeadsOn w (set_node v n x) n 1
+  unfolding set_node turn_lacks_serials is_idle
+  rest-leads allowed =
       let few : w.count ≤ node_limit = is.lengths.few in
       let first : next_at w n ≡ acts.Router serial router_acts.Rest =
       own_act w n few (is.counts n is.here) (λ i li. is.mail (way w i n)) rests.hand rests.outboxes ∙ rests.first in
       let idle : (k : ℕ) → k < w.count → (k ≡ n → ⊥) → is_idle (next_at w k) ≡ true =
       λ k l ne. quiet_idle w k few (is.counts k l) (λ i li. is.mail (way w i k)) (quiet_is (node_at w k) (is.others k l ne ne)) in
-      walked w0 (set_node w n x) (done + 1) (next_node w n)
-      (go-on w0 w (set_node w n x) done from n (acts.Router serial router_acts.Rest) (on_way-walked w0 w done from walk place)
-      (alone-next w from n is.here place (ap is_idle first) idle) is.here first allowed
-      (router-acts w n serial rester.0 router_acts.Rest rester.1 refl ∙ ap (set_node w n) (sym behind)))
+      subst (λ u. LeadsOn w (set_node u n x) n 1) (sym view) (record {
+        count = refl;
+        walk = λ w0 done from walk place. walked w0 (set_node w n x) (done + 1) (next_node w n)
+            (go-on w0 w (set_node w n x) done from n (acts.Router serial router_acts.Rest) (on_way-walked w0 w done from walk place)
+            (alone-next w from n is.here place (ap is_idle first) idle) is.here first allowed
+            (router-acts w n serial rester.0 router_acts.Rest rester.1 refl ∙ ap (set_node w n) (sym behind)));
+      })
 
 module _ (w : World) (n : ℕ) (is : IsPassing w n n) where
   abbrev at : Node → Mail → World
@@ -326,11 +335,6 @@ IsHandedHere w n u x m msg = (source : Option ℕ) → u ≡ set_node (set_node 
 
 abbrev pub IsAllowedHere : World → ℕ → Node → ℕ → Message → Type 0
 IsAllowedHere w n x m msg = (source : Option ℕ) → message_lacks_serials (node_at (set_node w n x) m) n msg source ≡ false
-
--- so many acts of a node lead on from one world to another, and the node behind it is visited next
-pub record LeadsOn (w u : World) (n acts : ℕ) : Type 0 where
-  pub count : u.count ≡ w.count
-  pub walk : (w0 : World) (done from : ℕ) → Walk w0 w done from → IsPlace w from → Walk w0 u (done + acts) (next_node u n)
 
 -- code has sent an item within a node, and has the world in another form
 module _ {v w : World} (view : v ≡ w) {n serial : ℕ} {link : LinkEnd} (is : IsPassing w n n) {sends : SendsNext (node_at w n) serial link}
