@@ -1,4 +1,4 @@
--- Where code comes with a lone parcel: to the router across, or to the hand of that router's node. It finds the world in another form.
+-- Where code comes with a lone parcel: to the router across, or to the hand of that router's node. Code has the world in another form.
 use Rattle.std.specs.Prelude.{◌≡◌, ℕ, true, false, cond, nat_eq, None, is_some, refl}
 use Rattle.std.proofs.Common.{arith, ap, sym, subst, subst₂, ◌∙◌, inl, inr}
 use Rattle.std.proofs.lemmas.Bool.Decides.{nat_tests}
@@ -65,45 +65,44 @@ module _ {v w : World} (view : v ≡ w) {n serial : ℕ} {link : LinkEnd} (regul
       subst (λ (A : Type 0). A) (λ j. TakesItem (there j) link.link (side_is j) (sent.number_is j) (sent.item_is j) y) takes
 
   -- the sender's router has sent its item to another node, and rests
-  module _ (apart : n ≡ link.other → ⊥) {x : Node} {number : ℕ} {item : Item}
-      (sent : HasSent (λ r. rest (pop_out r)) (as_sender lone).sends x number item) {old : Node}
+  module _ (apart : n ≡ link.other → ⊥) (x : Node) {old : Node}
       (found : old ≡ place_at (bare_node 0 0) (put_place (bare_node 0 0) v.nodes n x) link.other) where
-    abbrev x3 : Node
-    x3 = with_router (node_at w n) serial (rest (pop_out r0))
-
     there : old ≡ node_at w link.other
     there = other-is v n link.other x apart found ∙ ap (λ (u : World). node_at u link.other) view
 
-    pub arrived-over : {y : Node} {side : Side} {next : ℕ} → side ≡ opposite link.side → TakesItem old link.link side number item y →
-        next ≡ next_node v link.other → Arrived w (set_node (set_node v n x) link.other y) next
-    unfolding set_node
-    arrived-over {y} side_is taken is =
-        let takes = takes-sent sent there side_is taken in
-        let end : set_node (set_node v n x) link.other y ≡ set_node (set_node w n x3) link.other y =
-        λ j. set_node (set_node (view j) n (sent.behind j)) link.other y in
-        subst₂ (Arrived w) (sym end) (sym (is ∙ ap (λ (u : World). next_node u link.other) view)) (record {
-          walk = walked w _ 6 _ (over.carried w n serial link regular lone apart sent.low y takes (on_way-start w));
-          place = next-place w w link.other refl;
-          idle = λ k _ l. over.idle-behind w n serial link regular lone apart sent.low y takes k l;
-          carried = record {
-            node = n;
-            serial = serial;
-            link = link;
-            lone = lone;
-            came = inl (refl, over.came w n serial link regular lone apart sent.low y takes x3);
-          };
-        })
+    -- if the taker is as it was, its hand is free
+    pub free-over : {y : Node} → y ≡ old → (node_at (set_node (set_node v n x) link.other y) link.other).hand ≡ None
+    free-over {y} kept = ap (λ (z : Node). z.hand) (node-here (set_node v n x) link.other y ∙ kept ∙ there)
+        ∙ (quiet_is (node_at w link.other) (lone.others link.other lone.there (λ e. apart (sym e)))).hand
 
-    -- the taker is as it was, so the code leaves the parcel in its hand, which is free
-    module _ {y : Node} (kept : y ≡ old) where
-      pub free-over : (node_at (set_node (set_node v n x) link.other y) link.other).hand ≡ None
-      free-over = ap (λ (z : Node). z.hand) (node-here (set_node v n x) link.other y ∙ kept ∙ there)
-          ∙ (quiet_is (node_at w link.other) (lone.others link.other lone.there (λ e. apart (sym e)))).hand
+    module _ {number : ℕ} {item : Item} (sent : HasSent (λ r. rest (pop_out r)) (as_sender lone).sends x number item) where
+      -- the parcel arrives once the taker has taken it
+      pub arrived-over : {y : Node} {side : Side} {next : ℕ} → side ≡ opposite link.side → TakesItem old link.link side number item y →
+          next ≡ next_node v link.other → Arrived w (set_node (set_node v n x) link.other y) next
+      unfolding set_node
+      arrived-over {y} side_is taken is =
+          let takes = takes-sent sent there side_is taken in
+          let rested = with_router (node_at w n) serial (rest (pop_out r0)) in
+          let end : set_node (set_node v n x) link.other y ≡ set_node (set_node w n rested) link.other y =
+          λ j. set_node (set_node (view j) n (sent.behind j)) link.other y in
+          subst₂ (Arrived w) (sym end) (sym (is ∙ ap (λ (u : World). next_node u link.other) view)) (record {
+            walk = walked w _ 6 _ (over.carried w n serial link regular lone apart sent.low y takes (on_way-start w));
+            place = next-place w w link.other refl;
+            idle = λ k _ l. over.idle-behind w n serial link regular lone apart sent.low y takes k l;
+            carried = record {
+              node = n;
+              serial = serial;
+              link = link;
+              lone = lone;
+              came = inl (refl, over.came w n serial link regular lone apart sent.low y takes rested);
+            };
+          })
 
-      pub left-over : {left : Item} {u : World} {next : ℕ} → left ≡ item →
+      -- else four acts lead to its message in the taker's hand
+      pub left-over : {y : Node} {left : Item} {u : World} {next : ℕ} → y ≡ old → left ≡ item →
           u ≡ with_hand (set_node (set_node v n x) link.other y) n link.other (lone_message link number left) → next ≡ next_node u n → Walk w u 4 next
       unfolding set_node set_mail
-      left-over same held is =
+      left-over {y} kept same held is =
           let world = held ∙ (λ j. with_hand (set_node (set_node (view j) n x) link.other y) n link.other
           (lone_message link (sent.number_is j) ((same ∙ sent.item_is) j)))
           ∙ over.left w n serial link regular lone apart sent.low x y sent.behind (kept ∙ there) in
@@ -113,22 +112,19 @@ module _ {v w : World} (view : v ≡ w) {n serial : ℕ} {link : LinkEnd} (regul
   -- or to another router of its own node, and doesn't rest yet
   module _ (same : n ≡ link.other) {x : Node} {number : ℕ} {item : Item} (sent : HasSent pop_out (as_sender lone).sends x number item) {old : Node}
       (found : old ≡ place_at (bare_node 0 0) (put_place (bare_node 0 0) v.nodes n x) n) where
-    abbrev x2 : Node
-    x2 = with_router (node_at w n) serial (pop_out r0)
-
-    behind : old ≡ x2
+    behind : old ≡ with_router (node_at w n) serial (pop_out r0)
     behind = written-is v n x found ∙ sent.behind
 
     module _ {y : Node} {side : Side} (side_is : side ≡ opposite link.side) (taken : TakesItem old link.link side number item y) {last : Node}
         (seen : last ≡ place_at (bare_node 0 0) (put_place (bare_node 0 0) (set_node v n x).nodes n y) n) where
-      -- its router is still there
+      -- the sender's router is still there once the taker's has taken the parcel
       pub sender-kept : is_some (router_in last serial) ≡ true
       sender-kept =
           let stood = ap (λ z. router_in z serial) behind ∙ stands (node_at w n) serial (pop_out r0) in
           ap (λ z. is_some (router_in z serial)) (written-is (set_node v n x) n y seen ∙ taken.changed)
           ∙ kept-there old.routers taken.serial serial taken.after (pop_out r0) stood
 
-      -- and rests at last
+      -- and the parcel arrives once the sender's router rests
       pub arrived-within : {z : Node} {next : ℕ} → z ≡ commit last (acts.Router serial router_acts.Rest) Plain → next ≡ next_node v n →
           Arrived w (set_node (set_node (set_node v n x) n y) n z) next
       unfolding set_node
@@ -149,18 +145,18 @@ module _ {v w : World} (view : v ≡ w) {n serial : ℕ} {link : LinkEnd} (regul
             };
           })
 
-    -- if that doesn't take it, the code leaves it in the node's hand, which is free
-    module _ {y : Node} (kept : y ≡ old) where
-      pub free-within : (node_at (set_node (set_node v n x) n y) link.other).hand ≡ None
-      free-within = ap (λ k. (node_at (set_node (set_node v n x) n y) k).hand) (sym same)
-          ∙ ap (λ (z : Node). z.hand) (node-here (set_node v n x) n y ∙ kept ∙ behind) ∙ lone.sends.hand
+    -- if the node is as it was, its hand is free
+    pub free-within : {y : Node} → y ≡ old → (node_at (set_node (set_node v n x) n y) link.other).hand ≡ None
+    free-within {y} kept = ap (λ k. (node_at (set_node (set_node v n x) n y) k).hand) (sym same)
+        ∙ ap (λ (z : Node). z.hand) (node-here (set_node v n x) n y ∙ kept ∙ behind) ∙ lone.sends.hand
 
-      pub left-within : {left : Item} {u : World} {next : ℕ} → left ≡ item →
-          u ≡ with_hand (set_node (set_node v n x) n y) n link.other (lone_message link number left) → next ≡ next_node u n → Walk w u 3 next
-      unfolding set_node set_mail
-      left-within same_item held is =
-          let world = held ∙ (λ j. with_hand (set_node (set_node (view j) n x) n y) n (sym same j)
-          (lone_message link (sent.number_is j) ((same_item ∙ sent.item_is) j)))
-          ∙ within.left w n serial link regular lone same sent.low x y (kept ∙ behind) in
-          subst₂ (λ u k. Walk w u 3 k) (sym world) (sym (is ∙ ap (λ (u : World). next_node u n) world))
-          (walked w _ 3 _ (within.sent w n serial link regular lone same sent.low (on_way-start w)))
+    -- and three acts lead to the message in it
+    pub left-within : {y : Node} {left : Item} {u : World} {next : ℕ} → y ≡ old → left ≡ item →
+        u ≡ with_hand (set_node (set_node v n x) n y) n link.other (lone_message link number left) → next ≡ next_node u n → Walk w u 3 next
+    unfolding set_node set_mail
+    left-within {y} kept same_item held is =
+        let world = held ∙ (λ j. with_hand (set_node (set_node (view j) n x) n y) n (sym same j)
+        (lone_message link (sent.number_is j) ((same_item ∙ sent.item_is) j)))
+        ∙ within.left w n serial link regular lone same sent.low x y (kept ∙ behind) in
+        subst₂ (λ u k. Walk w u 3 k) (sym world) (sym (is ∙ ap (λ (u : World). next_node u n) world))
+        (walked w _ 3 _ (within.sent w n serial link regular lone same sent.low (on_way-start w)))

@@ -356,7 +356,7 @@ passing-behind : (w : World) (n m p : ℕ) (x : Node) → IsPassing w n m → p 
     x.count ≡ w.count → (node_at (set_node w p x) m).hand ≡ None → IsPassing (set_node w p x) n m
 unfolding set_node mail_at
 passing-behind w n m p x is here neither counted free = record {
-  lengths = lengths-kept w p x is.lengths here;
+  lengths = lengths-kept refl p x is.lengths here;
   counts = λ k l. go k l (nat_eq k p) refl;
   mail = is.mail;
   here = is.here;

@@ -1,5 +1,5 @@
-use Rattle.std.proofs.Common.{◌∙◌, ap, sym, subst, arith}
-use Rattle.ipcz_world.proofs.Vocabulary.{World, ends_in, mail_at, node_at, set_mail, set_node, IsLone, HasLengths}
+use Rattle.std.proofs.Common.{◌∙◌, ap, sym, subst, refl, arith}
+use Rattle.ipcz_world.proofs.Vocabulary.{World, ends_in, mail_at, node_at, set_mail, set_node, IsLone}
 use Rattle.ipcz_world.proofs.code.Arriving.{arrived-over, free-over, left-carried, left-over}
 use Rattle.ipcz_world.proofs.code.LoneWorlds.{as_sender, sends-last}
 use Rattle.ipcz_world.proofs.code.Passing.{found-item, has-sent}
@@ -31,7 +31,7 @@ returns-then-take_last c =
     let there = c.node_mut.ensures.value ∙ ap (λ (v : World). node_at v c.args.n) c.self.view_is in
     let sent = has-sent (as_sender c.requires.lone).sends there s.node s.number s.item s.serials in
     let taken = c.take_last.ensures.taken c.if-take_last.true in
-    let done = arrived-over c.self.view_is c.requires.regular c.requires.lone c.requires.apart sent c.node_mut-2.ensures.value
+    let done = arrived-over c.self.view_is c.requires.regular c.requires.lone c.requires.apart _ c.node_mut-2.ensures.value sent
     c.opposite-side.ensures taken c.next_node.ensures in
     record {
       walk = done.walk;
@@ -47,17 +47,13 @@ unfolding set_node
 leave_in_hand-requires-clause-lengths c =
     let lone = c.requires.lone in
     let x = c.send_last-number.new.self.node in
-    let y = c.take_last.new.self.node in
-    let first = lengths-kept c.args.self.now c.args.n x c.requires.regular.lengths lone.here in
-    subst (λ v. HasLengths (set_node (set_node v c.args.n x) c.args.link.other y)) (sym c.self.view_is) (lengths-kept _ c.args.link.other y first lone.there)
+    lengths-kept (ap (λ v. set_node v c.args.n x) c.self.view_is) c.args.link.other c.take_last.new.self.node
+    (lengths-kept refl c.args.n x c.requires.regular.lengths lone.here) lone.there
 
 pub leave_in_hand-requires-clause-hand : goal.leave_in_hand-requires-clause-hand
 unfolding node_at set_node
 leave_in_hand-requires-clause-hand c =
-    let s = c.send_last-number.ensures in
-    let there = c.node_mut.ensures.value ∙ ap (λ (v : World). node_at v c.args.n) c.self.view_is in
-    let sent = has-sent (as_sender c.requires.lone).sends there s.node s.number s.item s.serials in
-    free-over c.self.view_is c.requires.regular c.requires.lone c.requires.apart sent c.node_mut-2.ensures.value
+    free-over c.self.view_is c.requires.regular c.requires.lone c.requires.apart _ c.node_mut-2.ensures.value
     (c.take_last.ensures.left c.if-take_last.false).1
 
 pub leave_in_hand-requires-clause-clear : goal.leave_in_hand-requires-clause-clear
@@ -79,7 +75,7 @@ returns-clause-walk c =
     let there = c.node_mut.ensures.value ∙ ap (λ (v : World). node_at v c.args.n) c.self.view_is in
     let sent = has-sent (as_sender c.requires.lone).sends there s.node s.number s.item s.serials in
     let kept = c.take_last.ensures.left c.if-take_last.false in
-    left-over c.self.view_is c.requires.regular c.requires.lone c.requires.apart sent c.node_mut-2.ensures.value kept.1 kept.0
+    left-over c.self.view_is c.requires.regular c.requires.lone c.requires.apart _ c.node_mut-2.ensures.value sent kept.1 kept.0
     c.leave_in_hand.ensures c.next_node-2.ensures
 
 pub returns-clause-carried : goal.returns-clause-carried

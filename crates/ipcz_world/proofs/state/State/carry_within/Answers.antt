@@ -1,5 +1,5 @@
-use Rattle.std.proofs.Common.{◌∙◌, ap, sym, subst, arith}
-use Rattle.ipcz_world.proofs.Vocabulary.{World, ends_in, mail_at, node_at, set_mail, set_node, IsLone, HasLengths}
+use Rattle.std.proofs.Common.{◌∙◌, ap, sym, subst, refl, arith}
+use Rattle.ipcz_world.proofs.Vocabulary.{World, ends_in, mail_at, node_at, set_mail, set_node, IsLone}
 use Rattle.ipcz_world.proofs.code.Arriving.{arrived-within, free-within, left-carried, left-within, sender-kept}
 use Rattle.ipcz_world.proofs.code.LoneWorlds.{as_sender, sends-last}
 use Rattle.ipcz_world.proofs.code.Passing.{found-item, has-sent}
@@ -31,7 +31,7 @@ node_mut-requires-then-take_last c =
     let x = c.send_next-number.new.self.node in
     let here = c.requires.lone.here in
     nodes-kept (ap (λ v. set_node v n x) c.self.view_is) n n c.take_last.new.self.node
-    (lengths-kept c.args.self.now n x c.requires.regular.lengths here) here here
+    (lengths-kept refl n x c.requires.regular.lengths here) here here
 
 pub rest-requires : goal.rest-requires
 unfolding node_at set_node
@@ -65,9 +65,8 @@ unfolding set_node
 leave_in_hand-requires-clause-lengths c =
     let lone = c.requires.lone in
     let x = c.send_next-number.new.self.node in
-    let y = c.take_last.new.self.node in
-    let first = lengths-kept c.args.self.now c.args.n x c.requires.regular.lengths lone.here in
-    subst (λ v. HasLengths (set_node (set_node v c.args.n x) c.args.n y)) (sym c.self.view_is) (lengths-kept _ c.args.n y first lone.here)
+    lengths-kept (ap (λ v. set_node v c.args.n x) c.self.view_is) c.args.n c.take_last.new.self.node
+    (lengths-kept refl c.args.n x c.requires.regular.lengths lone.here) lone.here
 
 pub leave_in_hand-requires-clause-hand : goal.leave_in_hand-requires-clause-hand
 unfolding node_at set_node

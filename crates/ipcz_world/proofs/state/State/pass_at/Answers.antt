@@ -1,5 +1,5 @@
 use Rattle.std.proofs.Common.{◌∙◌, inl, inr, ap, sym, subst, refl, arith}
-use Rattle.ipcz_world.proofs.Vocabulary.{LinkEnd, World, mail_at, node_at, set_mail, set_node, SendsNext, IsPassing, with_hand, the_view}
+use Rattle.ipcz_world.proofs.Vocabulary.{LinkEnd, World, mail_at, node_at, set_mail, set_node, SendsNext, IsPassing, with_hand}
 use Rattle.ipcz_world.specs.Carrying.{lone_message}
 use Rattle.ipcz_world.proofs.code.LoneFinds.{link_is, lowest}
 use Rattle.ipcz_world.proofs.code.Passing.{found-item, handed-passing, has-sent}
@@ -29,8 +29,7 @@ send_next-number-requires c =
 pub hand_alone-requires-clause-lengths : goal.hand_alone-requires-clause-lengths
 unfolding set_node
 hand_alone-requires-clause-lengths c =
-    let passing = subst (λ v. IsPassing v c.args.n c.args.n) (sym c.self.view_is) c.requires in
-    lengths-kept (the_view c.self.inside) c.args.n c.send_next-number.new.self.node passing.lengths passing.here
+    lengths-kept c.self.view_is c.args.n c.send_next-number.new.self.node c.requires.lengths c.requires.here
 
 pub returns-then-hand_alone : goal.returns-then-hand_alone
 unfolding node_at set_node

@@ -9,10 +9,7 @@ use Rattle.ipcz_world.proofs.state.State.pass_within.Goals.{then-more-eq4, else-
 use Rattle.ipcz_world.proofs.state.State.pass_within.Goals as goal
 
 at_most : (a : ℕ) → IsLap a → a ≤ 4
-at_most a (inl e) = omega (arith, e)
-at_most a (inr (inl e)) = omega (arith, e)
-at_most a (inr (inr (inl e))) = omega (arith, e)
-at_most a (inr (inr (inr e))) = omega (arith, e)
+at_most a lap = grind arith
 
 -- how far the first item came is a lap, too
 first_lap : (a : ℕ) → (a ≡ 0) ⊎ (a ≡ 3) ⊎ (a ≡ 4) → IsLap a
@@ -29,9 +26,7 @@ led_on w0 w u n acts a (inl e) none more walk =
 led_on w0 w u n acts a (inr lap) none more walk = more (some lap) w0 acts (next_node w n) walk (next-place w w n refl)
   where
     some : (a ≡ 1) ⊎ (a ≡ 3) ⊎ (a ≡ 4) → 1 ≤ a
-    some (inl e) = omega (arith, e)
-    some (inr (inl e)) = omega (arith, e)
-    some (inr (inr e)) = omega (arith, e)
+    some one = grind arith
 
 pub loop-goes_on-init : goal.loop-goes_on-init
 loop-goes_on-init c =
