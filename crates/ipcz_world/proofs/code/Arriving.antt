@@ -1,5 +1,5 @@
 -- Where code comes with a lone parcel: to the router across, or to the hand of that router's node. Code has the world in another form.
-use Rattle.std.specs.Prelude.{◌≡◌, ℕ, true, false, cond, nat_eq, None, is_some, refl}
+use Rattle.std.specs.Prelude.{◌≡◌, ◌<◌, ℕ, true, false, cond, nat_eq, None, is_some, refl}
 use Rattle.std.proofs.Common.{arith, ap, sym, subst, subst₂, ◌∙◌, inl, inr}
 use Rattle.std.proofs.lemmas.Bool.Decides.{nat_tests}
 use Rattle.ipcz_base.specs.declared.side.Side.{Side}
@@ -10,7 +10,8 @@ use Rattle.ipcz_node.specs.Lone.{TakesItem}
 use Rattle.ipcz_node.proofs.LoneNodes.{stands}
 use Rattle.ipcz_world.proofs.Vocabulary.{Item, LinkEnd, Message, Node, Router, World, bare_node, commit, node_at, opposite, place_at, put_place}
 use Rattle.ipcz_world.proofs.Vocabulary.{router_in, set_mail, set_node, with_router, Plain, pop_out, rest, IsLone, with_hand, next_node, IsRegular, Walk}
-use Rattle.ipcz_world.specs.Carrying.{IsCarried, lone_message}
+use Rattle.ipcz_world.proofs.Vocabulary.{is_idle, next_at}
+use Rattle.ipcz_world.specs.Carrying.{HasCome, IsCarried, lone_message}
 use Rattle.ipcz_world.specs.Visiting.{AreIdle, IsPlace}
 use Rattle.ipcz_world.proofs.acts.Updating.{node-here}
 use Rattle.ipcz_world.proofs.code.Carrying as over
@@ -18,7 +19,7 @@ use Rattle.ipcz_world.proofs.code.CarryingWithin as within
 use Rattle.ipcz_world.proofs.code.LoneFinds.{in_hand}
 use Rattle.ipcz_world.proofs.code.LoneWorlds.{as_sender, quiet_is, sends-last}
 use Rattle.ipcz_world.proofs.code.Passing.{HasSent}
-use Rattle.ipcz_world.proofs.code.Visiting.{next-place, on_way-start, walked}
+use Rattle.ipcz_world.proofs.code.Visiting.{OnWay, on_way-start, walked}
 use Rattle.ipcz_world.proofs.code.Writes.{kept-there}
 
 -- the node that was written, as it is found behind the write
@@ -27,7 +28,7 @@ written-is w n x is =
     let itself : nat_eq n n ≡ true = grind (arith, nat_tests) in
     is ∙ place_at-put_place (bare_node 0 0) w.nodes n x n ∙ ap (λ c. cond c x (place_at (bare_node 0 0) w.nodes n)) itself
 
--- and another node
+-- another node, as it is found behind that write
 other-is : (w : World) (n m : ℕ) (x : Node) {old : Node} → (n ≡ m → ⊥) →
     old ≡ place_at (bare_node 0 0) (put_place (bare_node 0 0) w.nodes n x) m → old ≡ node_at w m
 unfolding node_at
@@ -42,16 +43,22 @@ pub record Arrived (w u : World) (next : ℕ) : Type 0 where
   pub idle : AreIdle u 0 u.count
   pub carried : IsCarried w u 6
 
--- it was left in the hand of that router's node
+-- so it has once six acts have led there
+arrived : {w u : World} {n serial next : ℕ} {link : LinkEnd} → IsLone w n serial link → OnWay w 6 u next →
+    ((k : ℕ) → k < u.count → is_idle (next_at u k) ≡ true) → HasCome w u n serial link → Arrived w u next
+arrived {w} {u} {n} {serial} {next} {link} lone on idle came = record {
+  walk = walked w u 6 next on;
+  place = on.place;
+  idle = λ k _ l. idle k l;
+  carried = record { node = n; serial = serial; link = link; lone = lone; came = inl (refl, came) };
+}
+
+-- or it was left in the hand of that router's node
 pub left-carried : {w u : World} {acts n serial : ℕ} {link : LinkEnd} → IsLone w n serial link → (v : World) (m : Message) →
     u ≡ with_hand v n link.other m → IsCarried w u acts
-left-carried {n = n} {serial} {link} lone v m held = record {
-  node = n;
-  serial = serial;
-  link = link;
-  lone = lone;
-  came = inr (ap (λ (w : World). (node_at w link.other).hand) held ∙ in_hand v n link.other m);
-}
+left-carried {n = n} {serial} {link} lone v m held =
+    let hand = ap (λ (w : World). (node_at w link.other).hand) held ∙ in_hand v n link.other m in
+    record { node = n; serial = serial; link = link; lone = lone; came = inr hand }
 
 module _ {v w : World} (view : v ≡ w) {n serial : ℕ} {link : LinkEnd} (regular : IsRegular w) (lone : IsLone w n serial link) where
   abbrev r0 : Router
@@ -85,18 +92,10 @@ module _ {v w : World} (view : v ≡ w) {n serial : ℕ} {link : LinkEnd} (regul
           let rested = with_router (node_at w n) serial (rest (pop_out r0)) in
           let end : set_node (set_node v n x) link.other y ≡ set_node (set_node w n rested) link.other y =
           λ j. set_node (set_node (view j) n (sent.behind j)) link.other y in
-          subst₂ (Arrived w) (sym end) (sym (is ∙ ap (λ (u : World). next_node u link.other) view)) (record {
-            walk = walked w _ 6 _ (over.carried w n serial link regular lone apart sent.low y takes (on_way-start w));
-            place = next-place w w link.other refl;
-            idle = λ k _ l. over.idle-behind w n serial link regular lone apart sent.low y takes k l;
-            carried = record {
-              node = n;
-              serial = serial;
-              link = link;
-              lone = lone;
-              came = inl (refl, over.came w n serial link regular lone apart sent.low y takes rested);
-            };
-          })
+          subst₂ (Arrived w) (sym end) (sym (is ∙ ap (λ (u : World). next_node u link.other) view)) (arrived lone
+          (over.carried w n serial link regular lone apart sent.low y takes (on_way-start w))
+          (over.idle-behind w n serial link regular lone apart sent.low y takes)
+          (over.came w n serial link regular lone apart sent.low y takes rested))
 
       -- else four acts lead to its message in the taker's hand
       pub left-over : {y : Node} {left : Item} {u : World} {next : ℕ} → y ≡ old → left ≡ item →
@@ -132,18 +131,10 @@ module _ {v w : World} (view : v ≡ w) {n serial : ℕ} {link : LinkEnd} (regul
           let takes = takes-sent sent behind side_is taken in
           let ends = rested ∙ ap (λ k. commit k (acts.Router serial router_acts.Rest) Plain) (written-is (set_node v n x) n y seen) in
           subst₂ (Arrived w) (sym (ap (λ (u : World). set_node (set_node (set_node u n x) n y) n z) view))
-          (sym (is ∙ ap (λ (u : World). next_node u n) view)) (record {
-            walk = walked w _ 6 _ (within.carried w n serial link regular lone same sent.low y takes x z ends (on_way-start w));
-            place = next-place w w n refl;
-            idle = λ k _ l. within.idle-behind w n serial link regular lone same sent.low y takes x z ends k l;
-            carried = record {
-              node = n;
-              serial = serial;
-              link = link;
-              lone = lone;
-              came = inl (refl, within.came w n serial link regular lone same sent.low y takes x z ends);
-            };
-          })
+          (sym (is ∙ ap (λ (u : World). next_node u n) view)) (arrived lone
+          (within.carried w n serial link regular lone same sent.low y takes x z ends (on_way-start w))
+          (within.idle-behind w n serial link regular lone same sent.low y takes x z ends)
+          (within.came w n serial link regular lone same sent.low y takes x z ends))
 
     -- if the node is as it was, its hand is free
     pub free-within : {y : Node} → y ≡ old → (node_at (set_node (set_node v n x) n y) link.other).hand ≡ None

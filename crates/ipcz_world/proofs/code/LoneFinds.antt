@@ -35,7 +35,7 @@ alone {w = w} {n} {serial} lone = record {
 }
 
 -- a node that isn't quiet is that one
-pub busy_is : (w : World) (n k : ℕ) → IsLoneNode w n → k < w.count → is_quiet (node_at w k) ≡ false → n ≡ k
+busy_is : (w : World) (n k : ℕ) → IsLoneNode w n → k < w.count → is_quiet (node_at w k) ≡ false → n ≡ k
 busy_is w n k alone l busy = go (nat_eq k n) refl
   where
     go : (b : Bool) → nat_eq k n ≡ b → n ≡ k
@@ -66,13 +66,14 @@ pub in_hand : (w : World) (from to : ℕ) (m : Message) → (node_at (with_hand 
 unfolding node_at set_node set_mail
 in_hand w from to m = ap (λ (z : Node). z.hand) (node-here w to (record (node_at w to) { hand = Some from }))
 
+-- a mailbox that is clear is empty
 empty_is : (b : Mail) → is_clear b ≡ true → b ≡ Empty
 unfolding is_clear
 empty_is Empty h = refl
 empty_is (Full m) h = cc
 empty_is (Hand m) h = cc
 
--- code has found it, which read all this in the world's other form
+-- code that has found all this has found the only node with something to do, and it has the world in another form
 pub found-lone : {Does : Node → ℕ → LinkEnd → Type 0} {v w : World} {n serial place : ℕ} {link : LinkEnd} {x : Node} → v ≡ w →
     ((k : ℕ) → is_full (mail_at v k) ≡ false) → n < w.count → AreQuiet w 0 n → AreQuiet w (n + 1) w.count → x ≡ node_at v n → Does x serial link →
     link.other < v.count → place ≡ way w n link.other → is_clear (mail_at v place) ≡ true → IsLoneBy Does w n serial link
@@ -89,7 +90,7 @@ found-lone {Does} {v} {w} {n} {serial} {place} {link} view mail here before behi
     go k l ne true e = before k (omega arith) (grind (arith, e, nat_tests))
     go k l ne false e = behind k (grind (arith, e, ne, nat_tests)) l
 
--- or it has found what can't be while there is one: a full mailbox
+-- or it has found what can't be while there is such a node: a full mailbox
 pub none-full : {Does : Node → ℕ → LinkEnd → Type 0} {v w : World} {n serial : ℕ} {link : LinkEnd} → v ≡ w →
     (k : ℕ) × (is_full (mail_at v k) ≡ true) → IsLoneBy Does w n serial link → ⊥
 none-full view full lone =

@@ -370,10 +370,12 @@ passing-behind w n m p x is here neither counted free = record {
     go k l true e = ap (λ (z : Node). z.count) (node-set_node w p x k ∙ ap (λ c. cond c x (node_at w k)) e) ∙ counted
     go k l false e = ap (λ (z : Node). z.count) (node-set_node w p x k ∙ ap (λ c. cond c x (node_at w k)) e) ∙ is.counts k l
 
+-- so behind one of the sender
 pub passing-sender : (w : World) (n m : ℕ) (x : Node) → IsPassing w n m → (n ≡ m → ⊥) → x.count ≡ w.count → IsPassing (set_node w n x) n m
 passing-sender w n m x is apart counted =
     passing-behind w n m n x is is.here (λ k kn _. kn) counted (ap (λ (z : Node). z.hand) (behind-taker w m n x (λ e. apart (sym e))) ∙ is.hand)
 
+-- and behind one of the taker
 pub passing-taker : (w : World) (n m : ℕ) (z : Node) → IsPassing w n m → z.count ≡ w.count → z.hand ≡ None → IsPassing (set_node w m z) n m
 passing-taker w n m z is counted free =
     passing-behind w n m m z is is.there (λ k _ km. km) counted (ap (λ (y : Node). y.hand) (node-here w m z) ∙ free)
@@ -436,15 +438,17 @@ module _ (w u : World) (n m : ℕ) (over : LinkEnd) (number : ℕ) (item : Item)
       (sent_message (node_at w n) serial link sends)) (done + 4) (next_node w m)) (sym handed-world)
       (passed-walk w n m is apart serial link sends to low over number item handed_node handed-node allowed w0 done walk))
 
--- such a node as code finds it
+-- code finds such a node
 module _ {x old : Node} {serial : ℕ} {link : LinkEnd} (sends : SendsNext x serial link) (same : old ≡ x) where
   found-here : router_in old serial ≡ Some (sender x serial link sends)
   found-here = ap (λ k. router_in k serial) same ∙ sends.sender.here
 
+  -- there is an item
   pub found-item : IsSomeAnd (router_in old serial) (λ (r : Router). is_some (current_item r.out_queue) ≡ true)
   found-item = subst (λ o. IsSomeAnd o (λ (r : Router). is_some (current_item r.out_queue) ≡ true)) (sym found-here)
       (ap is_some (sent_first x serial link sends).current)
 
+  -- and code that takes it has sent it
   pub has-sent : {change : Router → Router} {new : Node} {number : ℕ} {item : Item} →
       ((r : Router) → router_in old serial ≡ Some r → new ≡ with_router old serial (change r)) →
       ((r : Router) → router_in old serial ≡ Some r → number ≡ r.out_queue.current) →

@@ -7,12 +7,13 @@ use Rattle.ipcz_world.proofs.Vocabulary.{Node, Router, World, bare_node, put_pla
 use Rattle.ipcz_world.proofs.facts.Finding.{get_inserted}
 use Rattle.ipcz_world.proofs.code.Slots.{length-put}
 
--- a write of a node keeps the lengths, and code may have the world in another form
+-- a write of a node leaves each node in its place, and code may have the world in another form
 pub nodes-kept : {v w : World} → v ≡ w → (n m : ℕ) (x : Node) → HasLengths w → n < w.count → m < w.count →
     m < length (put_place (bare_node 0 0) v.nodes n x)
 nodes-kept {w = w} view n m x has ln lm = subst (λ (u : World). m < length (put_place (bare_node 0 0) u.nodes n x)) (sym view)
     (omega (arith, lm, has.nodes, length-put (bare_node 0 0) w.nodes n x (omega (arith, ln, has.nodes))))
 
+-- and so the world has all of them
 pub lengths-kept : {v w : World} → v ≡ w → (n : ℕ) (x : Node) → HasLengths w → n < w.count → HasLengths (set_node v n x)
 unfolding set_node
 lengths-kept {w = w} view n x has ln = subst (λ u. HasLengths (set_node u n x)) (sym view) (record {
