@@ -1,13 +1,22 @@
 /* Four threads, each with its node's cell, on a table whose link words come back: requests with a fresh portal for their answer, pairs that are opened and
- * closed, and portals that go round all nodes; 20,000 of each. In the end each slot for links is to be had again. */
+ * closed, and portals that go round all nodes; 20,000 of each. In the end each slot for links is to be had again.
+ *
+ * With two numbers as arguments each thread makes so many requests and opens so many pairs, and each of the 20 portals makes so many hops; and a portal
+ * goes on only once it has arrived, so that memory stays as it is, also where the threads share processors. Ten million of each:
+ *     ./lasting_threads 2500000 500000 */
 #include "ipcz_portals.h"
 
 #include <pthread.h>
 #include <sched.h>
 #include <stdatomic.h>
 #include <stdio.h>
+#include <stdlib.h>
 
-enum { NODES = 4, FIRST_PAIRS = NODES * (NODES - 1) / 2, SLOTS = 256, ROUNDS = 5000, AT_ONCE = 16, TRAVELLERS = 20, HOPS = 1000 };
+enum { NODES = 4, FIRST_PAIRS = NODES * (NODES - 1) / 2, SLOTS = 256, AT_ONCE = 16, TRAVELLERS = 20 };
+
+/* How many requests and pairs a thread makes, how many hops a portal makes, and whether it goes on only once it has arrived. */
+static int rounds = 5000, most_hops = 1000;
+static bool rests_on_its_way = false;
 
 /* A request under way: the portal at which its answer is awaited. */
 typedef struct request {
@@ -15,12 +24,19 @@ typedef struct request {
     bool awaits;
 } request;
 
-/* What a thread has: its cell, its requests under way, and what it has done and served so far. */
+/* A portal that rests on its way, and how many hops it has made. */
+typedef struct traveller {
+    ipcz_portal portal;
+    int hops;
+} traveller;
+
+/* What a thread has: its cell, its requests under way, the portals that rest there, and what it has done and served so far. */
 typedef struct worker {
     ipcz_cell cell;
     uint8_t node;
     request requests[AT_ONCE];
-    int asked, answered, served, churned;
+    traveller resting[TRAVELLERS];
+    int count, asked, answered, served, churned;
     ipcz_status wrong;
 } worker;
 
@@ -73,12 +89,34 @@ static ipcz_status churn(worker *of) {
 
 /* Passes a portal on that has made so many hops, or closes it behind the last. */
 static ipcz_status pass_on(worker *of, ipcz_portal portal, int hops) {
-    if (hops == HOPS) {
+    if (hops == most_hops) {
         travelled++;
         return ipcz_cell_close(&of->cell, portal);
     }
     const uint8_t text[4] = { '>', (uint8_t)hops, (uint8_t)(hops >> 8), (uint8_t)(hops >> 16) };
     return ipcz_cell_put(&of->cell, ipcz_first(of->node, node_behind(of->node), NODES), text, sizeof text, &portal, 1, NULL);
+}
+
+/* Passes those portals on that have arrived. */
+static ipcz_status pass_arrived(worker *of) {
+    int left = 0;
+    ipcz_status status = IPCZ_OK;
+    for (int i = 0; i < of->count; i++) {
+        traveller it = of->resting[i];
+        bool has_arrived = false;
+        if (!status) status = ipcz_cell_has_arrived(&of->cell, it.portal, &has_arrived);
+        if (status || !has_arrived) of->resting[left++] = it;
+        else status = pass_on(of, it.portal, it.hops);
+    }
+    of->count = left;
+    return status;
+}
+
+/* Takes a portal that has come and made so many hops. */
+static ipcz_status take_in(worker *of, ipcz_portal portal, int hops) {
+    if (!rests_on_its_way) return pass_on(of, portal, hops);
+    of->resting[of->count++] = (traveller){ portal, hops };
+    return IPCZ_OK;
 }
 
 /* Serves a parcel that has come from the node before, if there is one, and tells whether there was. */
@@ -90,7 +128,7 @@ static ipcz_status serve(worker *of, bool *came) {
     *came = !status;
     if (status == IPCZ_EMPTY) return IPCZ_OK;
     if (status || count != 1) return status ? status : IPCZ_STRANGER;
-    if (text[0] == '>') return pass_on(of, portal, (text[1] | text[2] << 8 | text[3] << 16) + 1);
+    if (text[0] == '>') return take_in(of, portal, (text[1] | text[2] << 8 | text[3] << 16) + 1);
     of->served++;
     status = ipcz_cell_put(&of->cell, portal, "!", 1, NULL, 0, NULL);
     return status ? status : ipcz_cell_close(&of->cell, portal);
@@ -103,18 +141,19 @@ static ipcz_status go_on(worker *of) {
     if (status == IPCZ_RACED) status = IPCZ_OK;
     ipcz_cell_retry(&of->cell);
     while (!status && came) status = serve(of, &came);
+    if (!status) status = pass_arrived(of);
     for (int i = 0; i < AT_ONCE && !status; i++) {
         request *it = &of->requests[i];
         if (it->awaits) status = hear(of, it);
-        else if (of->asked < ROUNDS) status = ask(of, it);
+        else if (of->asked < rounds) status = ask(of, it);
     }
-    if (!status && of->churned < ROUNDS) status = churn(of);
+    if (!status && of->churned < rounds) status = churn(of);
     return status;
 }
 
 /* Whether all threads have done what they have to do; each says so once. */
 static bool are_done(worker *of, bool *told) {
-    if (!*told && of->answered == ROUNDS && of->served == ROUNDS && of->churned == ROUNDS && travelled == TRAVELLERS) {
+    if (!*told && of->answered == rounds && of->served == rounds && of->churned == rounds && travelled == TRAVELLERS) {
         *told = true;
         threads_done++;
     }
@@ -146,11 +185,16 @@ static bool rest(void) {
     return true;
 }
 
-int main(void) {
+int main(int argc, char **argv) {
     ipcz_cell cells[NODES];
     pthread_t threads[NODES];
     ipcz_portal kept[TRAVELLERS], sent;
     int opened = 0;
+    if (argc == 3) {
+        rounds = atoi(argv[1]);
+        most_hops = atoi(argv[2]);
+        rests_on_its_way = true;
+    }
     for (int i = 0; i < NODES; i++) cells[i] = (ipcz_cell)IPCZ_CELL_INIT;
     if (ipcz_cells_create_lasting(SLOTS, cells, NODES)) return 1;
     for (uint8_t i = 0; i < NODES; i++) workers[i] = (worker){ .cell = cells[i], .node = i };
@@ -167,7 +211,7 @@ int main(void) {
         if (ipcz_cell_close(&workers[0].cell, kept[i])) return 1;
     if (!rest()) return 1;
     while (!ipcz_cell_open(&workers[0].cell, &kept[0], &sent)) opened++;
-    printf("portals that made %d hops: %d of %d\n", HOPS, travelled, TRAVELLERS);
+    printf("portals that made %d hops: %d of %d\n", most_hops, travelled, TRAVELLERS);
     printf("slots that are to be had again: %d of %d\n", opened, SLOTS - FIRST_PAIRS);
     for (int i = 0; i < NODES; i++) ipcz_cell_destroy(&workers[i].cell);
     return 0;
