@@ -3,7 +3,8 @@
     python3 tools/check_changed.py [COMMIT]    since where this branch left main, if nothing is said; fails if something is wrong
 
 For each crate that has changed, and each above it, lowest first: its proof, its tests' proof, and its tests, over what earlier checks kept in the
-folders `out`. A crate that has changed is laid out by `rt fmt` before, and behind all of them its edits are tried whose function has changed.
+folders `out`. A crate that has changed is laid out by `rt fmt` before, and behind all of them its edits are tried whose function has changed. All other edits
+of these crates are compiled: one may name what has another type now.
 
 What it doesn't show, and the gate does: nothing is proved from nothing, so whoever can write into the folders `out` is trusted; no edit is tried
 of a function that hasn't changed, though a definition or a contract that it names may have; programs aren't run, nor is what the gate tries
@@ -84,8 +85,10 @@ def main() -> None:
         sys.exit(print("check_changed: no crate has changed"))
     checks = Checks(crates, changed)
     checks.run()
-    well = [it for it in crates if it in changed and it not in checks.failed]
+    well = [it for it in crates if it not in checks.failed and any((TOP / "crates" / it / kind).is_dir() for kind in FOLDERS)]
     if well:
+        checks.call("edits", sys.executable, "tools/compile_edits.py", *well)
+    if well := [it for it in well if it in changed]:
         checks.call("edits", sys.executable, "tools/try_edits.py", "--since", commit, *well)
     print(f"check_changed: {len(changed)} crates have changed, {len(crates)} were checked in {time.monotonic() - began:.0f} s; this is not the gate")
     sys.exit(f"FAILED: {' '.join(checks.failed)}" if checks.failed else 0)
