@@ -250,8 +250,8 @@ impl<F: FabricName> Desk<F> {
         self.cell.ready_from(serial)
     }
 
-    // As the how-many-th, below a limit, the first portal of the node comes where a get finds something, in a round that begins at a place; the limit if there
-    // is none.
+    // Counted in a round that begins at a place: the number of the first portal of the node where a get finds something, if it is below a limit; the limit
+    // if there is none.
     pub(crate) fn first_ready(&self, portals: &PortalSet<F>, begin: usize, limit: usize) -> usize
         requires { begin ≤ length portals.now }
         ensures most { result ≤ limit }

@@ -234,7 +234,7 @@ impl<F: FabricName> PortalSet<F> {
         if from < self.portals.len() { from } else { 0 }
     }
 
-    // As the how-many-th the portal of an end at a node comes in a round that begins at a place, if that is below a limit; else the limit.
+    // The number of the portal of an end at a node, counted in a round that begins at a place, if it is below a limit; else the limit.
     pub(crate) fn nth_below(&self, limit: usize, from: usize, node: u8, end: End) -> usize
         requires { from ≤ length self.now }
         ensures most { result ≤ limit }
@@ -264,7 +264,7 @@ impl<F: FabricName> PortalSet<F> {
     }
 }
 
-// As the how-many-th a place comes, of so many, in a round that begins at a place.
+// The number of a place, of so many, counted in a round that begins at a place.
 fn nth_of(count: usize, from: usize, place: usize) -> usize
     requires from { from ≤ count }
     requires inside { place < count }

@@ -54,8 +54,8 @@ pub(crate) fn sleep<R: Wait>(
 }
 
 impl<F: FabricName> Hub<F> {
-    // As the how-many-th, below a limit, the first portal comes that is of a node and where a get finds something, in a round that begins at a place, by one
-    // look under that node's lock; the limit if there is none. And why the node is stopped, if it is.
+    // Counted in a round that begins at a place: the number of the first portal of a node where a get finds something, if it is below a limit, by one look
+    // under that node's lock; the limit if there is none. And why the node is stopped, if it is.
     fn look_at<R: Wait>(
         &self,
         rt: &R,
