@@ -1,33 +1,14 @@
 -- Rounds of portals: a list from a place on, and then what stands before it.
-use Rattle.std.specs.Prelude.{◌≡◌, ◌≢◌, ◌⊎◌, ◌≤◌, ◌<◌, ◌+◌, ◌-◌, ◌++◌, ℕ, zero, suc, Bool, true, false, List, [], ◌∷◌, length, refl, slice_get, Some, MatchBool, drop, nat_lt, take, if◌then◌else◌, Result, Ok, Err, IfOk}
+use Rattle.std.specs.Prelude.{◌≡◌, ◌≢◌, ◌⊎◌, ◌≤◌, ◌<◌, ◌+◌, ◌-◌, ℕ, Bool, true, false, List, length, refl, slice_get, Some, MatchBool, drop, nat_lt, take, if◌then◌else◌, Result, Ok, Err, IfOk}
 use Rattle.std.proofs.Common.{arith, ap, sym, subst, ◌∙◌, inl, inr, length-append, length-drop, length-take}
 use Rattle.std.proofs.lemmas.Bool.{cases_lt}
 use Rattle.std.proofs.lemmas.Bool.Decides.{nat_tests}
 use Rattle.std.proofs.lemmas.Option.{slice_get_within}
+use Rattle.ipcz_world.proofs.facts.Slices.{slice_get-left, slice_get-right, slice_get-drop, slice_get-take}
 use Rattle.ipcz_cell.specs.TableNames.{TableName}
 use Rattle.ipcz_fabric.specs.Portals.{PortalValue}
 use Rattle.ipcz_fabric.specs.PortalSets.{AreOnce, IsNth, in_round}
 use Rattle.ipcz_fabric.specs.Readiness.{ComesBefore, EachBefore, Finds, IsFirstFrom, IsThere}
-
-slice_get-left : {X : Type 0} (xs ys : List X) (k : ℕ) → k < length xs → slice_get (xs ++ ys) k ≡ slice_get xs k
-slice_get-left [] ys k low = absurd (omega (arith, low))
-slice_get-left (x ∷ xs) ys zero low = refl
-slice_get-left (x ∷ xs) ys (suc k) low = slice_get-left xs ys k (omega (arith, low))
-
-slice_get-right : {X : Type 0} (xs ys : List X) (k : ℕ) → slice_get (xs ++ ys) (length xs + k) ≡ slice_get ys k
-slice_get-right [] ys k = ap (slice_get ys) (omega arith)
-slice_get-right (x ∷ xs) ys k = let e : suc (length xs) + k ≡ suc (length xs + k) = omega arith in ap (slice_get (x ∷ xs ++ ys)) e ∙ slice_get-right xs ys k
-
-slice_get-drop : {X : Type 0} (n : ℕ) (xs : List X) (k : ℕ) → slice_get (drop n xs) k ≡ slice_get xs (n + k)
-slice_get-drop zero xs k = ap (slice_get xs) (omega arith)
-slice_get-drop (suc n) [] k = refl
-slice_get-drop (suc n) (x ∷ xs) k = let e : suc n + k ≡ suc (n + k) = omega arith in slice_get-drop n xs k ∙ ap (slice_get (x ∷ xs)) (sym e)
-
-slice_get-take : {X : Type 0} (n : ℕ) (xs : List X) (k : ℕ) → k < n → slice_get (take n xs) k ≡ slice_get xs k
-slice_get-take zero xs k low = absurd (omega (arith, low))
-slice_get-take (suc n) [] k low = refl
-slice_get-take (suc n) (x ∷ xs) zero low = refl
-slice_get-take (suc n) (x ∷ xs) (suc k) low = slice_get-take n xs k (omega (arith, low))
 
 -- a place comes as one number alone
 pub nth_is : (count from place n m : ℕ) → IsNth count from place n → IsNth count from place m → n ≡ m

@@ -1,6 +1,6 @@
 -- What a node sends and takes of an item that brings no end and no moves.
 use Rattle.std.proofs.Common.{◌≡◌, ◌≤◌, ◌||◌, ◌&&◌, ℕ, Bool, true, false, not, nat_lt, nat_le, ◌<◌, is_none, true≢false, ap₂, List, [], length, Option, Some, None, if◌then◌else◌, nat_eq, ap, sym, is_some}
-use Rattle.std.proofs.Common.{refl, ◌∙◌, ◌∷◌, arith}
+use Rattle.std.proofs.Common.{refl, ◌∙◌, ◌∷◌, arith, Ok, Err}
 use Rattle.std.proofs.lemmas.Bool.Decides.{nat_tests}
 use Rattle.ipcz_base.specs.declared.end.End.{End}
 use Rattle.ipcz_base.specs.declared.message.Message.{Message}
@@ -36,7 +36,9 @@ use Rattle.ipcz_node.specs.Sends.{send, serials_for, send_item, post_item, item_
 use Rattle.ipcz_base.specs.declared.refusal.Refusal.{Refusal}
 use Rattle.ipcz_base.specs.declared.refusal.Refusal.TheVariants as refusals
 use Rattle.ipcz_seq.specs.Queue.{Queue, has_place, item_at, push_refusal}
-use Rattle.ipcz_node.specs.Telling.{is_lone}
+use Rattle.ipcz_node.specs.Deliveries.{IsTakenAtOnce}
+use Rattle.ipcz_node.specs.RoomyNodes.{RoomyNode}
+use Rattle.ipcz_node.specs.Telling.{HasRoomFor, is_lone}
 use Rattle.ipcz_node.proofs.Preparing.{serials_there}
 
 -- a send is taken if it is possible
@@ -158,7 +160,7 @@ placed_alone n sender link side number item moves source s r here place ends non
     ∙ fits_alone n sender item moves ends none
 
 -- and its router is there
-pub fit_alone : (n : Node) (sender : ℕ) (link : LinkId) (side : Side) (number : ℕ) (item : Item) (moves : List Descriptor)
+fit_alone : (n : Node) (sender : ℕ) (link : LinkId) (side : Side) (number : ℕ) (item : Item) (moves : List Descriptor)
     (source : Option ℕ) (s : ℕ) (r : Router) → link_router n link side ≡ Some (found s r) →
     has_place_for r (outward_has r link side) number ≡ true → ends_in item ≡ [] → moves ≡ [] →
     is_unfit n sender (messages.Item link side number item moves) source ≡ false
@@ -168,7 +170,7 @@ fit_alone n sender link side number item moves source s r here place ends none =
     ∙ ap (λ (o : Option Found). not (is_some o)) here
 
 -- its router takes it
-pub taken_alone : (n : Node) (sender : ℕ) (link : LinkId) (side : Side) (number : ℕ) (item : Item) (moves : List Descriptor)
+taken_alone : (n : Node) (sender : ℕ) (link : LinkId) (side : Side) (number : ℕ) (item : Item) (moves : List Descriptor)
     (source : Option ℕ) (s : ℕ) (r : Router) → link_router n link side ≡ Some (found s r) →
     has_place_for r (outward_has r link side) number ≡ true → ends_in item ≡ [] → moves ≡ [] →
     free_hand (with_router n s (accept r (outward_has r link side) number item)) sender
@@ -186,13 +188,13 @@ or_true true = refl
 or_true false = refl
 
 -- something grows with it
-pub item_grows : (n : Node) (sender : ℕ) (link : LinkId) (side : Side) (number : ℕ) (item : Item) (moves : List Descriptor)
+item_grows : (n : Node) (sender : ℕ) (link : LinkId) (side : Side) (number : ℕ) (item : Item) (moves : List Descriptor)
     (source : Option ℕ) → message_grows n sender (messages.Item link side number item moves) source ≡ true
 unfolding grows_where_it_fits
 item_grows n sender link side number item moves source = or_true (not (fits n sender (messages.Item link side number item moves) source))
 
 -- and takes no serials for it
-pub takes_none : (n : Node) (sender : ℕ) (link : LinkId) (side : Side) (number : ℕ) (item : Item) (moves : List Descriptor)
+takes_none : (n : Node) (sender : ℕ) (link : LinkId) (side : Side) (number : ℕ) (item : Item) (moves : List Descriptor)
     (source : Option ℕ) → n.next_router ≤ no_number → moves ≡ [] →
     message_lacks_serials n sender (messages.Item link side number item moves) source ≡ false
 unfolding serials_in
@@ -264,7 +266,7 @@ lone : (moves : List Descriptor) (item : Item) → moves ≡ [] → ends_in item
     (nat_eq (length moves) 0 && nat_eq (length (ends_in item)) 0) ≡ true
 lone moves item none ends = ap (λ ds. nat_eq (length ds) 0 && nat_eq (length (ends_in item)) 0) none ∙ ap (λ es. nat_eq (length es) 0) ends
 
-pub lone_fits : (n : Node) (sender : ℕ) (link : LinkId) (side : Side) (number : ℕ) (item : Item) (moves : List Descriptor)
+lone_fits : (n : Node) (sender : ℕ) (link : LinkId) (side : Side) (number : ℕ) (item : Item) (moves : List Descriptor)
     (source : Option ℕ) (s : ℕ) (r : Router) → link_router n link side ≡ Some (found s r) →
     has_place_for r (outward_has r link side) number ≡ true → ends_in item ≡ [] → moves ≡ [] →
     (is_lone (messages.Item link side number item moves) && fits n sender (messages.Item link side number item moves) source) ≡ true
@@ -311,3 +313,52 @@ lone_without_place n sender link side number item moves source s r here place =
     sym (ap (λ o. is_lone (messages.Item link side number item moves) && fits_item n sender link side number item moves o) here
     ∙ ap (λ b. is_lone (messages.Item link side number item moves) && (b && fits_from n sender item moves)) place
     ∙ and_false (is_lone (messages.Item link side number item moves)))
+
+-- a node that is asked to take a message at once doesn't, if that isn't an item without ends and moves, or has no place here
+pub stays_at_once : (k v : RoomyNode) (sender : ℕ) (m : Message) (source : Option ℕ) → false ≡ (is_lone m && fits k.node sender m source) →
+    IsTakenAtOnce k sender m source (Ok false) v
+stays_at_once k v sender m source not_one = record {
+  when = not_one;
+  taken = λ is. absurd (true≢false (sym is));
+  allowed = λ is. absurd (true≢false (sym is));
+  fit = λ is. absurd (true≢false (sym is));
+  why = tt;
+  wanted = tt;
+  full = λ room. refl;
+}
+
+-- it takes an item that has its place at a router
+pub takes_at_once : (k v : RoomyNode) (sender : ℕ) (link : LinkId) (side : Side) (number : ℕ) (item : Item) (moves : List Descriptor)
+    (source : Option ℕ) (s : ℕ) (r : Router) → link_router k.node link side ≡ Some (found s r) →
+    has_place_for r (outward_has r link side) number ≡ true → (moves ≡ []) × (ends_in item ≡ []) → k.node.next_router ≤ no_number →
+    v.node ≡ free_hand (with_router k.node s (accept r (outward_has r link side) number item)) sender →
+    IsTakenAtOnce k sender (messages.Item link side number item moves) source (Ok true) v
+takes_at_once k v sender link side number item moves source s r here place alone low is = record {
+  when = sym (lone_fits k.node sender link side number item moves source s r here place alone.1 alone.0);
+  taken = λ e. is ∙ taken_alone k.node sender link side number item moves source s r here place alone.1 alone.0;
+  allowed = λ e. takes_none k.node sender link side number item moves source low alone.0;
+  fit = λ e. fit_alone k.node sender link side number item moves source s r here place alone.1 alone.0;
+  why = tt;
+  wanted = tt;
+  full = λ room. refl;
+}
+
+-- it wants memory for it, if there is no room
+pub wants_at_once : (k v : RoomyNode) (sender : ℕ) (link : LinkId) (side : Side) (number : ℕ) (item : Item) (moves : List Descriptor)
+    (source : Option ℕ) (s : ℕ) (r : Router) (why : Refusal) → why ≡ refusals.OutOfMemory → link_router k.node link side ≡ Some (found s r) →
+    has_place_for r (outward_has r link side) number ≡ true → (moves ≡ []) × (ends_in item ≡ []) → k.node.next_router ≤ no_number →
+    (HasRoomFor k (messages.Item link side number item moves) → ⊥) →
+    IsTakenAtOnce k sender (messages.Item link side number item moves) source (Err why) v
+wants_at_once k v sender link side number item moves source s r why is here place alone low full = record {
+  when = tt;
+  taken = tt;
+  allowed = tt;
+  fit = tt;
+  why = (
+    is,
+    takes_none k.node sender link side number item moves source low alone.0,
+    item_grows k.node sender link side number item moves source,
+  );
+  wanted = lone_fits k.node sender link side number item moves source s r here place alone.1 alone.0;
+  full = λ room. absurd (full room);
+}

@@ -14,7 +14,8 @@ use Rattle.ipcz_verdict.specs.declared.portal.Portal.{Portal}
 use Rattle.ipcz_verdict.specs.Accounts.{Lies}
 use Rattle.ipcz_verdict.specs.Desks.{AreBooksOf, AreDue, ClosesSome, closing, ends_in, index, portal_at, shut, side_index}
 use Rattle.ipcz_verdict.proofs.Changing.{change_length, seen_apart, seen_same}
-use Rattle.ipcz_verdict.proofs.Facts.{both, drop_get, end_is, end_itself, end_tells, has_end_append, has_end_more}
+use Rattle.ipcz_world.proofs.facts.Slices.{slice_get-drop}
+use Rattle.ipcz_verdict.proofs.Facts.{both, end_is, end_itself, end_tells, has_end_append, has_end_more}
 use Rattle.ipcz_verdict.proofs.Sound.{dropped_free, dropped_lies, sound_close}
 use Rattle.ipcz_verdict.proofs.Turns.{no_turn, one_turn, turns_on}
 
@@ -89,7 +90,7 @@ lies_waiting a pairs s e d books open_e h =
       length (a.got e) + t.place,
       record {
         parcel = t.parcel;
-        put = sym (drop_get (length (a.got e)) (a.put (peer e)) t.place) ∙ ap (λ ps. slice_get ps t.place) (books.waiting e open_e) ∙ t.there;
+        put = sym (slice_get-drop (length (a.got e)) (a.put (peer e)) t.place) ∙ ap (λ ps. slice_get ps t.place) (books.waiting e open_e) ∙ t.there;
         ungot = omega arith;
         carried = t.carried;
       },
@@ -100,7 +101,7 @@ pub waiting_lies : (a : Account) (pairs : ℕ) (s : List Portal) (e d : End) (n 
 waiting_lies a pairs s e d n books open_e lies =
     let q : length (a.got e) + (n - length (a.got e)) ≡ n = omega (arith, lies.ungot) in
     in_ends (portal_at s e).waiting (n - length (a.got e)) lies.parcel d
-    (ap (λ ps. slice_get ps (n - length (a.got e))) (sym (books.waiting e open_e)) ∙ drop_get (length (a.got e)) (a.put (peer e)) (n - length (a.got e))
+    (ap (λ ps. slice_get ps (n - length (a.got e))) (sym (books.waiting e open_e)) ∙ slice_get-drop (length (a.got e)) (a.put (peer e)) (n - length (a.got e))
     ∙ ap (slice_get (a.put (peer e))) q ∙ lies.put)
     lies.carried
 

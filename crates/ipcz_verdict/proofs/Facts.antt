@@ -1,5 +1,5 @@
 -- Small facts of tests, sides, ends and lists.
-use Rattle.std.specs.Prelude.{◌≡◌, ◌⊎◌, ◌<◌, ◌+◌, ℕ, zero, suc, Bool, true, false, not, ◌&&◌, ◌||◌, nat_eq, Option, Some, None, List, [], ◌∷◌, ◌++◌}
+use Rattle.std.specs.Prelude.{◌≡◌, ◌⊎◌, ◌<◌, ℕ, zero, suc, Bool, true, false, not, ◌&&◌, ◌||◌, nat_eq, Option, Some, None, List, [], ◌∷◌, ◌++◌}
 use Rattle.std.specs.Prelude.{length, take, drop, slice_get, refl}
 use Rattle.std.proofs.Common.{arith, ap, ap₂, ◌∙◌, sym, inl, inr}
 use Rattle.std.proofs.lemmas.Bool.Decides.{nat_tests}
@@ -153,11 +153,6 @@ drop_next [] [] x = refl
 drop_next [] (z ∷ xs) x = refl
 drop_next (y ∷ ys) [] x = refl
 drop_next (y ∷ ys) (z ∷ xs) x = drop_next ys xs x
-
-pub drop_get : {X : Type 0} (n : ℕ) (xs : List X) (i : ℕ) → slice_get (drop n xs) i ≡ slice_get xs (n + i)
-drop_get zero xs i = let e : i ≡ 0 + i = omega arith in ap (slice_get xs) e
-drop_get (suc n) [] i = refl
-drop_get (suc n) (x ∷ xs) i = let e : suc (n + i) ≡ suc n + i = omega arith in drop_get n xs i ∙ ap (slice_get (x ∷ xs)) e
 
 -- if nothing is left behind a first part, it is the whole
 pub all_taken : {X : Type 0} (ys xs : List X) → take (length ys) xs ≡ ys → drop (length ys) xs ≡ [] → ys ≡ xs

@@ -25,7 +25,8 @@ use Rattle.ipcz_verdict.specs.Ledger.{Binds, Ledger, MayLine, meant, put_step, w
 use Rattle.ipcz_verdict.specs.Desks.{AreDue, Decides, DecidesCall, Desk, account_of, ends_if, held_by, may_open, may_refuse_close, may_refuse_get, may_refuse_open, may_refuse_put, next_ends, opening, portal_at, receiving}
 use Rattle.ipcz_verdict.proofs.Allowed.{due_get, due_open, fresh_pair}
 use Rattle.ipcz_verdict.proofs.Deciding.{books_hold}
-use Rattle.ipcz_verdict.proofs.Facts.{both, drop_get, same_some, some_none}
+use Rattle.ipcz_world.proofs.facts.Slices.{slice_get-drop}
+use Rattle.ipcz_verdict.proofs.Facts.{both, same_some, some_none}
 use Rattle.ipcz_verdict.proofs.Refusals.{close_all, close_right, get_all, get_right, open_all, open_right, put_all, put_right}
 use Rattle.ipcz_verdict.proofs.Sound.{holder_is}
 use Rattle.ipcz_verdict.proofs.Turns.{no_rest}
@@ -249,7 +250,7 @@ if_from c bytes o ends yes_it_is is =
     ap₂ (λ x y. ends_if x bytes y) yes_it_is is ∙ ap (λ c. if c then Some ends else None) ((bytes_eq-Decides bytes bytes).1 refl)
 
 first_left : (a : Account) (at : End) → slice_get (drop (length (a.got at)) (a.put (peer at))) 0 ≡ slice_get (a.put (peer at)) (length (a.got at))
-first_left a at = let e : length (a.got at) + 0 ≡ length (a.got at) = omega arith in drop_get (length (a.got at)) (a.put (peer at)) 0 ∙ ap (slice_get (a.put (peer at))) e
+first_left a at = let e : length (a.got at) + 0 ≡ length (a.got at) = omega arith in slice_get-drop (length (a.got at)) (a.put (peer at)) 0 ∙ ap (slice_get (a.put (peer at))) e
 
 next_right : (a : Account) (pairs : ℕ) (s : List Portal) (node : ℕ) (at : End) (number : ℕ) (bytes : List ℕ) (ends : List End) → AreDue a pairs s [] →
     next_ends s node at number bytes ≡ Some ends → Next a node at number bytes ends

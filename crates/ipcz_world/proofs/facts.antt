@@ -1,4 +1,4 @@
--- Small facts: what tests of links and sides tell, lengths, queues, and routers that are found in a node.
+-- Small facts: what tests of links and sides tell, lengths, places of lists, queues, and routers that are found in a node.
 pub mod Claimed
 pub mod Drained
 pub mod Lost
@@ -10,5 +10,6 @@ pub mod Queues
 pub mod Reaching
 pub mod RecordsAfter
 pub mod SameItems
+pub mod Slices
 pub mod Tests
 pub mod Updates

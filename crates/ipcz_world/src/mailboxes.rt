@@ -1,7 +1,7 @@
 //! A world's mailboxes, one for each way between two nodes.
-ghost use Rattle.std.specs.Prelude.{ℕ, ◌≡◌, ◌<◌, ◌≤◌, true, false, Option, Some, is_some, IfOk, IfErr, OnOk, OnErr, cond, length, replicate, List};
+ghost use Rattle.std.specs.Prelude.{ℕ, ◌≡◌, ◌<◌, ◌≤◌, true, false, Option, Some, is_some, IfOk, OnOk, OnErr, cond, length, replicate, List};
 ghost use Rattle.std.specs.Prelude.{option_copied};
-ghost use Rattle.ipcz_node.specs.Hands.{deliver, message_grows, message_lacks_serials};
+ghost use Rattle.ipcz_node.specs.Deliveries.{IsTakenAtOnce};
 ghost use Rattle.ipcz_base.specs.Totals.{total_list};
 ghost use Rattle.ipcz_world.specs.Tallies.{Tells};
 ghost use Rattle.ipcz_base.specs.Indexed.{place_at, put_place};
@@ -163,16 +163,11 @@ impl Mailboxes {
         from: u8,
     ) -> Result<bool, Refusal>
         requires { k < length self.old }
-        ensures taken { (m : Message) → (source : Option ℕ) → hand_message (place_at Mail.Empty self.old k) ≡ Some m →
-            IfOk result (λ taken. taken ≡ true → node.new.node ≡ deliver node.old.node from m source) }
-        ensures allowed { (m : Message) → (source : Option ℕ) → hand_message (place_at Mail.Empty self.old k) ≡ Some m →
-            IfOk result (λ taken. taken ≡ true → message_lacks_serials node.old.node from m source ≡ false) }
+        ensures tried { (m : Message) → (source : Option ℕ) → hand_message (place_at Mail.Empty self.old k) ≡ Some m →
+            IsTakenAtOnce node.old from m source result node.new }
         ensures mail { IfOk result
             (λ taken. taken ≡ true → self.new ≡ put_place Mail.Empty self.old k (put_down (place_at Mail.Empty self.old k))) }
-        ensures left { IfOk result (λ taken. taken ≡ false → (self.new ≡ self.old) × (node.new.node ≡ node.old.node)) }
-        ensures why { (m : Message) → (source : Option ℕ) → hand_message (place_at Mail.Empty self.old k) ≡ Some m →
-            IfErr result (λ e. (e ≡ Refusal.OutOfMemory) × (message_lacks_serials node.old.node from m source ≡ false) ×
-            (message_grows node.old.node from m source ≡ true)) }
+        ensures left { IfOk result (λ taken. taken ≡ false → (self.new ≡ self.old) × (node.new ≡ node.old)) }
         ensures err { OnErr result ((self.new ≡ self.old) × (node.new.node ≡ node.old.node)) }
     {
         let place = &mut self.boxes[k];
@@ -238,15 +233,10 @@ fn count_full(boxes: &[Mail]) -> usize
 #[inline(always)]
 #[tactic(auto, unfolding(crate::specs::Mailing::as_marked, crate::specs::Mailing::taken_up, crate::specs::Turns::hand_message, crate::specs::Turns::is_full))]
 fn hand_at(place: &mut Mail, marked: bool, node: &mut NodeState, from: u8) -> Result<bool, Refusal>
-    ensures taken { (m : Message) → (source : Option ℕ) → hand_message (as_marked marked place.old) ≡ Some m →
-        IfOk result (λ taken. taken ≡ true → node.new.node ≡ deliver node.old.node from m source) }
-    ensures allowed { (m : Message) → (source : Option ℕ) → hand_message (as_marked marked place.old) ≡ Some m →
-        IfOk result (λ taken. taken ≡ true → message_lacks_serials node.old.node from m source ≡ false) }
+    ensures tried { (m : Message) → (source : Option ℕ) → hand_message (as_marked marked place.old) ≡ Some m →
+        IsTakenAtOnce node.old from m source result node.new }
     ensures hand { IfOk result (λ taken. taken ≡ true → is_full (as_marked marked place.old) ≡ false) }
-    ensures left { IfOk result (λ taken. taken ≡ false → (place.new ≡ place.old) × (node.new.node ≡ node.old.node)) }
-    ensures why { (m : Message) → (source : Option ℕ) → hand_message (as_marked marked place.old) ≡ Some m →
-        IfErr result (λ e. (e ≡ Refusal.OutOfMemory) × (message_lacks_serials node.old.node from m source ≡ false) ×
-        (message_grows node.old.node from m source ≡ true)) }
+    ensures left { IfOk result (λ taken. taken ≡ false → (place.new ≡ place.old) × (node.new ≡ node.old)) }
     ensures err { OnErr result ((place.new ≡ place.old) × (node.new.node ≡ node.old.node)) }
 {
     match place {

@@ -8,10 +8,10 @@ ghost use Rattle.ipcz_router.specs.Calls.{has_place_for};
 ghost use Rattle.ipcz_node.specs.Node.{router_in, link_router, found, add_router, add_stray};
 ghost use Rattle.ipcz_node.specs.RoomyNodes.{AreLow};
 ghost use Rattle.ipcz_node.specs.Hands.{has_moved, is_new_move, fit_moves, fits_from, fits_item, make_terminals, take_in, free_hand, fits, handle};
-ghost use Rattle.ipcz_node.specs.Hands.{deliver, message_lacks_serials, message_grows, grows_where_it_fits, serials_in, is_unfit};
-ghost use Rattle.ipcz_node.specs.Deliveries.{IsDeliveredInPlace};
+ghost use Rattle.ipcz_node.specs.Hands.{deliver, message_lacks_serials, message_grows, grows_where_it_fits, serials_in};
+ghost use Rattle.ipcz_node.specs.Deliveries.{IsDeliveredInPlace, IsTakenAtOnce};
 ghost use Rattle.ipcz_node.specs.Events.{hand_event};
-ghost use Rattle.ipcz_node.specs.Telling.{HasRoomFor, HasRoomForItem, brings_item, is_lone};
+ghost use Rattle.ipcz_node.specs.Telling.{HasRoomFor, HasRoomForItem, brings_item};
 ghost use Rattle.std.specs.Prelude.{◌&&◌, nat_eq, nat_lt};
 
 use super::NodeState;
@@ -432,19 +432,8 @@ impl NodeState {
     /// It answers `OutOfMemory` if there was no room for such an item and none was found; then nothing has changed.
     #[tactic(auto, unfolding(crate::specs::Telling::brings_item, crate::specs::Telling::is_lone))]
     pub fn deliver_at_once(&mut self, from: u8, message: &mut Message) -> Result<bool, Refusal>
-        ensures taken { (source : Option ℕ) → IfOk result (λ taken. taken ≡ true → self.new.node ≡ deliver self.old.node from message.old source) }
-        ensures allowed { (source : Option ℕ) →
-            IfOk result (λ taken. taken ≡ true → message_lacks_serials self.old.node from message.old source ≡ false) }
-        ensures fit { (source : Option ℕ) → IfOk result (λ taken. taken ≡ true → is_unfit self.old.node from message.old source ≡ false) }
-        ensures when { (source : Option ℕ) →
-            IfOk result (λ taken. taken ≡ (is_lone message.old && fits self.old.node from message.old source)) }
+        ensures tried { (source : Option ℕ) → IsTakenAtOnce self.old from message.old source result self.new }
         ensures left { IfOk result (λ taken. taken ≡ false → (message.new ≡ message.old) × (self.new ≡ self.old)) }
-        ensures why { (source : Option ℕ) →
-            IfErr result (λ e. (e ≡ Refusal.OutOfMemory) × (message_lacks_serials self.old.node from message.old source ≡ false) ×
-            (message_grows self.old.node from message.old source ≡ true)) }
-        ensures wanted { (source : Option ℕ) →
-            OnErr result ((is_lone message.old && fits self.old.node from message.old source) ≡ true) }
-        ensures full { HasRoomFor self.old message.old → IsOk result }
         ensures err { OnErr result ((message.new ≡ message.old) × (self.new.node ≡ self.old.node)) }
         ensures other { brings_item message.old ≡ false → result ≡ Ok false }
     {
@@ -471,24 +460,9 @@ impl NodeState {
         item: &mut Item,
         moves: &Moves,
     ) -> Result<bool, Refusal>
-        ensures taken { (source : Option ℕ) →
-            IfOk result (λ taken. taken ≡ true → self.new.node ≡ deliver self.old.node from (Message.Item link side n item.old moves.now) source) }
-        ensures allowed { (source : Option ℕ) →
-            IfOk result (λ taken. taken ≡ true → message_lacks_serials self.old.node from (Message.Item link side n item.old moves.now) source ≡ false) }
-        ensures fit { (source : Option ℕ) →
-            IfOk result (λ taken. taken ≡ true → is_unfit self.old.node from (Message.Item link side n item.old moves.now) source ≡ false) }
-        ensures when { (source : Option ℕ) →
-            IfOk result (λ taken. taken ≡ (is_lone (Message.Item link side n item.old moves.now) &&
-            fits self.old.node from (Message.Item link side n item.old moves.now) source)) }
+        ensures tried { (source : Option ℕ) →
+            IsTakenAtOnce self.old from (Message.Item link side n item.old moves.now) source result self.new }
         ensures left { IfOk result (λ taken. taken ≡ false → (item.new ≡ item.old) × (self.new ≡ self.old)) }
-        ensures why { (source : Option ℕ) →
-            IfErr result (λ e. (e ≡ Refusal.OutOfMemory) ×
-            (message_lacks_serials self.old.node from (Message.Item link side n item.old moves.now) source ≡ false) ×
-            (message_grows self.old.node from (Message.Item link side n item.old moves.now) source ≡ true)) }
-        ensures wanted { (source : Option ℕ) →
-            OnErr result ((is_lone (Message.Item link side n item.old moves.now) &&
-            fits self.old.node from (Message.Item link side n item.old moves.now) source) ≡ true) }
-        ensures full { HasRoomFor self.old (Message.Item link side n item.old moves.now) → IsOk result }
         ensures err { OnErr result ((item.new ≡ item.old) × (self.new.node ≡ self.old.node)) }
     {
         self.counts_serials();

@@ -6,6 +6,7 @@ use Rattle.ipcz_world.proofs.Vocabulary.{ends_in, World, Key, same_key, node_at,
 use Rattle.ipcz_world.proofs.Vocabulary.{Weight, in_router, at_end, names_end, times, EndPlaces, BooksKept, Conserved, HeldOnce, times_held, Items}
 use Rattle.ipcz_world.proofs.Vocabulary.{FreshNumbers, Inv, Mark, Retired, RetiredEnds, Gones, Parcel, next_number, from_number}
 use Rattle.ipcz_world.proofs.frames.Booking.{mark_found}
+use Rattle.ipcz_world.proofs.facts.Slices.{slice_get-drop}
 use Rattle.ipcz_world.proofs.facts.Tests.{not_both}
 use Rattle.ipcz_world.proofs.frames.GonesKept.{IsGoneRight, right-of, right-books, gones-one, gones-all}
 use Rattle.ipcz_world.proofs.frames.OfRecords.{holds, in_places}
@@ -46,13 +47,6 @@ from_number-found h n (x ∷ xs) l = go (h n x) refl (λ f. from_number-found h 
         (suc f.0, f.1, f.2, subst (λ m. 1 ≤ h m f.1) m f.3)
     go (suc a) e more = let m : n ≡ n + 0 = omega arith in let l : 1 ≤ h n x = omega (arith, e) in (0, x, refl, subst (λ m. 1 ≤ h m x) m l)
 
-pub slice_get-drop : {X : Type 0} (k : ℕ) (xs : List X) (j n : ℕ) (x : X) → slice_get (drop k xs) j ≡ Some x → n ≡ k + j →
-    slice_get xs n ≡ Some x
-slice_get-drop zero xs j n x h e = let s : j ≡ n = omega (arith, e) in ap (slice_get xs) (sym s) ∙ h
-slice_get-drop (suc k) [] j n x h e = cc
-slice_get-drop (suc k) (y ∷ xs) j zero x h e = absurd (omega (arith, e))
-slice_get-drop (suc k) (y ∷ xs) j (suc n) x h e = slice_get-drop k xs j n x h (omega (arith, e))
-
 drop-at : {X : Type 0} (k : ℕ) (xs : List X) (x : X) → slice_get xs k ≡ Some x → drop k xs ≡ x ∷ drop (suc k) xs
 drop-at k [] x h = cc
 drop-at zero (y ∷ xs) x h = let e : y ≡ x = cc in ap (λ z. z ∷ xs) e
@@ -79,7 +73,7 @@ in_numbers w b g k r n item law l here at =
     let is = weighs (nat_eq (read b (opposite_end e) + found.0) n && same_item found.1 item) found.3 in
     let number : n ≡ read b (opposite_end e) + found.0 = sym (nat_eq-is (read b (opposite_end e) + found.0) n
     (and_first (nat_eq (read b (opposite_end e) + found.0) n) (same_item found.1 item) is)) in
-    slice_get-drop (read b (opposite_end e)) (b.put e) found.0 n found.1 found.2 number ∙ ap Some
+    ap (slice_get (b.put e)) number ∙ sym (slice_get-drop (read b (opposite_end e)) (b.put e) found.0) ∙ found.2 ∙ ap Some
     (same_item-tells found.1 item (and_second (nat_eq (read b (opposite_end e) + found.0) n) (same_item found.1 item) is))
   where
     weighs : (c : Bool) → 1 ≤ flag c → c ≡ true

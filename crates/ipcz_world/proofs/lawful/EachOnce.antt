@@ -12,6 +12,7 @@ use Rattle.ipcz_world.proofs.facts.LinkTests.{same_end-itself, opposite_end-twic
 use Rattle.ipcz_world.proofs.frames.Weighing.{in_router-is}
 use Rattle.ipcz_world.proofs.frames.Booking.{total-has, in_router-within}
 use Rattle.ipcz_world.proofs.facts.SameItems.{same_item-itself, same_item-tells}
+use Rattle.ipcz_world.proofs.facts.Slices.{slice_get-drop}
 
 pub just-here : (n : ℕ) (x : Item) → just n x n x ≡ 1
 just-here n x = let e : nat_eq n n ≡ true = grind (arith, nat_tests) in rw (e, same_item-itself x) refl
@@ -52,11 +53,6 @@ in_list n first x (y ∷ ys) h = go (just n x first y) refl (in_list n (first + 
         (i : ℕ) × (n ≡ (first + 1) + i) × (slice_get ys i ≡ Some x)) → (i : ℕ) × (n ≡ first + i) × (slice_get (y ∷ ys) i ≡ Some x)
     go zero e more = let t = more (omega (arith, h, e)) in (suc t.0, omega (arith, t.1), t.2)
     go (suc a) e more = let t = just-tells n first x y (omega (arith, e)) in (zero, omega (arith, t.0), ap Some t.1)
-
-slice_get-drop : {X : Type 0} (n : ℕ) (xs : List X) (i : ℕ) → slice_get (drop n xs) i ≡ slice_get xs (n + i)
-slice_get-drop zero xs i = ap (slice_get xs) (omega arith)
-slice_get-drop (suc n) [] i = refl
-slice_get-drop (suc n) (x ∷ xs) i = let e : suc n + i ≡ suc (n + i) = omega arith in slice_get-drop n xs i ∙ ap (slice_get (x ∷ xs)) (sym e)
 
 pub unread-has : (b : Books) (e : End) (n : ℕ) (x : Item) → read b (opposite_end e) ≤ n → slice_get (b.put e) n ≡ Some x →
     unread_weight (just n x) b e ≡ 1

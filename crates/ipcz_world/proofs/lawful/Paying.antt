@@ -8,7 +8,8 @@ use Rattle.ipcz_base.specs.Items.{same_item}
 use Rattle.ipcz_world.proofs.frames.OfRecords.{in_places}
 use Rattle.ipcz_world.proofs.frames.Weights.{in_out_queue, in_in_queue}
 use Rattle.ipcz_world.proofs.frames.Booking.{flag, more_here, in_router-within}
-use Rattle.ipcz_world.proofs.acts.Reading.{from_number-found, slice_get-drop}
+use Rattle.ipcz_world.proofs.acts.Reading.{from_number-found}
+use Rattle.ipcz_world.proofs.facts.Slices.{slice_get-drop}
 use Rattle.ipcz_world.proofs.facts.Tests.{nat_eq-itself, and_first, and_second, nat_eq-is}
 use Rattle.ipcz_world.proofs.facts.SameItems.{same_item-itself, same_item-tells}
 use Rattle.ipcz_world.specs.Ranks.{moving_worth, IsRated, ActsLowerTheRank}
@@ -40,7 +41,7 @@ placed w b g k r e n item law l here some =
     let number : n ≡ read b (opposite_end e) + found.0 = sym (nat_eq-is (read b (opposite_end e) + found.0) n
     (and_first (nat_eq (read b (opposite_end e) + found.0) n) (same_item found.1 item) is)) in (
       omega (arith, number),
-      slice_get-drop (read b (opposite_end e)) (b.put e) found.0 n found.1 found.2 number ∙ ap Some
+      ap (slice_get (b.put e)) number ∙ sym (slice_get-drop (read b (opposite_end e)) (b.put e) found.0) ∙ found.2 ∙ ap Some
           (same_item-tells found.1 item (and_second (nat_eq (read b (opposite_end e) + found.0) n) (same_item found.1 item) is)),
     )
   where

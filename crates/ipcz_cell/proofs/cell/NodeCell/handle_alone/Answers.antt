@@ -13,7 +13,7 @@ use Rattle.ipcz_cell.proofs.cell.NodeCell.handle_alone.Goals as goal
 pub returns-in-Err-clause-why : goal.returns-in-Err-clause-why
 returns-in-Err-clause-why g c =
     let was = c.self.invariant.0 in
-    let why = c.in-Err.ensures.why c.args.source in
+    let why = (c.in-Err.ensures.tried c.args.source).why in
     let message : c.args.self.now.part.message ≡ Some c.in-Some.message = sym (ap (λ (z : CellState). z.part.message) c.self.view_is) ∙ (was.message ∙ c.in-Some.is) in
     let state : c.args.self.now.part.state ≡ c.self.inside.state.node = sym (ap (λ (z : CellState). z.part.state) c.self.view_is) ∙ was.seated.state in
     (c.in-Some.message, message, why.0, ap (λ (z : Node). message_lacks_serials z c.args.from c.in-Some.message c.args.source) state ∙ why.1)
@@ -44,6 +44,6 @@ invariant_of-self-in-Ok-true g c =
     let l = c.leave_slot.ensures in (
       handed_cell t c.self.inside.state.node c.deliver_at_once.new.self.node c.self.inside.message c.self.inside.probed c.self.inside.held c.self.inside.seat.table_id c.leave_slot.new.seat.table_id (mine_of c.self.inside.seat.me) was
           l.table (mine_of c.leave_slot.new.seat.me) c.args.from c.args.source c.in-Some.message c.leave_slot.new.held l.sound (ap (λ (z : CellState). z.part.state.hand) c.self.view_is ∙ c.requires.hand)
-          (was.message ∙ c.in-Some.is) l.done l.left l.held (c.in-Ok-true.ensures.taken c.args.source c.in-Ok-true.field-0-test),
+          (was.message ∙ c.in-Some.is) l.done l.left l.held ((c.in-Ok-true.ensures.tried c.args.source).taken c.in-Ok-true.field-0-test),
       none_then l.slots c.self.invariant.1,
     )

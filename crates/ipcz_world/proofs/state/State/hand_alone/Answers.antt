@@ -11,7 +11,7 @@ returns-in-Ok-clause-taken c did source =
     let over = c.args.over.now in
     let there = c.node_mut-node.ensures.value ∙ ap (λ (w : World). node_at w over.other) c.self.view_is in
     let moves = c.from_vec-moves.ensures ∙ c.new.ensures.items in
-    ap (set_node (the_view c.self.inside) over.other) (c.in-Ok.ensures.taken source did)
+    ap (set_node (the_view c.self.inside) over.other) ((c.in-Ok.ensures.tried source).taken did)
     ∙ (λ j. set_node (c.self.view_is j) over.other (deliver (there j) c.args.n
     (messages.Item over.link (c.opposite-across.ensures j) c.args.number c.args.item.now (moves j)) source))
 
@@ -23,7 +23,7 @@ returns-in-Ok-clause-allowed c did source =
     let moves = c.from_vec-moves.ensures ∙ c.new.ensures.items in
     sym (λ j. message_lacks_serials (there j) c.args.n
     (messages.Item over.link (c.opposite-across.ensures j) c.args.number c.args.item.now (moves j)) source)
-    ∙ c.in-Ok.ensures.allowed source did
+    ∙ (c.in-Ok.ensures.tried source).allowed did
 
 pub returns-in-Ok-clause-left : goal.returns-in-Ok-clause-left
 unfolding node_at set_node

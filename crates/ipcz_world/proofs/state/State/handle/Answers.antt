@@ -18,7 +18,7 @@ handle_any-requires-clause-regular g c =
     let a = asked _ _ c.args.n (Hand c.args.from) c.self.view_is c.requires.regular c.requires.node c.requires.possible in
     let left = c.in-Ok-false.ensures.left c.in-Ok-false.field-0-test in
     let same = unchanged-both (the_view c.self.inside) c.args.n c.node_mut.result.now.node c.hand_over.new.node.node c.hand_over.new.self
-    a.regular.lengths a.here c.node_mut.ensures.value left.1 left.0 ∙ c.self.view_is in
+    a.regular.lengths a.here c.node_mut.ensures.value (ap (λ k. k.node) left.1) left.0 ∙ c.self.view_is in
     (asked _ _ c.args.n (Hand c.args.from) same c.requires.regular c.requires.node c.requires.possible).regular
 
 pub handle_any-requires-clause-possible : goal.handle_any-requires-clause-possible
@@ -27,7 +27,7 @@ handle_any-requires-clause-possible g c =
     let a = asked _ _ c.args.n (Hand c.args.from) c.self.view_is c.requires.regular c.requires.node c.requires.possible in
     let left = c.in-Ok-false.ensures.left c.in-Ok-false.field-0-test in
     let same = unchanged-both (the_view c.self.inside) c.args.n c.node_mut.result.now.node c.hand_over.new.node.node c.hand_over.new.self
-    a.regular.lengths a.here c.node_mut.ensures.value left.1 left.0 ∙ c.self.view_is in
+    a.regular.lengths a.here c.node_mut.ensures.value (ap (λ k. k.node) left.1) left.0 ∙ c.self.view_is in
     (asked _ _ c.args.n (Hand c.args.from) same c.requires.regular c.requires.node c.requires.possible).may
 
 pub handle_any-requires-clause-told : goal.handle_any-requires-clause-told
@@ -36,7 +36,7 @@ handle_any-requires-clause-told g c =
     let a = asked _ _ c.args.n (Hand c.args.from) c.self.view_is c.requires.regular c.requires.node c.requires.possible in
     let left = c.in-Ok-false.ensures.left c.in-Ok-false.field-0-test in
     let same = unchanged-both (the_view c.self.inside) c.args.n c.node_mut.result.now.node c.hand_over.new.node.node c.hand_over.new.self
-    a.regular.lengths a.here c.node_mut.ensures.value left.1 left.0 ∙ c.self.view_is in
+    a.regular.lengths a.here c.node_mut.ensures.value (ap (λ k. k.node) left.1) left.0 ∙ c.self.view_is in
     subst (λ (w : World). g.T.Told.tells (turn_event w c.args.n (Hand c.args.from)) c.hand_told-told.result) (sym same) c.hand_told-told.ensures
 
 pub returns-in-Ok-false : goal.returns-in-Ok-false
@@ -45,7 +45,7 @@ returns-in-Ok-false g c =
     let a = asked _ _ c.args.n (Hand c.args.from) c.self.view_is c.requires.regular c.requires.node c.requires.possible in
     let left = c.in-Ok-false.ensures.left c.in-Ok-false.field-0-test in
     let same = unchanged-both (the_view c.self.inside) c.args.n c.node_mut.result.now.node c.hand_over.new.node.node c.hand_over.new.self
-    a.regular.lengths a.here c.node_mut.ensures.value left.1 left.0 ∙ c.self.view_is in
+    a.regular.lengths a.here c.node_mut.ensures.value (ap (λ k. k.node) left.1) left.0 ∙ c.self.view_is in
     subst (λ (w : World). IsTaken g.T.Told.tells w c.args.n (Hand c.args.from) c.handle_any.result c.handle_any.new.self) same
     c.handle_any.ensures
 
@@ -57,6 +57,7 @@ returns-in-Ok-true g c =
     let place = c.way-place.ensures.way ∙ ap (λ (w : World). way w c.args.from c.args.n) (sym c.self.view_is) in
     let there = some-there (hand_message (mail_at w (way w c.args.from c.args.n))) (has-in-hand w c.args.n c.args.from a.may) in
     let seen = ap (λ k. hand_message (place_at Empty c.self.inside.mail k)) place ∙ there.1 in
+    let tried = c.in-Ok-true.ensures.tried there.0 (source_for w there.0) seen in
     let kept = c.in-Ok-true.ensures.mail c.in-Ok-true.field-0-test ∙
     ap (λ k. put_place Empty c.self.inside.mail k (put_down (place_at Empty c.self.inside.mail k))) place in
     rw (← c.self.view_is)
@@ -64,8 +65,7 @@ returns-in-Ok-true g c =
     c.hand_over.new.self
     (subst (λ (v : World). g.T.Told.tells (turn_event v c.args.n (Hand c.args.from)) c.hand_told-told.result) (sym c.self.view_is)
     c.hand_told-told.ensures) c.node_mut.ensures.value there.1
-    (c.in-Ok-true.ensures.taken there.0 (source_for w there.0) seen c.in-Ok-true.field-0-test)
-    (c.in-Ok-true.ensures.allowed there.0 (source_for w there.0) seen c.in-Ok-true.field-0-test) kept)
+    (tried.taken c.in-Ok-true.field-0-test) (tried.allowed c.in-Ok-true.field-0-test) kept)
 
 pub returns-in-Err : goal.returns-in-Err
 unfolding node_at mail_at
@@ -75,7 +75,7 @@ returns-in-Err g c =
     let place = c.way-place.ensures.way ∙ ap (λ (w : World). way w c.args.from c.args.n) (sym c.self.view_is) in
     let there = some-there (hand_message (mail_at w (way w c.args.from c.args.n))) (has-in-hand w c.args.n c.args.from a.may) in
     let seen = ap (λ k. hand_message (place_at Empty c.self.inside.mail k)) place ∙ there.1 in
-    let told = c.in-Err.ensures.why there.0 (source_for w there.0) seen in
+    let told = (c.in-Err.ensures.tried there.0 (source_for w there.0) seen).why in
     rw (← c.self.view_is)
     (kept-hand g.T.Told.tells w c.args.n c.args.from there.0 c.in-Err.why c.node_mut.result.now.node c.hand_over.new.node.node c.hand_over.new.self
     a.regular.lengths a.here c.node_mut.ensures.value there.1 c.in-Err.ensures.err.1
