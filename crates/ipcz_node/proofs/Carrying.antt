@@ -170,7 +170,7 @@ fit_alone n sender link side number item moves source s r here place ends none =
     ∙ ap (λ (o : Option Found). not (is_some o)) here
 
 -- its router takes it
-taken_alone : (n : Node) (sender : ℕ) (link : LinkId) (side : Side) (number : ℕ) (item : Item) (moves : List Descriptor)
+pub taken_alone : (n : Node) (sender : ℕ) (link : LinkId) (side : Side) (number : ℕ) (item : Item) (moves : List Descriptor)
     (source : Option ℕ) (s : ℕ) (r : Router) → link_router n link side ≡ Some (found s r) →
     has_place_for r (outward_has r link side) number ≡ true → ends_in item ≡ [] → moves ≡ [] →
     free_hand (with_router n s (accept r (outward_has r link side) number item)) sender
@@ -194,7 +194,7 @@ unfolding grows_where_it_fits
 item_grows n sender link side number item moves source = or_true (not (fits n sender (messages.Item link side number item moves) source))
 
 -- and takes no serials for it
-takes_none : (n : Node) (sender : ℕ) (link : LinkId) (side : Side) (number : ℕ) (item : Item) (moves : List Descriptor)
+pub takes_none : (n : Node) (sender : ℕ) (link : LinkId) (side : Side) (number : ℕ) (item : Item) (moves : List Descriptor)
     (source : Option ℕ) → n.next_router ≤ no_number → moves ≡ [] →
     message_lacks_serials n sender (messages.Item link side number item moves) source ≡ false
 unfolding serials_in
