@@ -15,7 +15,8 @@ use Rattle.ipcz_world.proofs.facts.Updates.{CanAct, begin_act}
 use Rattle.ipcz_world.proofs.acts.Beginning.{CanBegin, Begins, begins-of}
 use Rattle.ipcz_world.proofs.acts.BegunWorld.{Sends, sends-push}
 use Rattle.ipcz_world.proofs.acts.BegunAround.{IsBegunFrom, begun-from}
-use Rattle.ipcz_world.proofs.acts.BegunLinks.{counts-begun, shape-begun, links-begun, positions-begun}
+use Rattle.ipcz_world.proofs.acts.BegunLinks.{counts-begun, shape-begun}
+use Rattle.ipcz_world.proofs.acts.BegunRoles.{links-begun, positions-begun}
 use Rattle.ipcz_world.proofs.acts.BegunStages.{stands-begun, words-begun, spares-begun, bypasses-begun, stages-begun}
 use Rattle.ipcz_world.proofs.acts.BegunNumbers.{begin_message, ordered-begun, moves-begun, terminals-begun, end_places-begun, books-begun}
 use Rattle.ipcz_world.proofs.acts.BegunNumbers.{items-begun, order-begun, proxy_numbers-begun, fresh_numbers-begun, conserved-begun}
