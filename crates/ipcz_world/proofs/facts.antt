@@ -7,10 +7,6 @@ pub mod Lengths
 pub mod LinkTests
 pub mod NodeCount
 pub mod Queues
-pub mod Roles
-pub mod RolesTell
-pub mod RolesKept
-pub mod RolesOf
 pub mod Reaching
 pub mod RecordsAfter
 pub mod SameItems

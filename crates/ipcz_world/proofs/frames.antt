@@ -49,6 +49,10 @@ pub mod Placing
 pub mod PositionsKept
 pub mod RecordRules
 pub mod SameMessages
+pub mod Roles
+pub mod RolesKept
+pub mod RolesOf
+pub mod RolesTell
 pub mod Sealing
 pub mod Seen
 pub mod SourceWeights

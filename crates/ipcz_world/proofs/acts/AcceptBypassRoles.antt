@@ -14,12 +14,12 @@ use Rattle.ipcz_world.proofs.frames.Unmoved.{side_node-agree, bypass_of-agree, p
 use Rattle.ipcz_world.proofs.frames.Handing.{handed_on}
 use Rattle.ipcz_world.proofs.facts.Updates.{tells_stop}
 use Rattle.ipcz_world.proofs.frames.Sealing.{Sealed, Closed, links_of, bypasses_of, positions_of, roles_of}
-use Rattle.ipcz_world.proofs.facts.Roles.{begun-kept, Across, Role, Unbegun, Begun, end_of, outward_of, inward_of, until, IsOn, Fits}
-use Rattle.ipcz_world.proofs.facts.Roles.{HasRole, BegunRecords, Roles, trim-decays, until-same, trim, has_inner, end-is}
-use Rattle.ipcz_world.proofs.facts.RolesKept.{knows-agree, Knows, Keeps, role-kept, on-kept, end-kept, inward-kept}
+use Rattle.ipcz_world.proofs.frames.Roles.{begun-kept, Across, Role, Unbegun, Begun, end_of, outward_of, inward_of, until, IsOn, Fits}
+use Rattle.ipcz_world.proofs.frames.Roles.{HasRole, BegunRecords, Roles, trim-decays, until-same, trim, has_inner, end-is}
+use Rattle.ipcz_world.proofs.frames.RolesKept.{knows-agree, Knows, Keeps, role-kept, on-kept, end-kept, inward-kept}
 use Rattle.ipcz_world.proofs.acts.AcceptBypassRecords.{bypasses-accept}
 use Rattle.ipcz_world.proofs.acts.AcceptBypassStages.{stands-accept}
-use Rattle.ipcz_world.proofs.facts.RolesTell.{links-of-roles, positions-of-roles}
+use Rattle.ipcz_world.proofs.frames.RolesTell.{links-of-roles, positions-of-roles}
 use Rattle.ipcz_world.proofs.acts.AcceptBypassAround.{known_across, begun, CanAccept, here, on, is, known, on_old, at_side, fresh_linked, fresh_live, two, proxy_is}
 use Rattle.ipcz_world.proofs.acts.AcceptBypassViews.{at_o, changed, agree, router_of, stage_after, accepted_after, taken_after, is_new-here}
 use Rattle.ipcz_world.proofs.acts.AcceptBypassLinks.{known_after, x_at_end, split, known4-accepted, known4-taken, known5-accepted}

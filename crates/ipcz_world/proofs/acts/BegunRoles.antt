@@ -8,12 +8,12 @@ use Rattle.std.proofs.lemmas.Option.{same_Some}
 use Rattle.ipcz_world.proofs.frames.Frames.{same_key_tells}
 use Rattle.ipcz_world.proofs.facts.RecordsAfter.{begin_records}
 use Rattle.ipcz_world.proofs.facts.Lengths.{same_side-tells}
-use Rattle.ipcz_world.proofs.facts.Roles.{Begun, end_of, until}
-use Rattle.ipcz_world.proofs.facts.Roles.{HasRole, BegunRecords, Roles, trim-decays, until-same}
+use Rattle.ipcz_world.proofs.frames.Roles.{Begun, end_of, until}
+use Rattle.ipcz_world.proofs.frames.Roles.{HasRole, BegunRecords, Roles, trim-decays, until-same}
 use Rattle.ipcz_world.proofs.facts.LinkTests.{known_from-early}
-use Rattle.ipcz_world.proofs.facts.RolesKept.{Knows, Keeps, role-kept}
-use Rattle.ipcz_world.proofs.facts.RolesOf.{roles-of}
-use Rattle.ipcz_world.proofs.facts.RolesTell.{links-of-roles, positions-of-roles}
+use Rattle.ipcz_world.proofs.frames.RolesKept.{Knows, Keeps, role-kept}
+use Rattle.ipcz_world.proofs.frames.RolesOf.{roles-of}
+use Rattle.ipcz_world.proofs.frames.RolesTell.{links-of-roles, positions-of-roles}
 use Rattle.ipcz_world.proofs.acts.BegunStages.{bypasses-begun, stands-begun}
 use Rattle.ipcz_world.proofs.acts.Beginning.{Begins}
 use Rattle.ipcz_world.proofs.acts.BegunRecords.{router-begun, node-begun, end-begun, begun-here, begun-else, by_word, side-begun, by-inner, end_at}

@@ -13,10 +13,10 @@ use Rattle.ipcz_world.proofs.frames.BegunLengths.{bypass_of-central_is}
 use Rattle.ipcz_world.proofs.facts.Lengths.{known_from-no}
 use Rattle.ipcz_world.proofs.frames.Handing.{handed_on}
 use Rattle.ipcz_world.proofs.frames.Sealing.{Sealed, Closed, links_of, bypasses_of, positions_of, stands_of, roles_of}
-use Rattle.ipcz_world.proofs.facts.Roles.{begun-kept, Inward, Role, Unbegun, Begun, end_of, outward_of, inward_of, until, IsOn, Fits}
-use Rattle.ipcz_world.proofs.facts.Roles.{HasRole, BegunRecords, Roles, trim-decays, until-same, trim, has_inner, end-is}
-use Rattle.ipcz_world.proofs.facts.RolesTell.{links-of-roles, positions-of-roles}
-use Rattle.ipcz_world.proofs.facts.RolesKept.{Knows, Keeps, role-kept, on-kept, end-kept, inward-kept}
+use Rattle.ipcz_world.proofs.frames.Roles.{begun-kept, Inward, Role, Unbegun, Begun, end_of, outward_of, inward_of, until, IsOn, Fits}
+use Rattle.ipcz_world.proofs.frames.Roles.{HasRole, BegunRecords, Roles, trim-decays, until-same, trim, has_inner, end-is}
+use Rattle.ipcz_world.proofs.frames.RolesTell.{links-of-roles, positions-of-roles}
+use Rattle.ipcz_world.proofs.frames.RolesKept.{Knows, Keeps, role-kept, on-kept, end-kept, inward-kept}
 use Rattle.ipcz_world.proofs.acts.BypassPeerAround.{CanPeer, here, on, is, known, begun, z_end, fresh_live, at_o, router_same, node_same, end_same}
 use Rattle.ipcz_world.proofs.acts.BypassPeerAround.{bypass_same, recorded_more, apart, is_begun_same, fresh_same, inner_same, proxy_side_same, proxy_same}
 use Rattle.ipcz_world.proofs.acts.BypassPeerAround.{accepted_same, split, itself, new_recorded, r_side}

@@ -2,10 +2,10 @@
 use Rattle.ipcz_world.proofs.Vocabulary.{HasShape, is_terminal, Side, A, B, Router, World, Key}
 use Rattle.ipcz_world.proofs.Vocabulary.{node_at, router_at, Books, Records, inner_link, side_node, side_router, side_end}
 use Rattle.ipcz_world.proofs.Vocabulary.{Counts, Shape, Links, Positions, is_proxy}
-use Rattle.ipcz_world.proofs.facts.Roles.{Role, Unbegun, Begun, has_inner, outward_of, Fits, HasRole, Roles, BegunRecords, lone, trim}
-use Rattle.ipcz_world.proofs.facts.RolesKept.{Knows, keeps-same, role-kept}
-use Rattle.ipcz_world.proofs.facts.RolesOf.{roles-by}
-use Rattle.ipcz_world.proofs.facts.RolesTell.{links-of-roles, positions-of-roles}
+use Rattle.ipcz_world.proofs.frames.Roles.{Role, Unbegun, Begun, has_inner, outward_of, Fits, HasRole, Roles, BegunRecords, lone, trim}
+use Rattle.ipcz_world.proofs.frames.RolesKept.{Knows, keeps-same, role-kept}
+use Rattle.ipcz_world.proofs.frames.RolesOf.{roles-by}
+use Rattle.ipcz_world.proofs.frames.RolesTell.{links-of-roles, positions-of-roles}
 use Rattle.ipcz_world.proofs.acts.ExtendingStages.{bypasses-extended, stands-extended}
 use Rattle.std.proofs.lemmas.Option.{same_Some, none-some}
 use Rattle.ipcz_world.proofs.frames.EachKept.{each-one}

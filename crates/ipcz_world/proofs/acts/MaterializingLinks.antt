@@ -1,8 +1,8 @@
 -- A descriptor becomes a terminal: each link is as its record says, and primary or decaying as its bypass says.
-use Rattle.ipcz_world.proofs.facts.Roles.{On, Unbegun, HasRole, Roles, BegunRecords, lone}
-use Rattle.ipcz_world.proofs.facts.RolesKept.{Knows, keeps-same, role-kept}
-use Rattle.ipcz_world.proofs.facts.RolesOf.{roles-by}
-use Rattle.ipcz_world.proofs.facts.RolesTell.{links-of-roles, positions-of-roles}
+use Rattle.ipcz_world.proofs.frames.Roles.{On, Unbegun, HasRole, Roles, BegunRecords, lone}
+use Rattle.ipcz_world.proofs.frames.RolesKept.{Knows, keeps-same, role-kept}
+use Rattle.ipcz_world.proofs.frames.RolesOf.{roles-by}
+use Rattle.ipcz_world.proofs.frames.RolesTell.{links-of-roles, positions-of-roles}
 use Rattle.ipcz_world.proofs.acts.MaterializingStages.{bypasses-made, stands-made}
 use Rattle.ipcz_world.proofs.frames.RecordRules.{bypass_of-inner}
 use Rattle.std.proofs.lemmas.Option.{none-some}

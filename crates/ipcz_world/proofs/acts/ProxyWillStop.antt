@@ -26,9 +26,9 @@ use Rattle.ipcz_world.proofs.frames.Counting.{IsReceived, counts-received}
 use Rattle.ipcz_world.proofs.facts.Lengths.{HasEnd, has_link-tells, passed, is_attached-inner, view-standing}
 use Rattle.ipcz_world.proofs.facts.Lengths.{known_from-yes}
 use Rattle.ipcz_world.proofs.acts.BypassAsked.{IsEnded, ended}
-use Rattle.ipcz_world.proofs.facts.Roles.{On, Across, Inward, Role, Unbegun, Begun, has_inner, outward_of, inward_of, standing_edge, Fits, HasRole, Roles}
-use Rattle.ipcz_world.proofs.facts.Roles.{end_of, trim, trim-decays, trim-tells, inner-one}
-use Rattle.ipcz_world.proofs.facts.RolesKept.{Knows, end-kept, on-kept, inward-kept}
+use Rattle.ipcz_world.proofs.frames.Roles.{On, Across, Inward, Role, Unbegun, Begun, has_inner, outward_of, inward_of, standing_edge, Fits, HasRole, Roles}
+use Rattle.ipcz_world.proofs.frames.Roles.{end_of, trim, trim-decays, trim-tells, inner-one}
+use Rattle.ipcz_world.proofs.frames.RolesKept.{Knows, end-kept, on-kept, inward-kept}
 use Rattle.ipcz_world.proofs.frames.StageFurther as further
 use Rattle.ipcz_world.proofs.frames.StageFurtherNumbers as numbers
 use Rattle.ipcz_world.proofs.frames.StageFurther.{IsLinkedLike}

@@ -29,8 +29,8 @@ use Rattle.ipcz_world.proofs.frames.Unmoved.{books_kept-kept, conserved-kept, he
 use Rattle.ipcz_world.proofs.frames.Counting.{IsReceived, counts-received}
 use Rattle.ipcz_world.proofs.facts.Lengths.{HasEnd, has_link-tells, passed, known_from-yes, known_from-no}
 use Rattle.ipcz_world.proofs.acts.BypassAsked.{IsStopped, stopped}
-use Rattle.ipcz_world.proofs.facts.Roles.{Begun, HasRole, Roles, end_of, trim-decays, end-is}
-use Rattle.ipcz_world.proofs.facts.RolesKept.{Knows, end-kept}
+use Rattle.ipcz_world.proofs.frames.Roles.{Begun, HasRole, Roles, end_of, trim-decays, end-is}
+use Rattle.ipcz_world.proofs.frames.RolesKept.{Knows, end-kept}
 use Rattle.ipcz_world.proofs.frames.StageFurther as further
 use Rattle.ipcz_world.proofs.frames.StageFurtherNumbers as numbers
 use Rattle.ipcz_world.proofs.frames.StageFurther.{IsLinkedLike}

@@ -4,10 +4,10 @@ use Rattle.ipcz_world.proofs.Vocabulary.{node_at, Books, Records, Owner, Termina
 use Rattle.ipcz_world.proofs.Vocabulary.{Shape, Links, Positions, Inv, CentralRecord}
 use Rattle.ipcz_world.proofs.frames.BegunLengths.{bypass_of-central_is}
 use Rattle.ipcz_world.proofs.frames.FirstLinkStages.{bypasses-grown, stands-grown}
-use Rattle.ipcz_world.proofs.facts.Roles.{On, Unbegun, HasRole, Roles, BegunRecords, lone}
-use Rattle.ipcz_world.proofs.facts.RolesKept.{Knows, keeps-same, role-kept}
-use Rattle.ipcz_world.proofs.facts.RolesOf.{roles-of}
-use Rattle.ipcz_world.proofs.facts.RolesTell.{links-of-roles, positions-of-roles}
+use Rattle.ipcz_world.proofs.frames.Roles.{On, Unbegun, HasRole, Roles, BegunRecords, lone}
+use Rattle.ipcz_world.proofs.frames.RolesKept.{Knows, keeps-same, role-kept}
+use Rattle.ipcz_world.proofs.frames.RolesOf.{roles-of}
+use Rattle.ipcz_world.proofs.frames.RolesTell.{links-of-roles, positions-of-roles}
 use Rattle.std.proofs.lemmas.Option.{none-some}
 use Rattle.ipcz_world.proofs.frames.FreshPairs.{fresh_marked}
 use Rattle.std.specs.Prelude.{refl}

@@ -1,7 +1,7 @@
 -- The record of a bypass goes a stage further, from 3 or 4: links, words and stages are as before.
-use Rattle.ipcz_world.proofs.facts.Roles.{begun-kept, Inward, FitsOut, HasRole, Roles, BegunRecords, until, until-same, until-most}
-use Rattle.ipcz_world.proofs.facts.RolesTell.{links-of-roles, positions-of-roles}
-use Rattle.ipcz_world.proofs.facts.RolesKept.{knows-agree, Knows, role-kept}
+use Rattle.ipcz_world.proofs.frames.Roles.{begun-kept, Inward, FitsOut, HasRole, Roles, BegunRecords, until, until-same, until-most}
+use Rattle.ipcz_world.proofs.frames.RolesTell.{links-of-roles, positions-of-roles}
+use Rattle.ipcz_world.proofs.frames.RolesKept.{knows-agree, Knows, role-kept}
 use Rattle.ipcz_world.proofs.Vocabulary.{HasShape, opposite_end, Side, A, B, LinkId, Central, Peripheral, Descriptor, Item, opposite}
 use Rattle.ipcz_world.proofs.Vocabulary.{has_link, word_of, Router, inward_edge, World, Key, same_key, word_at, router_at, Books, Records}
 use Rattle.ipcz_world.proofs.Vocabulary.{is_recorded, bypass_of, inner_link, side_node, side_router, side_end, proxy_side, across_side, known_from, side_length}

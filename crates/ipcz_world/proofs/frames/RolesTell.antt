@@ -11,8 +11,8 @@ use Rattle.ipcz_world.proofs.Vocabulary.{Stands, HasLinks, HasPositions, Links, 
 use Rattle.ipcz_world.proofs.frames.RecordRules.{bypass_of-inner, is_recorded-central, record_rules}
 use Rattle.ipcz_world.proofs.facts.Lengths.{same_side-itself, same_side-opposite}
 use Rattle.ipcz_world.proofs.facts.LinkTests.{inward_link, side_is}
-use Rattle.ipcz_world.proofs.facts.Roles.{On, Across, Inward, Role, Unbegun, Begun, end_of, outward_of, inward_of, until, IsOn, Fits}
-use Rattle.ipcz_world.proofs.facts.Roles.{HasRole, begun-by, trim, trim-tells, has_inner, BegunRecords, Roles}
+use Rattle.ipcz_world.proofs.frames.Roles.{On, Across, Inward, Role, Unbegun, Begun, end_of, outward_of, inward_of, until, IsOn, Fits}
+use Rattle.ipcz_world.proofs.frames.Roles.{HasRole, begun-by, trim, trim-tells, has_inner, BegunRecords, Roles}
 
 module _ {w : World} {g : Records} (bypasses : BypassRecords w g) (stands : Stands w g) (begun : BegunRecords g) where
   pair-fresh : (o : ℕ) (s : Side) → 2 ≤ (g.bypass o).stage → side_end g (fresh_of g o) s ≡ side_end g (Central o) s

@@ -6,8 +6,8 @@ use Rattle.ipcz_world.proofs.Vocabulary.{Side, A, B, End, LinkId, Central, Route
 use Rattle.ipcz_world.proofs.Vocabulary.{is_recorded, side_node, side_router, side_end, bypass_of, proxy_side, known_from, fresh_of, opposite, across_side}
 use Rattle.ipcz_world.proofs.frames.RecordRules.{is_recorded-central}
 use Rattle.ipcz_world.proofs.frames.Unmoved.{Agree, side_node-agree, side_end-agree}
-use Rattle.ipcz_world.proofs.facts.Roles.{Outward, On, Across, Inward, Role, Unbegun, Begun, end_of, outward_of, inward_of, until, IsOn, FitsOut, Fits}
-use Rattle.ipcz_world.proofs.facts.Roles.{HasRole, standing_edge, link_of, side_of, lone, old_edge, inner_edge, edge_at, until-same, begun-by}
+use Rattle.ipcz_world.proofs.frames.Roles.{Outward, On, Across, Inward, Role, Unbegun, Begun, end_of, outward_of, inward_of, until, IsOn, FitsOut, Fits}
+use Rattle.ipcz_world.proofs.frames.Roles.{HasRole, standing_edge, link_of, side_of, lone, old_edge, inner_edge, edge_at, until-same, begun-by}
 
 -- the records know each link that was recorded as they did, and what a bypass that had begun is about
 pub record Knows (w v : World) (g h : Records) : Type 0 where

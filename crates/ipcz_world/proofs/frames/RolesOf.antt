@@ -11,8 +11,8 @@ use Rattle.ipcz_world.proofs.frames.BegunLengths.{bypass_of-central_is, begun-by
 use Rattle.ipcz_world.proofs.facts.Lengths.{same_side-opposite}
 use Rattle.ipcz_world.proofs.facts.Tests.{none_is, and_first, and_second}
 use Rattle.ipcz_world.proofs.facts.LinkTests.{inward_link, side_is}
-use Rattle.ipcz_world.proofs.facts.Roles.{On, Across, Inward, Unbegun, Begun, end_of, until, IsOn, HasRole, lone, trim, trim-decays, trim-lone}
-use Rattle.ipcz_world.proofs.facts.Roles.{end-is, Roles, old_edge, inner_edge}
+use Rattle.ipcz_world.proofs.frames.Roles.{On, Across, Inward, Unbegun, Begun, end_of, until, IsOn, HasRole, lone, trim, trim-decays, trim-lone}
+use Rattle.ipcz_world.proofs.frames.Roles.{end-is, Roles, old_edge, inner_edge}
 
 module _ {w : World} {g : Records} (shape : Shape w) (links : Links w g) (positions : Positions w g) (stands : Stands w g) (stages : Stages w g) where
   module _ (k : Key) (r : Router) (here : router_at w k ≡ Some r) where
