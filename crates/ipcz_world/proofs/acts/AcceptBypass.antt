@@ -16,7 +16,7 @@ use Rattle.ipcz_world.proofs.acts.AcceptBypassAround.{CanAccept, here, on, is}
 use Rattle.ipcz_world.proofs.acts.AcceptBypassViews.{at_o, like, changed, agree, carried, places}
 use Rattle.ipcz_world.proofs.acts.AcceptBypassNumbers.{items-accept, order-accept, proxy_numbers-accept, fresh_numbers-accept}
 use Rattle.ipcz_world.proofs.acts.AcceptBypassLinks.{counts-accept}
-use Rattle.ipcz_world.proofs.acts.AcceptBypassRoles.{bypasses, links-accept, positions-accept}
+use Rattle.ipcz_world.proofs.acts.AcceptBypassRoles.{bypasses, roles-accept, begun-accept}
 use Rattle.ipcz_world.proofs.acts.AcceptBypassStages.{retired-accept, gones-accept, stands-accept, words-accept, stages-accept, told-accept, descriptors}
 use Rattle.ipcz_world.proofs.facts.Updates.{tells_stop}
 
@@ -46,8 +46,8 @@ module _ (w : World) (b : Books) (g : Records) (from : ℕ) (k : Key) (r : Route
     counts = counts-accept law can;
     ordered = ordered-kept w v g h k r x (changed law can) (agree law can) (like law can) (ordered_of law);
     shape = shape-accept w from k r e o side fresh length (shape_of law) (here law can) (on law can);
-    links = links-accept law can;
-    positions = positions-accept law can;
+    roles = roles-accept law can;
+    begun = begun-accept law can;
     stands = stands-accept law can;
     words = words-accept law can;
     spares = spares-kept w v g h k r x (changed law can) (agree law can) (like law can) (λ i. refl)

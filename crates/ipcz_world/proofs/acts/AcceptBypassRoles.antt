@@ -1,7 +1,8 @@
 -- The router across takes the fresh link: it has the edges of its new role, and all others those of theirs.
+use Rattle.ipcz_world.proofs.frames.Sealing.{begun_of}
 use Rattle.ipcz_world.proofs.Vocabulary.{A, B, Side, LinkId, Central, Peripheral, LinkEnd, Message, opposite, Router, World, Key}
 use Rattle.ipcz_world.proofs.Vocabulary.{Books, Records, inner_link, bypass_of, across_side, side_router, side_node, inward_edge}
-use Rattle.ipcz_world.proofs.Vocabulary.{accept_bypass, Links, Positions, BypassRecords, fresh_of, is_proxy}
+use Rattle.ipcz_world.proofs.Vocabulary.{accept_bypass, BypassRecords, fresh_of, is_proxy}
 use Rattle.std.specs.Prelude.{◌≡◌, ◌≢◌, ◌⊎◌, ◌≤◌, ℕ, true, false, nat_eq, Some, refl, cond}
 use Rattle.std.proofs.Common.{arith, sym, ◌∙◌, ap, inl, inr}
 use Rattle.std.proofs.lemmas.Option.{same_Some, none-some}
@@ -13,13 +14,11 @@ use Rattle.ipcz_world.proofs.facts.LinkTests.{side_is}
 use Rattle.ipcz_world.proofs.frames.Unmoved.{side_node-agree, bypass_of-agree, proxy_side-agree, is_recorded-kept}
 use Rattle.ipcz_world.proofs.frames.Handing.{handed_on}
 use Rattle.ipcz_world.proofs.facts.Updates.{tells_stop}
-use Rattle.ipcz_world.proofs.frames.Sealing.{Sealed, Closed, links_of, bypasses_of, positions_of, roles_of}
+use Rattle.ipcz_world.proofs.frames.Sealing.{Sealed, Closed, links_of, bypasses_of, roles_of}
 use Rattle.ipcz_world.proofs.frames.Roles.{begun-kept, Across, Role, Unbegun, Begun, end_of, outward_of, inward_of, until, IsOn, Fits}
 use Rattle.ipcz_world.proofs.frames.Roles.{HasRole, BegunRecords, Roles, trim-decays, until-same, trim, has_inner, end-is}
 use Rattle.ipcz_world.proofs.frames.RolesKept.{knows-agree, Knows, Keeps, role-kept, on-kept, end-kept, inward-kept}
 use Rattle.ipcz_world.proofs.acts.AcceptBypassRecords.{bypasses-accept}
-use Rattle.ipcz_world.proofs.acts.AcceptBypassStages.{stands-accept}
-use Rattle.ipcz_world.proofs.frames.RolesTell.{links-of-roles, positions-of-roles}
 use Rattle.ipcz_world.proofs.acts.AcceptBypassAround.{known_across, begun, CanAccept, here, on, is, known, on_old, at_side, fresh_linked, fresh_live, two, proxy_is}
 use Rattle.ipcz_world.proofs.acts.AcceptBypassViews.{at_o, changed, agree, router_of, stage_after, accepted_after, taken_after, is_new-here}
 use Rattle.ipcz_world.proofs.acts.AcceptBypassLinks.{known_after, x_at_end, split, known4-accepted, known4-taken, known5-accepted}
@@ -119,23 +118,17 @@ module _ {w : World} {b : Books} {g : Records} {from : ℕ} {k : Key} {r : Route
       old = end-is ((links_of law k r (here law can)).primary e (on law can)) ∙
           (λ t. end_of g (on_old law can t) ((at_side law can ∙ at) t)) ∙ sym (end-kept knows (Central o) _ (is_recorded-central w g o ∙ (bypasses_of law o).old (begun law can)))
 
-  roles-accept : Roles v h
+  pub roles-accept : Roles v h
   roles-accept q z at = elim (split law can q z at) [
     | inl a ↦ let c = roles_of law k r (here law can) in rw (a.0, ← a.1) (own c.role c.inward c.outward c.proxy c.fits)
-    | inr a ↦ role-kept knows (bypasses_of law) (positions_of law).begun_stage (keeps q (λ m. grind (arith, m, a.0, same_key-itself k))) z
+    | inr a ↦ role-kept knows (bypasses_of law) (begun_of law).begun_stage (keeps q (λ m. grind (arith, m, a.0, same_key-itself k))) z
         (roles_of law q z a.1)
   ]
 
-  begun-accept : BegunRecords h
-  begun-accept = begun-kept (agree law can).proxy (agree law can).is_begun (λ q. refl) (positions_of law)
+  pub begun-accept : BegunRecords h
+  begun-accept = begun-kept (agree law can).proxy (agree law can).is_begun (λ q. refl) (begun_of law)
 
   pub bypasses : BypassRecords v h
   unfolding handed_on
   bypasses = bypasses-accept w g from k r e o side fresh length (bypasses_of law)
       (record { stage = (is law can).stage; fresh = sym (is law can).on_word; side = (is law can).at_side; router = known_across law can })
-
-  pub links-accept : Links v h
-  links-accept = links-of-roles bypasses (stands-accept law can) begun-accept roles-accept
-
-  pub positions-accept : Positions v h
-  positions-accept = positions-of-roles bypasses (stands-accept law can) begun-accept roles-accept

@@ -1,6 +1,6 @@
 -- A proxy begins: it has the edges of its new role, and all others those of theirs.
 use Rattle.ipcz_world.proofs.Vocabulary.{A, B, Side, LinkId, Central, Peripheral, LinkEnd, Message, opposite, same_side, Router, World, Key}
-use Rattle.ipcz_world.proofs.Vocabulary.{Books, Records, is_begun, inner_link, bypass_of, proxy_side, side_router, Inv, Links, Positions, inward_edge, known_from, inner_of, same_key}
+use Rattle.ipcz_world.proofs.Vocabulary.{Books, Records, is_begun, inner_link, bypass_of, proxy_side, side_router, Inv, inward_edge, known_from, inner_of, same_key}
 use Rattle.std.specs.Prelude.{◌≡◌, ◌≢◌, ◌⊎◌, ◌≤◌, ℕ, Bool, true, false, nat_eq, Some, None, refl}
 use Rattle.std.proofs.Common.{arith, sym, ◌∙◌, ap, inl, inr}
 use Rattle.std.proofs.lemmas.Bool.Decides.{nat_tests}
@@ -12,9 +12,6 @@ use Rattle.ipcz_world.proofs.frames.Roles.{Begun, end_of, until}
 use Rattle.ipcz_world.proofs.frames.Roles.{HasRole, BegunRecords, Roles, trim-decays, until-same}
 use Rattle.ipcz_world.proofs.facts.LinkTests.{known_from-early}
 use Rattle.ipcz_world.proofs.frames.RolesKept.{Knows, Keeps, role-kept}
-use Rattle.ipcz_world.proofs.frames.RolesOf.{roles-of}
-use Rattle.ipcz_world.proofs.frames.RolesTell.{links-of-roles, positions-of-roles}
-use Rattle.ipcz_world.proofs.acts.BegunStages.{bypasses-begun, stands-begun}
 use Rattle.ipcz_world.proofs.acts.Beginning.{Begins}
 use Rattle.ipcz_world.proofs.acts.BegunRecords.{router-begun, node-begun, end-begun, begun-here, begun-else, by_word, side-begun, by-inner, end_at}
 use Rattle.ipcz_world.proofs.acts.BegunWorld.{Sends}
@@ -76,7 +73,7 @@ module _ {w v : World} {b : Books} {g : Records} {k : Key} {r y : Router} {p : K
     begun = λ j e. begun-same law is c new q apart ∙ e;
     across = λ j f. rw (late j 3 (omega arith) f.0) (refl, refl);
     inward = λ j f. rw (late j 2 (omega arith) f.0) (refl, refl);
-    proxy = λ j e. rw (not-begun law is c new j (law.positions.begun_stage q j e)) (refl, refl);
+    proxy = λ j e. rw (not-begun law is c new j (law.begun.begun_stage q j e)) (refl, refl);
   }
 
   -- the proxy has its old and its inner link
@@ -104,42 +101,36 @@ module _ {w v : World} {b : Books} {g : Records} {k : Key} {r y : Router} {p : K
       inner : into ≡ end_of after (inner_of after o) A
       inner = rw (here, node-begun g k o fresh p (inner_link p) B) (λ t. record { link = is.inner_at t; side = is.inner_side t; other = is.inner_other t })
 
-  roles-begun : Roles v after
+  pub roles-begun : Roles v after
   roles-begun q z at = elim (before law is c new q z at) [
-    | inl a ↦ role-kept knows law.bypasses law.positions.begun_stage (keeps q a.1) z (roles-of law q z a.0)
+    | inl a ↦ role-kept knows law.bypasses law.begun.begun_stage (keeps q a.1) z (law.roles q z a.0)
     | inr a ↦ rw (a.0, a.1) role-new
   ]
 
-  begun : BegunRecords after
-  begun = record {
+  pub begun-begun : BegunRecords after
+  begun-begun = record {
     begun_proxy = λ q j f. proxies q j f (same_key_tells q k);
     begun_stage = λ q j f. stages q j f (same_key_tells q k);
     proxy_begun = by_word o {P = λ j. is_begun (after.bypass j) ≡ true → after.begun (after.bypass j).proxy ≡ Some j}
         (λ f. ap (λ t. after.begun t.proxy) (begun-here g k o fresh p) ∙ begun-new law is c new)
         (λ j n f. let a : is_begun (g.bypass j) ≡ true = grind (arith, begun-else g k o fresh p j n, f) in
         ap (λ t. after.begun t.proxy) (begun-else g k o fresh p j n) ∙ begun-same law is c new (g.bypass j).proxy (is.unbegun j a) ∙
-        law.positions.proxy_begun j a);
+        law.begun.proxy_begun j a);
   }
     where
       old-begun : (q : Key) (j : ℕ) → g.begun q ≡ Some j → after.bypass j ≡ g.bypass j
-      old-begun q j i = begun-else g k o fresh p j (not-begun law is c new j (law.positions.begun_stage q j i))
+      old-begun q j i = begun-else g k o fresh p j (not-begun law is c new j (law.begun.begun_stage q j i))
 
       proxies : (q : Key) (j : ℕ) → after.begun q ≡ Some j → ((same_key q k ≡ true) × (q ≡ k)) ⊎ ((same_key q k ≡ false) × (q ≢ k)) →
           (after.bypass j).proxy ≡ q
       proxies q j f (inl a) = let n : j ≡ o = same_Some j o (sym f ∙ ap after.begun a.1 ∙ begun-new law is c new) in
           ap (λ t. (after.bypass t).proxy) n ∙ ap (λ t. t.proxy) (begun-here g k o fresh p) ∙ sym a.1
       proxies q j f (inr a) = let i : g.begun q ≡ Some j = sym (begun-same law is c new q a.1) ∙ f in
-          ap (λ t. t.proxy) (old-begun q j i) ∙ law.positions.begun_proxy q j i
+          ap (λ t. t.proxy) (old-begun q j i) ∙ law.begun.begun_proxy q j i
 
       stages : (q : Key) (j : ℕ) → after.begun q ≡ Some j → ((same_key q k ≡ true) × (q ≡ k)) ⊎ ((same_key q k ≡ false) × (q ≢ k)) →
           is_begun (after.bypass j) ≡ true
       stages q j f (inl a) = let n : j ≡ o = same_Some j o (sym f ∙ ap after.begun a.1 ∙ begun-new law is c new) in
           ap (λ t. is_begun (after.bypass t)) n ∙ ap is_begun (begun-here g k o fresh p)
       stages q j f (inr a) = let i : g.begun q ≡ Some j = sym (begun-same law is c new q a.1) ∙ f in
-          ap is_begun (old-begun q j i) ∙ law.positions.begun_stage q j i
-
-  pub links-begun : Links v after
-  links-begun = links-of-roles (bypasses-begun law is c new) (stands-begun law is c new) begun roles-begun
-
-  pub positions-begun : Positions v after
-  positions-begun = positions-of-roles (bypasses-begun law is c new) (stands-begun law is c new) begun roles-begun
+          ap is_begun (old-begun q j i) ∙ law.begun.begun_stage q j i

@@ -1,7 +1,8 @@
 -- The router inward takes the fresh link: it has the edges of its new role, and all others those of theirs.
+use Rattle.ipcz_world.proofs.frames.Sealing.{begun_of}
 use Rattle.ipcz_world.proofs.Vocabulary.{A, B, Side, LinkId, Central, Peripheral, LinkEnd, opposite, Router, World, Key, inner_of}
 use Rattle.ipcz_world.proofs.Vocabulary.{Books, Records, inner_link, bypass_of, proxy_side, side_router, inward_edge, known_from}
-use Rattle.ipcz_world.proofs.Vocabulary.{bypass_peer, fresh_of, is_proxy, is_recorded, Links, Positions}
+use Rattle.ipcz_world.proofs.Vocabulary.{bypass_peer, fresh_of, is_proxy, is_recorded}
 use Rattle.std.specs.Prelude.{◌≡◌, ◌≢◌, ◌⊎◌, ◌≤◌, ℕ, true, false, nat_eq, Some, refl}
 use Rattle.std.proofs.Common.{arith, sym, ◌∙◌, ap, inl, inr}
 use Rattle.std.proofs.lemmas.Option.{same_Some, none-some}
@@ -12,16 +13,13 @@ use Rattle.ipcz_world.proofs.frames.RecordRules.{bypass_of-inner}
 use Rattle.ipcz_world.proofs.frames.BegunLengths.{bypass_of-central_is}
 use Rattle.ipcz_world.proofs.facts.Lengths.{known_from-no}
 use Rattle.ipcz_world.proofs.frames.Handing.{handed_on}
-use Rattle.ipcz_world.proofs.frames.Sealing.{Sealed, Closed, links_of, bypasses_of, positions_of, stands_of, roles_of}
+use Rattle.ipcz_world.proofs.frames.Sealing.{Sealed, Closed, links_of, bypasses_of, stands_of, roles_of}
 use Rattle.ipcz_world.proofs.frames.Roles.{begun-kept, Inward, Role, Unbegun, Begun, end_of, outward_of, inward_of, until, IsOn, Fits}
 use Rattle.ipcz_world.proofs.frames.Roles.{HasRole, BegunRecords, Roles, trim-decays, until-same, trim, has_inner, end-is}
-use Rattle.ipcz_world.proofs.frames.RolesTell.{links-of-roles, positions-of-roles}
 use Rattle.ipcz_world.proofs.frames.RolesKept.{Knows, Keeps, role-kept, on-kept, end-kept, inward-kept}
 use Rattle.ipcz_world.proofs.acts.BypassPeerAround.{CanPeer, here, on, is, known, begun, z_end, fresh_live, at_o, router_same, node_same, end_same}
 use Rattle.ipcz_world.proofs.acts.BypassPeerAround.{bypass_same, recorded_more, apart, is_begun_same, fresh_same, inner_same, proxy_side_same, proxy_same}
 use Rattle.ipcz_world.proofs.acts.BypassPeerAround.{accepted_same, split, itself, new_recorded, r_side}
-use Rattle.ipcz_world.proofs.acts.BypassPeerRecords.{bypasses-peer}
-use Rattle.ipcz_world.proofs.acts.BypassPeerStages.{stands-peer}
 use Rattle.ipcz_world.proofs.acts.BypassPeerLinks.{known4, known4-taken}
 
 module _ {w : World} {b : Books} {g : Records} {from : ℕ} {k : Key} {r : Router} {o : ℕ} {link : LinkId} {side : Side} {target fresh : ℕ}
@@ -120,18 +118,12 @@ module _ {w : World} {b : Books} {g : Records} {from : ℕ} {k : Key} {r : Route
           (λ t. end_of g ((z_end law can).on_link t) ((z_end law can).at_side t)) ∙ sym (end-kept knows (inner_of g o) B recorded) ∙
           ap (λ p. end_of h (inner_link p) B) (sym (inner_same law can o))
 
-  roles-peer : Roles v h
+  pub roles-peer : Roles v h
   roles-peer q z at = elim (split law can q z at) [
     | inl a ↦ let c = roles_of law k r (here law can) in rw (a.0, ← a.1) (own c.role c.inward c.outward c.proxy c.fits)
-    | inr a ↦ role-kept knows (bypasses_of law) (positions_of law).begun_stage (keeps q (λ m. grind (arith, m, a.0, same_key-itself k))) z
+    | inr a ↦ role-kept knows (bypasses_of law) (begun_of law).begun_stage (keeps q (λ m. grind (arith, m, a.0, same_key-itself k))) z
         (roles_of law q z a.1)
   ]
 
-  begun-peer : BegunRecords h
-  begun-peer = begun-kept (proxy_same law can) (is_begun_same law can) (λ q. refl) (positions_of law)
-
-  pub links-peer : Links v h
-  links-peer = links-of-roles (bypasses-peer law can) (stands-peer law can) begun-peer roles-peer
-
-  pub positions-peer : Positions v h
-  positions-peer = positions-of-roles (bypasses-peer law can) (stands-peer law can) begun-peer roles-peer
+  pub begun-peer : BegunRecords h
+  begun-peer = begun-kept (proxy_same law can) (is_begun_same law can) (λ q. refl) (begun_of law)

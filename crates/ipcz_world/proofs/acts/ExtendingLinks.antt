@@ -1,12 +1,9 @@
 -- A terminal that moves becomes a proxy: each link is as its record says, and primary or decaying as its bypass says.
 use Rattle.ipcz_world.proofs.Vocabulary.{HasShape, is_terminal, Side, A, B, Router, World, Key}
 use Rattle.ipcz_world.proofs.Vocabulary.{node_at, router_at, Books, Records, inner_link, side_node, side_router, side_end}
-use Rattle.ipcz_world.proofs.Vocabulary.{Counts, Shape, Links, Positions, is_proxy}
+use Rattle.ipcz_world.proofs.Vocabulary.{Counts, Shape, is_proxy}
 use Rattle.ipcz_world.proofs.frames.Roles.{Role, Unbegun, Begun, has_inner, outward_of, Fits, HasRole, Roles, BegunRecords, lone, trim}
 use Rattle.ipcz_world.proofs.frames.RolesKept.{Knows, keeps-same, role-kept}
-use Rattle.ipcz_world.proofs.frames.RolesOf.{roles-by}
-use Rattle.ipcz_world.proofs.frames.RolesTell.{links-of-roles, positions-of-roles}
-use Rattle.ipcz_world.proofs.acts.ExtendingStages.{bypasses-extended, stands-extended}
 use Rattle.std.proofs.lemmas.Option.{same_Some, none-some}
 use Rattle.ipcz_world.proofs.frames.EachKept.{each-one}
 use Rattle.std.specs.Prelude.{◌≡◌, ◌<◌, ℕ, false, Some, None, refl}
@@ -105,9 +102,9 @@ module _ {w v : World} {b : Books} {g : Records} {q : Key} {r : Router} {a : ℕ
 
   -- its records alone change no role
   role-then : (x : Key) (z : Router) → router_at w x ≡ Some z → HasRole v h x z
-  role-then x z o = role-kept knows law.bypasses law.positions.begun_stage
+  role-then x z o = role-kept knows law.bypasses law.begun.begun_stage
       (keeps-same x (λ o. refl) (λ k. refl) (bypass_same law is t) (side_same law is t) law.stands) z
-      (roles-by law.shape law.links law.positions law.stands law.stages x z o)
+      (law.roles x z o)
 
   -- the terminal has an inward link now
   own : (z : Role) → is_proxy r ≡ has_inner z → trim r.outward ≡ outward_of h z → Fits v h q r.end z → HasRole v h q y
@@ -136,17 +133,11 @@ module _ {w v : World} {b : Books} {g : Records} {q : Key} {r : Router} {a : ℕ
       new_end : r.end ≡ side_end h (inner_link p) A
       new_end = sym (inner_end_is h p A ∙ rw (same_key-itself p) refl)
 
-  roles-extended : Roles v h
+  pub roles-extended : Roles v h
   roles-extended x z at = elim (stood law is t x z at) [
     | inl o ↦ role-then x z o.0
     | inr n ↦ let c = role-then q r is.here in rw (n.0, n.1) (own c.role c.proxy c.outward c.fits)
   ]
 
-  begun-extended : BegunRecords h
-  begun-extended = assumption law.positions
-
-  pub links-extended : Links v h
-  links-extended = links-of-roles (bypasses-extended law is t) (stands-extended law is t) begun-extended roles-extended
-
-  pub positions-extended : Positions v h
-  positions-extended = positions-of-roles (bypasses-extended law is t) (stands-extended law is t) begun-extended roles-extended
+  pub begun-extended : BegunRecords h
+  begun-extended = assumption law.begun

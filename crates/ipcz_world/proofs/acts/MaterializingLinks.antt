@@ -1,9 +1,6 @@
 -- A descriptor becomes a terminal: each link is as its record says, and primary or decaying as its bypass says.
 use Rattle.ipcz_world.proofs.frames.Roles.{On, Unbegun, HasRole, Roles, BegunRecords, lone}
 use Rattle.ipcz_world.proofs.frames.RolesKept.{Knows, keeps-same, role-kept}
-use Rattle.ipcz_world.proofs.frames.RolesOf.{roles-by}
-use Rattle.ipcz_world.proofs.frames.RolesTell.{links-of-roles, positions-of-roles}
-use Rattle.ipcz_world.proofs.acts.MaterializingStages.{bypasses-made, stands-made}
 use Rattle.ipcz_world.proofs.frames.RecordRules.{bypass_of-inner}
 use Rattle.std.proofs.lemmas.Option.{none-some}
 use Rattle.ipcz_world.proofs.Vocabulary.{HasShape}
@@ -15,7 +12,7 @@ use Rattle.std.proofs.lemmas.Bool.Decides.{nat_tests}
 use Rattle.ipcz_world.proofs.Vocabulary.{Side, A, B, LinkId, Descriptor, same_side, same_link}
 use Rattle.ipcz_world.proofs.Vocabulary.{Router, from_descriptor, World, Key, node_at, Books, Records}
 use Rattle.ipcz_world.proofs.Vocabulary.{is_recorded, is_begun, inner_link, side_node, side_router}
-use Rattle.ipcz_world.proofs.Vocabulary.{Counts, Ordered, Shape, Links, Positions}
+use Rattle.ipcz_world.proofs.Vocabulary.{Counts, Ordered, Shape}
 use Rattle.ipcz_world.proofs.frames.Touching.{Hands}
 use Rattle.ipcz_world.proofs.frames.Opened.{OpenInv}
 use Rattle.ipcz_world.proofs.acts.ExtendingAround.{inner_end_is}
@@ -136,19 +133,13 @@ module _ {w v : World} {b : Books} {g : Records} {a : ℕ} {q p : Key} {d : Desc
     );
   }
 
-  roles-made : Roles v h
+  pub roles-made : Roles v h
   roles-made x z at = elim (was_there law is t x z at) [
-    | inl o ↦ role-kept knows law.bypasses law.positions.begun_stage
+    | inl o ↦ role-kept knows law.bypasses law.begun.begun_stage
         (keeps-same x (λ o. refl) (λ k. refl) (bypass_same law is t) (λ o b. side_same law is t o) law.stands) z
-        (roles-by law.shape law.links law.positions law.stands law.stages x z o.0)
+        (law.roles x z o.0)
     | inr o ↦ rw (o.0, o.1) own
   ]
 
-  begun-made : BegunRecords h
-  begun-made = assumption law.positions
-
-  pub links-made : Links v h
-  links-made = links-of-roles (bypasses-made law is t) (stands-made law is t) begun-made roles-made
-
-  pub positions-made : Positions v h
-  positions-made = positions-of-roles (bypasses-made law is t) (stands-made law is t) begun-made roles-made
+  pub begun-made : BegunRecords h
+  begun-made = assumption law.begun

@@ -264,8 +264,8 @@ module _ (w : World) (b : Books) (g : Records) (from : ℕ) (k : Key) (r : Route
         (sym (further.recorded_same law changed like linked carried is.stage late early l) ∙ rec)));
     ordered = ordered-kept w v g h k r x changed agree like (ordered_of law);
     shape = further.shape-further law changed like linked carried is.stage late early;
-    links = further.links-further law changed like linked carried is.stage late early roles;
-    positions = further.positions-further law changed like linked carried is.stage late early roles;
+    roles = roles;
+    begun = further.begun-further law changed like linked carried is.stage late early;
     stands = further.stands-further law changed like linked carried is.stage late early;
     words = further.words-further law changed like linked carried is.stage late early (word-handed w from k x);
     spares = spares-kept w v g h k r x changed agree like (λ i. refl) (λ j st. grind (arith, st, at_o j, is.stage)) (spares_of law);

@@ -1,4 +1,5 @@
 -- The proxy learns its lengths, and tells the router inward.
+use Rattle.ipcz_world.proofs.frames.Sealing.{begun_of}
 use Rattle.ipcz_world.proofs.frames.LiveLinks.{live-kept}
 use Rattle.ipcz_world.proofs.frames.Sealing.{live_of}
 use Rattle.ipcz_world.proofs.Vocabulary.{Weight, in_router, Side, A, B, End, LinkId, Central, LinkEnd, Descriptor, Item, Message, opposite, has_link}
@@ -113,7 +114,7 @@ module _ (w : World) (b : Books) (g : Records) (from : ℕ) (k : Key) (r : Route
   alone = ((positions_of law).each k r here).own_alone y_end.end o y_end.there y_end.on_link y_end.at_side
 
   pub y_begun : g.begun k ≡ Some o
-  y_begun = ap g.begun (sym proxy_is) ∙ (positions_of law).proxy_begun o begun
+  y_begun = ap g.begun (sym proxy_is) ∙ (begun_of law).proxy_begun o begun
 
   abbrev x : Router
   x = stop_proxying r in_length out_length
@@ -260,7 +261,7 @@ module _ (w : World) (b : Books) (g : Records) (from : ℕ) (k : Key) (r : Route
   roles : Roles v h
   roles = further.roles-further law changed like linked carried is.stage late early (λ q j n apart f. known5 j n)
       (λ q j n apart b. elim (at_o j) [
-        | inl a ↦ absurd (apart (sym ((positions_of law).begun_proxy q o (b ∙ ap Some a.1)) ∙ proxy_is))
+        | inl a ↦ absurd (apart (sym ((begun_of law).begun_proxy q o (b ∙ ap Some a.1)) ∙ proxy_is))
         | inr a ↦ rw a.0 refl
       ]) own
 
@@ -411,8 +412,8 @@ module _ (w : World) (b : Books) (g : Records) (from : ℕ) (k : Key) (r : Route
         (sym (further.recorded_same law changed like linked carried is.stage late early l) ∙ rec)));
     ordered = ordered-kept w v g h k r x changed agree like (ordered_of law);
     shape = further.shape-further law changed like linked carried is.stage late early;
-    links = further.links-further law changed like linked carried is.stage late early roles;
-    positions = further.positions-further law changed like linked carried is.stage late early roles;
+    roles = roles;
+    begun = further.begun-further law changed like linked carried is.stage late early;
     stands = further.stands-further law changed like linked carried is.stage late early;
     words = further.words-further law changed like linked carried is.stage late early
         (word-handed_on w from k x e.other sent);

@@ -1,13 +1,10 @@
 -- A word becomes a pair's first link: each link is as its record says, and primary or decaying as its bypass says.
 use Rattle.ipcz_world.proofs.Vocabulary.{HasShape, IsOrdered, Side, End, Central, opposite, World, Key}
 use Rattle.ipcz_world.proofs.Vocabulary.{node_at, Books, Records, Owner, Terminal, is_linked, side_router, side_node, Counts, Ordered}
-use Rattle.ipcz_world.proofs.Vocabulary.{Shape, Links, Positions, Inv, CentralRecord}
+use Rattle.ipcz_world.proofs.Vocabulary.{Shape, Inv, CentralRecord}
 use Rattle.ipcz_world.proofs.frames.BegunLengths.{bypass_of-central_is}
-use Rattle.ipcz_world.proofs.frames.FirstLinkStages.{bypasses-grown, stands-grown}
 use Rattle.ipcz_world.proofs.frames.Roles.{On, Unbegun, HasRole, Roles, BegunRecords, lone}
 use Rattle.ipcz_world.proofs.frames.RolesKept.{Knows, keeps-same, role-kept}
-use Rattle.ipcz_world.proofs.frames.RolesOf.{roles-of}
-use Rattle.ipcz_world.proofs.frames.RolesTell.{links-of-roles, positions-of-roles}
 use Rattle.std.proofs.lemmas.Option.{none-some}
 use Rattle.ipcz_world.proofs.frames.FreshPairs.{fresh_marked}
 use Rattle.std.specs.Prelude.{refl}
@@ -120,18 +117,12 @@ module _ {w v : World} {b : Books} {g : Records} {owner' : ℕ → Owner} {centr
     );
   }
 
-  roles-grown : Roles v h
+  pub roles-grown : Roles v h
   roles-grown q x e = elim (is.was q x e) [
-    | inl o ↦ role-kept knows law.bypasses law.positions.begun_stage
-        (keeps-same q (λ o. refl) (λ k. refl) (bypass_kept law is) (λ o b. refl) law.stands) x (roles-of law q x o)
+    | inl o ↦ role-kept knows law.bypasses law.begun.begun_stage
+        (keeps-same q (λ o. refl) (λ k. refl) (bypass_kept law is) (λ o b. refl) law.stands) x (law.roles q x o)
     | inr o ↦ rw (o.0.key, o.0.is) (own o.1 o.0.side)
   ]
 
-  begun-grown : BegunRecords h
-  begun-grown = assumption law.positions
-
-  pub links-grown : Links v h
-  links-grown = links-of-roles (bypasses-grown law is) (stands-grown law is) begun-grown roles-grown
-
-  pub positions-grown : Positions v h
-  positions-grown = positions-of-roles (bypasses-grown law is) (stands-grown law is) begun-grown roles-grown
+  pub begun-grown : BegunRecords h
+  begun-grown = assumption law.begun

@@ -1,13 +1,13 @@
 -- A router that is as it was has its role still, where the records know its links as they did and its bypass isn't another for it.
-use Rattle.std.specs.Prelude.{◌≡◌, ◌≤◌, ℕ, Bool, true, false, Option, Some, None, option_map, refl}
-use Rattle.std.proofs.Common.{ap, ◌∙◌, sym, arith}
+use Rattle.std.specs.Prelude.{◌≡◌, ◌≤◌, ℕ, Bool, true, false, Option, Some, None, option_map, is_some, unwrap_or, refl}
+use Rattle.std.proofs.Common.{ap, ◌∙◌, sym, arith, subst}
 use Rattle.std.proofs.lemmas.Bool.Decides.{nat_tests}
 use Rattle.ipcz_world.proofs.Vocabulary.{Side, A, B, End, LinkId, Central, Router, World, Key, Records, BypassRecords, Stands, inner_link, is_begun, inner_of}
-use Rattle.ipcz_world.proofs.Vocabulary.{is_recorded, side_node, side_router, side_end, bypass_of, proxy_side, known_from, fresh_of, opposite, across_side}
+use Rattle.ipcz_world.proofs.Vocabulary.{is_recorded, side_node, side_router, side_end, bypass_of, proxy_side, known_from, fresh_of, opposite, across_side, no_edge}
 use Rattle.ipcz_world.proofs.frames.RecordRules.{is_recorded-central}
 use Rattle.ipcz_world.proofs.frames.Unmoved.{Agree, side_node-agree, side_end-agree}
 use Rattle.ipcz_world.proofs.frames.Roles.{Outward, On, Across, Inward, Role, Unbegun, Begun, end_of, outward_of, inward_of, until, IsOn, FitsOut, Fits}
-use Rattle.ipcz_world.proofs.frames.Roles.{HasRole, standing_edge, link_of, side_of, lone, old_edge, inner_edge, edge_at, until-same, begun-by}
+use Rattle.ipcz_world.proofs.frames.Roles.{HasRole, standing_edge, link_of, side_of, lone, old_edge, inner_edge, edge_at, until-same, begun-by, trim}
 
 -- the records know each link that was recorded as they did, and what a bypass that had begun is about
 pub record Knows (w v : World) (g h : Records) : Type 0 where
@@ -151,3 +151,26 @@ module _ {w v : World} {g h : Records} (knows : Knows w v g h) (bypasses : Bypas
     pub role-kept : (z : Router) → HasRole w g q z → HasRole v h q z
     role-kept z c = let s = kept z.end c.role c.fits in
         record { role = c.role; proxy = c.proxy; outward = c.outward ∙ sym s.0; inward = c.inward ∙ sym s.1; fits = s.2 }
+
+-- a role is the same in another world with the same links
+pub role-in : {w v : World} {g : Records} {q : Key} {z : Router} → ((l : LinkId) → is_recorded v g l ≡ is_recorded w g l) → HasRole w g q z →
+    HasRole v g q z
+role-in {w} {v} {g} {q} {z} same c = record { role = c.role; proxy = c.proxy; outward = c.outward; inward = c.inward; fits = fits c.role c.fits }
+  where
+    on : {l : LinkId} {s : Side} → IsOn w g q z.end l s → IsOn v g q z.end l s
+    on {l} f = record { recorded = same l ∙ f.recorded; router = f.router; end = f.end; stays = f.stays }
+
+    fits : (a : Role) → Fits w g q z.end a → Fits v g q z.end a
+    fits (Unbegun a i) f = (on f.0, f.1, λ p e. on (f.2 p e))
+    fits (Begun o x y) f = f
+
+-- and of a router with the same end and edges
+pub role-alike : {w : World} {g : Records} {q : Key} {z y : Router} → y.end ≡ z.end → y.outward ≡ z.outward → y.inward ≡ z.inward →
+    HasRole w g q z → HasRole w g q y
+role-alike {w} {g} {q} end outward inward c = record {
+  role = c.role;
+  proxy = ap is_some inward ∙ c.proxy;
+  outward = ap trim outward ∙ c.outward;
+  inward = ap (λ t. trim (unwrap_or t no_edge)) inward ∙ c.inward;
+  fits = subst (λ e. Fits w g q e c.role) (sym end) c.fits;
+}

@@ -5,7 +5,7 @@ use Rattle.std.proofs.lemmas.Bool.Decides.{nat_tests}
 use Rattle.std.proofs.lemmas.Option.{same_Some, none-some}
 use Rattle.ipcz_base.specs.Ends.{end_at}
 use Rattle.ipcz_world.proofs.Vocabulary.{Side, A, B, LinkId, Central, LinkEnd, Router, is_proxy}
-use Rattle.ipcz_world.proofs.Vocabulary.{inward_edge, World, Key, Records, inner_link, side_end, bypass_of}
+use Rattle.ipcz_world.proofs.Vocabulary.{inward_edge, World, Key, Books, Inv, Records, inner_link, side_end, bypass_of}
 use Rattle.ipcz_world.proofs.Vocabulary.{proxy_side, across_side, known_from, is_outward, inner_of, fresh_of, IsRecorded, is_begun, BypassRecords}
 use Rattle.ipcz_world.proofs.Vocabulary.{Stands, HasLinks, HasPositions, Links, Positions, link_in, is_begun_router}
 use Rattle.ipcz_world.proofs.frames.RecordRules.{bypass_of-inner, is_recorded-central, record_rules}
@@ -277,3 +277,9 @@ module _ {w : World} {g : Records} (bypasses : BypassRecords w g) (stands : Stan
     begun_stage = begun.begun_stage;
     proxy_begun = begun.proxy_begun;
   }
+
+pub links-in : {w : World} {b : Books} {g : Records} → Inv w b g → Links w g
+links-in law = links-of-roles law.bypasses law.stands law.begun law.roles
+
+pub positions-in : {w : World} {b : Books} {g : Records} → Inv w b g → Positions w g
+positions-in law = positions-of-roles law.bypasses law.stands law.begun law.roles

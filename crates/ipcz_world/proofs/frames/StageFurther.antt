@@ -1,12 +1,12 @@
 -- The record of a bypass goes a stage further, from 3 or 4: links, words and stages are as before.
+use Rattle.ipcz_world.proofs.frames.Sealing.{begun_of}
 use Rattle.ipcz_world.proofs.frames.Roles.{begun-kept, Inward, FitsOut, HasRole, Roles, BegunRecords, until, until-same, until-most}
-use Rattle.ipcz_world.proofs.frames.RolesTell.{links-of-roles, positions-of-roles}
 use Rattle.ipcz_world.proofs.frames.RolesKept.{knows-agree, Knows, role-kept}
 use Rattle.ipcz_world.proofs.Vocabulary.{HasShape, opposite_end, Side, A, B, LinkId, Central, Peripheral, Descriptor, Item, opposite}
 use Rattle.ipcz_world.proofs.Vocabulary.{has_link, word_of, Router, inward_edge, World, Key, same_key, word_at, router_at, Books, Records}
 use Rattle.ipcz_world.proofs.Vocabulary.{is_recorded, bypass_of, inner_link, side_node, side_router, side_end, proxy_side, across_side, known_from, side_length}
 use Rattle.ipcz_world.proofs.Vocabulary.{is_attached, view, has_primary, has_decaying, has_inward_decaying, key_passes, IsUnderWay, is_made_before}
-use Rattle.ipcz_world.proofs.Vocabulary.{Shape, Links, Positions, Stands, Words, BypassRecords, Stages, inner_of, is_done, is_sink, is_retired}
+use Rattle.ipcz_world.proofs.Vocabulary.{Shape, Stands, Words, BypassRecords, Stages, inner_of, is_done, is_sink, is_retired}
 use Rattle.ipcz_world.proofs.Vocabulary.{RetiredEnds, Gones, is_left, is_proxy, decays, has_inward_primary, is_begun_router, has_role, fresh_of}
 use Rattle.std.specs.Prelude.{◌||◌}
 use Rattle.ipcz_world.proofs.frames.Sealing.{retired_ends_of, gones_of}
@@ -25,7 +25,7 @@ use Rattle.ipcz_world.proofs.frames.Unmoved.{IsLike, Changed, Carried, Agree, si
 use Rattle.ipcz_world.proofs.frames.Unmoved.{is_recorded-kept, key_passes-kept}
 use Rattle.ipcz_world.proofs.frames.Viewing.{IsSameView, view-kept}
 use Rattle.ipcz_world.proofs.facts.Lengths.{length-old, length-proxy, length-inner, length-live, length-none, known_from-yes}
-use Rattle.ipcz_world.proofs.frames.Sealing.{Sealed, shape_of, stands_of, words_of, bypasses_of, stages_of, positions_of, roles_of}
+use Rattle.ipcz_world.proofs.frames.Sealing.{Sealed, shape_of, stands_of, words_of, bypasses_of, stages_of, roles_of}
 use Rattle.ipcz_world.proofs.frames.BypassesKept.{bypasses-alike}
 use Rattle.ipcz_world.proofs.frames.WordsKept.{word-kept}
 
@@ -251,7 +251,7 @@ module _ {w v : World} {b : Books} {g : Records} {k : Key} {r x : Router} {o s :
       HasRole v h k x → Roles v h
   roles-further inward proxy own q z e = elim (one_or_before w v k x c.router q z e) [
     | inl a ↦ rw (a.0, ← a.1) own
-    | inr a ↦ let apart : (q ≡ k → ⊥) = λ m. grind (arith, m, a.0, same_key-itself k) in role-kept knows (bypasses_of law) (positions_of law).begun_stage (record {
+    | inr a ↦ let apart : (q ≡ k → ⊥) = λ m. grind (arith, m, a.0, same_key-itself k) in role-kept knows (bypasses_of law) (begun_of law).begun_stage (record {
       stays = λ d l t on. stays-further l t on.stays;
       begun = λ j n. n;
       across = λ j f. (accepted_same j, taken_same j);
@@ -391,11 +391,5 @@ module _ {w v : World} {b : Books} {g : Records} {k : Key} {r x : Router} {o s :
       })
       (bypasses_of law)
 
-  begun-further : BegunRecords h
-  begun-further = begun-kept agree.proxy agree.is_begun (λ q. refl) (positions_of law)
-
-  pub links-further : Roles v h → Links v h
-  links-further = links-of-roles bypasses-further stands-further begun-further
-
-  pub positions-further : Roles v h → Positions v h
-  positions-further = positions-of-roles bypasses-further stands-further begun-further
+  pub begun-further : BegunRecords h
+  begun-further = begun-kept agree.proxy agree.is_begun (λ q. refl) (begun_of law)
