@@ -34,7 +34,6 @@ pub mod Holding
 pub mod Known
 pub mod LeftRecords
 pub mod LeftSides
-pub mod LinksKept
 pub mod LiveLinks
 pub mod MessagesAlone
 pub mod MessagesPassing
@@ -46,9 +45,11 @@ pub mod Opened
 pub mod Owners
 pub mod Passing
 pub mod Placing
-pub mod PositionsKept
 pub mod RecordRules
 pub mod SameMessages
+pub mod Roles
+pub mod RolesKept
+pub mod RolesTell
 pub mod Sealing
 pub mod Seen
 pub mod SourceWeights

@@ -26,6 +26,7 @@ pub mod PutBounds
 pub mod Ranks
 pub mod Records
 pub mod Retries
+pub mod Roles
 pub mod Routes
 pub mod SettleBounds
 pub mod SettleLimit

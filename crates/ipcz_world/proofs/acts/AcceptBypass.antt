@@ -2,20 +2,21 @@
 use Rattle.ipcz_world.proofs.frames.LiveLinks.{live-kept}
 use Rattle.ipcz_world.proofs.frames.Sealing.{live_of}
 use Rattle.std.specs.Prelude.{ℕ, refl}
-use Rattle.std.proofs.Common.{arith, sym}
+use Rattle.std.proofs.Common.{arith}
 use Rattle.ipcz_world.proofs.Vocabulary.{Side, LinkEnd, Message, Router, World, Key, Books, Records, Inv, accept_bypass}
 use Rattle.ipcz_world.proofs.facts.Updates.{accept_act}
 use Rattle.ipcz_world.proofs.facts.RecordsAfter.{accepted_records}
 use Rattle.ipcz_world.proofs.frames.Unmoved.{ordered-kept, spares-kept, moves-kept, terminals-kept, end_places-kept, books_kept-kept}
 use Rattle.ipcz_world.proofs.frames.Unmoved.{conserved-kept, held_once-kept, no_strays-kept}
 use Rattle.ipcz_world.proofs.frames.Handing.{handed_on}
-use Rattle.ipcz_world.proofs.acts.AcceptBypassRecords.{shape-accept, bypasses-accept}
+use Rattle.ipcz_world.proofs.acts.AcceptBypassRecords.{shape-accept}
 use Rattle.ipcz_world.proofs.frames.Sealing.{ordered_of, spares_of, moves_of as moves_law, terminals_of, end_places_of, books_kept_of}
-use Rattle.ipcz_world.proofs.frames.Sealing.{conserved_of, held_once_of, no_strays_of, Sealed, Closed, shape_of, bypasses_of}
-use Rattle.ipcz_world.proofs.acts.AcceptBypassAround.{CanAccept, here, on, is, known_across}
+use Rattle.ipcz_world.proofs.frames.Sealing.{conserved_of, held_once_of, no_strays_of, Sealed, Closed, shape_of}
+use Rattle.ipcz_world.proofs.acts.AcceptBypassAround.{CanAccept, here, on, is}
 use Rattle.ipcz_world.proofs.acts.AcceptBypassViews.{at_o, like, changed, agree, carried, places}
 use Rattle.ipcz_world.proofs.acts.AcceptBypassNumbers.{items-accept, order-accept, proxy_numbers-accept, fresh_numbers-accept}
-use Rattle.ipcz_world.proofs.acts.AcceptBypassLinks.{counts-accept, links-accept, positions-accept}
+use Rattle.ipcz_world.proofs.acts.AcceptBypassLinks.{counts-accept}
+use Rattle.ipcz_world.proofs.acts.AcceptBypassRoles.{bypasses, roles-accept, begun-accept}
 use Rattle.ipcz_world.proofs.acts.AcceptBypassStages.{retired-accept, gones-accept, stands-accept, words-accept, stages-accept, told-accept, descriptors}
 use Rattle.ipcz_world.proofs.facts.Updates.{tells_stop}
 
@@ -45,19 +46,13 @@ module _ (w : World) (b : Books) (g : Records) (from : ℕ) (k : Key) (r : Route
     counts = counts-accept law can;
     ordered = ordered-kept w v g h k r x (changed law can) (agree law can) (like law can) (ordered_of law);
     shape = shape-accept w from k r e o side fresh length (shape_of law) (here law can) (on law can);
-    links = links-accept law can;
-    positions = positions-accept law can;
+    roles = roles-accept law can;
+    begun = begun-accept law can;
     stands = stands-accept law can;
     words = words-accept law can;
     spares = spares-kept w v g h k r x (changed law can) (agree law can) (like law can) (λ i. refl)
         (λ j st. grind (arith, st, at_o law can j, (is law can).stage)) (spares_of law);
-    bypasses = bypasses-accept w g from k r e o side fresh length (bypasses_of law)
-        (record {
-          stage = (is law can).stage;
-          fresh = sym (is law can).on_word;
-          side = (is law can).at_side;
-          router = known_across law can;
-        });
+    bypasses = bypasses law can;
     stages = stages-accept law can;
     live = live-kept g h (λ i l. l) (agree law can).pair (λ j st. grind (arith, st, at_o law can j, (is law can).stage))
         (agree law can).is_begun (live_of law);

@@ -1,4 +1,5 @@
 -- A bypass begins: the invariant is kept, every begin that is possible is one of these, and a node's begin is this update.
+use Rattle.ipcz_world.proofs.frames.RolesTell.{links-in}
 use Rattle.ipcz_world.proofs.Vocabulary.{B, LinkId, Central, Peripheral, LinkEnd, word_of, Router, inward_edge, is_possible, output_of, with_router}
 use Rattle.ipcz_world.proofs.Vocabulary.{router_in, commit, World, Key, node_at, router_at, set_node, after_act, Books, Records, inner_link}
 use Rattle.ipcz_world.proofs.Vocabulary.{is_outward, Inv, leaves_by, apply, message_output, on_router, send, commit_router, keep_or_drop}
@@ -15,7 +16,8 @@ use Rattle.ipcz_world.proofs.facts.Updates.{CanAct, begin_act}
 use Rattle.ipcz_world.proofs.acts.Beginning.{CanBegin, Begins, begins-of}
 use Rattle.ipcz_world.proofs.acts.BegunWorld.{Sends, sends-push}
 use Rattle.ipcz_world.proofs.acts.BegunAround.{IsBegunFrom, begun-from}
-use Rattle.ipcz_world.proofs.acts.BegunLinks.{counts-begun, shape-begun, links-begun, positions-begun}
+use Rattle.ipcz_world.proofs.acts.BegunLinks.{counts-begun, shape-begun}
+use Rattle.ipcz_world.proofs.acts.BegunRoles.{roles-begun, begun-begun}
 use Rattle.ipcz_world.proofs.acts.BegunStages.{stands-begun, words-begun, spares-begun, bypasses-begun, stages-begun}
 use Rattle.ipcz_world.proofs.acts.BegunNumbers.{begin_message, ordered-begun, moves-begun, terminals-begun, end_places-begun, books-begun}
 use Rattle.ipcz_world.proofs.acts.BegunNumbers.{items-begun, order-begun, proxy_numbers-begun, fresh_numbers-begun, conserved-begun}
@@ -31,8 +33,8 @@ inv-begin w b g k r p into out o fresh law can = record {
   counts = counts-begun law is c new;
   ordered = ordered-begun law is c new;
   shape = shape-begun law is c new;
-  links = links-begun law is c new;
-  positions = positions-begun law is c new;
+  roles = roles-begun law is c new;
+  begun = begun-begun law is c new;
   stands = stands-begun law is c new;
   words = words-begun law is c new;
   spares = spares-begun law is c new;
@@ -86,7 +88,7 @@ begin-possible w b g k r law can = go (inward_edge r).primary r.outward.primary 
   where
     at : (into out : LinkEnd) (fresh : ℕ) (l m : LinkId) → (inward_edge r).primary ≡ Some into → r.outward.primary ≡ Some out →
         r.spare ≡ Some fresh → into.link ≡ l → out.link ≡ m → Beginning w k r
-    at into out fresh (Central i) m a d e f h = absurd (grind (arith, (law.links k r can.here).inward_primary_inward into a, f))
+    at into out fresh (Central i) m a d e f h = absurd (grind (arith, ((links-in law) k r can.here).inward_primary_inward into a, f))
     at into out fresh (Peripheral n x) (Peripheral i j) a d e f h = absurd (grind (arith, can.possible, d, h))
     at into out fresh (Peripheral n x) (Central i) a d e f h = record {
       inner = record { node = n; serial = x };

@@ -1,4 +1,5 @@
 -- A bypass begins: what it rests on, and what the records say after it.
+use Rattle.ipcz_world.proofs.frames.RolesTell.{links-in, positions-in}
 use Rattle.ipcz_world.proofs.Vocabulary.{Side, A, B, Central, LinkEnd, opposite, same_side, has, word_of, Router, inward_edge, is_possible, World}
 use Rattle.ipcz_world.proofs.Vocabulary.{Key, word_at, router_at, Books, Records, Spare, is_linked, is_begun, is_recorded, inner_link, bypass_of}
 use Rattle.ipcz_world.proofs.Vocabulary.{side_router, side_node, side_end, has_primary, IsRecorded, is_outward, Inv, is_left, is_proxy}
@@ -119,7 +120,7 @@ begins-of w b g k r p inner outer o fresh law can = record {
   inward_still = is_nothing _ (grind (arith, can.possible));
   inner_known = ap (side_router g (inner_link p)) (sym side) ∙ ap (λ l. side_router g l inner.side) (sym can.inner_at) ∙ inner_is.router;
   inner_recorded = ap (is_recorded w g) (sym can.inner_at) ∙ inner_is.recorded;
-  inner_free = sym (bypass_of-inner g p) ∙ ap (bypass_of g) (sym can.inner_at) ∙ (law.positions.each k r can.here).inward_primary inner can.inner;
+  inner_free = sym (bypass_of-inner g p) ∙ ap (bypass_of g) (sym can.inner_at) ∙ ((positions-in law).each k r can.here).inward_primary inner can.inner;
   inner_end = sym (inner_is.end ∙ ap (λ l. side_end g l inner.side) can.inner_at);
   linked = on.linked;
   known = on.known;
@@ -139,10 +140,10 @@ begins-of w b g k r p inner outer o fresh law can = record {
 }
   where
     inner_is : IsRecorded w g k r inner
-    inner_is = (law.links k r can.here).inward_primary inner can.inner
+    inner_is = ((links-in law) k r can.here).inward_primary inner can.inner
 
     outer_is : IsRecorded w g k r outer
-    outer_is = (law.links k r can.here).primary outer can.outer
+    outer_is = ((links-in law) k r can.here).primary outer can.outer
 
     holds : r.holds ≡ true
     holds = grind (arith, can.possible)
@@ -155,7 +156,7 @@ begins-of w b g k r p inner outer o fresh law can = record {
 
     side_of : (s : Side) → inner.side ≡ s → inner.side ≡ A
     side_of A e = e
-    side_of B e = absurd (grind (arith, (law.links k r can.here).inward_primary_inward inner can.inner, can.inner_at, e))
+    side_of B e = absurd (grind (arith, ((links-in law) k r can.here).inward_primary_inward inner can.inner, can.inner_at, e))
 
     side : inner.side ≡ A
     side = side_of inner.side refl

@@ -1,23 +1,21 @@
 -- A proxy begins: what it was and is, and what the records say of the links around it before and after.
 use Rattle.ipcz_world.proofs.facts.Lengths.{same_side-itself}
-use Rattle.ipcz_world.proofs.Vocabulary.{End, opposite_end, side_end, Side, A, B, LinkId, Central, Peripheral, LinkEnd, Message, opposite, Edge}
+use Rattle.ipcz_world.proofs.Vocabulary.{End, opposite_end, side_end, Side, B, LinkId, Central, Peripheral, LinkEnd, Message, Edge}
 use Rattle.ipcz_world.proofs.Vocabulary.{Router, is_terminal, inward_edge, World, Key, same_key, router_at, Books, Records, is_begun, is_recorded}
-use Rattle.ipcz_world.proofs.Vocabulary.{inner_link, bypass_of, side_router, proxy_side, across_side, IsRecorded, is_outward, Inv, is_left}
+use Rattle.ipcz_world.proofs.Vocabulary.{inner_link, bypass_of, proxy_side, Inv, is_left}
 use Rattle.ipcz_world.proofs.Vocabulary.{is_retired, is_proxy}
 use Rattle.ipcz_base.specs.Ends as ends
 use Rattle.ipcz_world.proofs.frames.LeftSides.{not_left, held_unretired}
 use Rattle.std.specs.Prelude.{◌≡◌, ◌≢◌, ◌⊎◌, ℕ, Bool, true, false, cond, nat_eq, Option, Some, None, is_some, refl}
 use Rattle.std.proofs.Common.{arith, sym, ◌∙◌, ap, inl, inr}
 use Rattle.std.proofs.lemmas.Bool.Decides.{nat_tests}
-use Rattle.std.proofs.lemmas.Option.{same_Some, none-some}
 use Rattle.ipcz_router.specs.ActEffects.{begin_bypass}
 use Rattle.ipcz_world.proofs.frames.Frames.{same_key_tells, same_key-itself}
 use Rattle.ipcz_world.proofs.frames.RecordRules.{bypass_of-inner}
 use Rattle.ipcz_world.proofs.facts.RecordsAfter.{begin_records}
-use Rattle.ipcz_world.proofs.facts.LinkTests.{side_is}
 use Rattle.ipcz_world.proofs.frames.BegunLengths.{begun-bypass_of}
 use Rattle.ipcz_world.proofs.acts.Beginning.{Begins}
-use Rattle.ipcz_world.proofs.acts.BegunRecords.{router-begun, node-begun, end-begun, linked-begun, begun-here, by-inner, end_at}
+use Rattle.ipcz_world.proofs.acts.BegunRecords.{linked-begun, begun-here, by-inner, end_at}
 use Rattle.ipcz_world.proofs.acts.BegunWorld.{Sends}
 
 -- the router after a begin
@@ -119,27 +117,6 @@ module _ {w v : World} {b : Books} {g : Records} {k : Key} {r y : Router} {p : K
   rec-begun (Central i) = linked-begun g k o fresh p i is.owner
   rec-begun (Peripheral n x) = grind (arith, c.count, (c.nodes n).next_peripheral)
 
-  pub recorded-still : (q : Key) (z x : Router) (e : LinkEnd) → x.end ≡ z.end → IsRecorded w g q z e → IsRecorded v after q x e
-  recorded-still q z x e same at = record {
-    recorded = rec-begun e.link ∙ at.recorded;
-    other = at.other ∙ sym (node-begun g k o fresh p e.link (opposite e.side));
-    router = router-begun g k o fresh p e.link e.side ∙ at.router;
-    end = same ∙ at.end ∙ sym (end-begun g k o fresh p e.link e.side);
-  }
-
-  -- the links of the router that has begun
-  pub its-out : (q : Key) (z : Router) (e : LinkEnd) → (q ≡ k) × (z ≡ y) → z.outward.decaying ≡ Some e → e ≡ out
-  its-out q z e a d = same_Some e out (sym d ∙ ap (λ t. t.outward.decaying) a.1 ∙ new.decaying)
-
-  pub its-into : (q : Key) (z : Router) (e : LinkEnd) → (q ≡ k) × (z ≡ y) → (inward_edge z).decaying ≡ Some e → e ≡ into
-  its-into q z e a d = same_Some e into (sym d ∙ ap (λ t. (inward_edge t).decaying) a.1 ∙ new.inward_decaying)
-
-  pub no-primary : {X : Type 0} (q : Key) (z : Router) (e : LinkEnd) → (q ≡ k) × (z ≡ y) → z.outward.primary ≡ Some e → X
-  no-primary q z e a d = absurd (none-some e (sym (ap (λ t. t.outward.primary) a.1 ∙ new.primary) ∙ d))
-
-  pub no-inward : {X : Type 0} (q : Key) (z : Router) (e : LinkEnd) → (q ≡ k) × (z ≡ y) → (inward_edge z).primary ≡ Some e → X
-  no-inward q z e a d = absurd (none-some e (sym (ap (λ t. (inward_edge t).primary) a.1 ∙ new.inward_primary) ∙ d))
-
   -- no link that stays is the old or the inner one
   pub not-old : (j : ℕ) → is_some (bypass_of g (Central j)) ≡ true → nat_eq j o ≡ false
   not-old j a = go (nat_eq j o) refl
@@ -173,16 +150,9 @@ module _ {w v : World} {b : Books} {g : Records} {k : Key} {r y : Router} {p : K
   unfolding bypass_of
   by-central j e = grind (arith, e)
 
-  pub by-old : bypass_of after (Central o) ≡ Some o
-  unfolding bypass_of
-  by-old = grind (arith, nat_tests)
-
   pub by-other : (q : Key) → same_key q p ≡ false → bypass_of after (inner_link q) ≡ bypass_of g (inner_link q)
   by-other q e = bypass_of-inner after q ∙ by-inner g k o fresh p q ∙ ap (λ t. cond t (Some o) (g.peripheral q).by) e ∙ sym
       (bypass_of-inner g q)
-
-  pub by-new : bypass_of after (inner_link p) ≡ Some o
-  by-new = bypass_of-inner after p ∙ by-inner g k o fresh p p ∙ ap (λ t. cond t (Some o) (g.peripheral p).by) (same_key-itself p)
 
   -- whatever is under bypass still is, by the same
   pub still-by : (l : LinkId) → is_some (bypass_of g l) ≡ true → bypass_of after l ≡ bypass_of g l
@@ -200,34 +170,5 @@ module _ {w v : World} {b : Books} {g : Records} {k : Key} {r y : Router} {p : K
   pub begun-new : after.begun k ≡ Some o
   begun-new = grind (arith, same_key-itself k)
 
-  -- the other router of the old link is the one across
-  pub across-is : (q : Key) (z : Router) (e : LinkEnd) → router_at w q ≡ Some z → (q ≡ k → ⊥) → z.outward.primary ≡ Some e →
-      e.link ≡ Central o → e.side ≡ across_side after o
-  across-is q z e at apart d l = go (side_is e.side r.end.side)
-    where
-      side : proxy_side after o ≡ r.end.side
-      side = grind (arith, begun-here g k o fresh p, end_at g k o fresh p p, is.inner_end)
-
-      go : (e.side ≡ r.end.side) ⊎ (e.side ≡ opposite r.end.side) → e.side ≡ across_side after o
-      go (inl s) = absurd (apart (same_Some q k (sym ((law.links q z at).primary e d).router ∙ ap (λ t. side_router g t e.side) l ∙ ap
-          (side_router g (Central o)) s ∙ is.known)))
-      go (inr s) = s ∙ ap opposite (sym side)
-
   pub side-here : proxy_side after o ≡ r.end.side
   side-here = grind (arith, begun-here g k o fresh p, end_at g k o fresh p p, is.inner_end)
-
-  -- the inward primary links of others aren't taken away
-  pub stays-free : (q : Key) (z : Router) (e : LinkEnd) → router_at w q ≡ Some z → (q ≡ k → ⊥) → (inward_edge z).primary ≡ Some e →
-      (l : LinkId) (s : Side) → e.link ≡ l → e.side ≡ s → bypass_of after e.link ≡ None
-  unfolding is_outward
-  stays-free q z e at apart d (Central j) s l t = absurd (grind (arith, (law.links q z at).inward_primary_inward e d, l))
-  stays-free q z e at apart d (Peripheral n x) B l t = absurd (grind (arith, (law.links q z at).inward_primary_inward e d, l, t))
-  stays-free q z e at apart d (Peripheral n x) A l t = go (same_key_tells i p)
-    where
-      i : Key
-      i = record { node = n; serial = x }
-
-      go : ((same_key i p ≡ true) × (i ≡ p)) ⊎ ((same_key i p ≡ false) × (i ≢ p)) → bypass_of after e.link ≡ None
-      go (inl f) = absurd (apart (same_Some q k (sym ((law.links q z at).inward_primary e d).router ∙ ap (λ u. side_router g u e.side) l ∙ ap
-          (side_router g (inner_link i)) t ∙ ap (λ u. side_router g (inner_link u) A) f.1 ∙ is.inner_known)))
-      go (inr f) = ap (bypass_of after) l ∙ by-other i f.0 ∙ sym (ap (bypass_of g) l) ∙ (law.positions.each q z at).inward_primary e d

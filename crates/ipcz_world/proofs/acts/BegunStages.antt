@@ -1,4 +1,5 @@
 -- A proxy begins: who stands where, the words, and the bypass at its first stage.
+use Rattle.ipcz_world.proofs.frames.RolesTell.{links-in}
 use Rattle.ipcz_base.specs.Ends as ends
 use Rattle.ipcz_base.specs.Ends.{opposite_end}
 use Rattle.ipcz_world.proofs.frames.RecordRules.{bypass_of-inner}
@@ -620,7 +621,7 @@ module _ {w v : World} {b : Books} {g : Records} {k : Key} {r y : Router} {p : K
 
       inner-end : side_end g (inner_link p) A ≡ r.end
       inner-end = ap (λ l. side_end g l A) (sym is.inner_at) ∙ ap (side_end g into.link) (sym is.inner_side) ∙ sym
-          ((law.links k r is.here).inward_primary into is.inner).end
+          (((links-in law) k r is.here).inward_primary into is.inner).end
 
       old : (j : ℕ) (z : Router) → nat_eq j o ≡ false → is_begun (after.bypass j) ≡ true → router_at v (after.bypass j).proxy ≡ Some z →
           router_at w (g.bypass j).proxy ≡ Some z

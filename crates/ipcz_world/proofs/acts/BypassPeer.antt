@@ -15,7 +15,8 @@ use Rattle.ipcz_world.proofs.frames.Sealing.{ordered_of, moves_of as moves_law, 
 use Rattle.ipcz_world.proofs.frames.Sealing.{held_once_of, no_strays_of, Sealed, Closed}
 use Rattle.ipcz_world.proofs.acts.BypassPeerAround.{CanPeer, like, changed}
 use Rattle.ipcz_world.proofs.acts.BypassPeerRecords.{bypasses-peer, counts-peer}
-use Rattle.ipcz_world.proofs.acts.BypassPeerLinks.{links-peer, positions-peer, shape-peer}
+use Rattle.ipcz_world.proofs.acts.BypassPeerLinks.{shape-peer}
+use Rattle.ipcz_world.proofs.acts.BypassPeerRoles.{roles-peer, begun-peer}
 use Rattle.ipcz_world.proofs.acts.BypassPeerStages.{stands-peer, words-peer, spares-peer, stages-peer, terminals-peer}
 use Rattle.ipcz_world.proofs.acts.BypassPeerNumbers.{carried, items-peer, order-peer, proxy_numbers-peer, fresh_numbers-peer}
 use Rattle.ipcz_world.proofs.acts.BypassPeerMessages.{refl-agree, places, descriptors, told-peer, moves-peer, places_g}
@@ -43,8 +44,8 @@ module _ (w : World) (b : Books) (g : Records) (from : ℕ) (k : Key) (r : Route
     counts = counts-peer law can;
     ordered = ordered-kept w v g g k r x (changed law can) (refl-agree law can) (like law can) (ordered_of law);
     shape = shape-peer law can;
-    links = links-peer law can;
-    positions = positions-peer law can;
+    roles = roles-peer law can;
+    begun = begun-peer law can;
     stands = stands-peer law can;
     words = words-peer law can;
     spares = spares-peer law can;

@@ -357,14 +357,6 @@ module _ {w : World} {b : Books} {g : Records} {from : ℕ} {k : Key} {r : Route
   known_apart : (l : LinkId) → is_recorded w g l ≡ true → (s : Side) (q : Key) → side_router g l s ≡ Some q → side_router h l s ≡ Some q
   known_apart l rec s q m = router_same l s (apart l rec) ∙ m
 
-  pub rec_kept : (q : Key) (t t' : Router) (d : LinkEnd) → t'.end ≡ t.end → IsRecorded w g q t d → IsRecorded v h q t' d
-  rec_kept q t t' d m rec = record {
-    recorded = recorded_more d.link rec.recorded;
-    other = rec.other ∙ sym (node_same d.link (opposite d.side) (apart d.link rec.recorded));
-    router = router_same d.link d.side (apart d.link rec.recorded) ∙ rec.router;
-    end = m ∙ rec.end ∙ sym (end_same d.link d.side (apart d.link rec.recorded));
-  }
-
   pub new_recorded : (d : LinkEnd) → d ≡ record { link = Central fresh; side = r.end.side; other = target } → IsRecorded v h k x d
   unfolding is_linked
   new_recorded d m = rw m (record {

@@ -21,11 +21,11 @@ use Rattle.ipcz_world.proofs.frames.StandingRules.{standing_rules}
 use Rattle.ipcz_world.proofs.facts.Updates.{CanAct, claim_act}
 use Rattle.ipcz_world.proofs.frames.OneRouter.{SameButRouter, set-router, set-claimed}
 use Rattle.ipcz_world.proofs.frames.SameMessages.{recorded-same, told-same, moves-same}
-use Rattle.ipcz_world.proofs.frames.GivingUp.{was, Gives, same-messages, ordered-gives, links-gives, positions-gives, stands-gives}
+use Rattle.ipcz_world.proofs.frames.GivingUp.{was, Gives, same-messages, ordered-gives, roles-gives, stands-gives}
 use Rattle.ipcz_world.proofs.frames.GivenUp.{Settled, stays, stages-flags, terminals-gives, end_places-gives, books-gives, items-gives}
 use Rattle.ipcz_world.proofs.frames.GivenUp.{order-gives, proxy_numbers-gives, fresh_numbers-gives, conserved-gives, held_once-gives}
 use Rattle.ipcz_world.proofs.acts.Flags.{IsFlagged, flagged-part, flagged-settled}
-use Rattle.ipcz_world.proofs.frames.Aside.{IsAside, central_left, peripheral_left, recorded-aside, links-aside, positions-aside, stands-aside}
+use Rattle.ipcz_world.proofs.frames.Aside.{IsAside, central_left, peripheral_left, recorded-aside, roles-aside, stands-aside}
 use Rattle.ipcz_world.proofs.frames.Aside.{stages-aside, moves-aside, told-aside, terminals-aside, items-aside, order-aside}
 use Rattle.ipcz_world.proofs.frames.Aside.{proxy_numbers-aside, fresh_numbers-aside}
 use Rattle.ipcz_world.proofs.frames.Owners.{is_owned}
@@ -68,8 +68,8 @@ inv-claim w b g k r law can left = record {
     spare_proxy = λ j e. ready;
     spare_central = λ j e. central;
   });
-  links = links-aside aside_here v (links-gives w v g k r (Some y) gives law.links);
-  positions = positions-aside aside_here v (positions-gives w v g k r (Some y) gives law.positions);
+  roles = roles-gives w v _ k r (Some y) gives (roles-aside aside_here w law.bypasses law.begun law.stands law.roles);
+  begun = assumption law.begun;
   stands = stands-aside aside_here v (stands-gives w v g k r (Some y) gives (stays_bare r y) law.stands);
   words = record {
     each = λ j. record {

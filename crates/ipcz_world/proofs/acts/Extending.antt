@@ -22,7 +22,7 @@ use Rattle.ipcz_world.proofs.acts.Sending.{times_same}
 use Rattle.ipcz_world.proofs.acts.ExtendingAround.{next_key, extended, extended_records, IsGrown, IsExtend, other_link, source_same, stood}
 use Rattle.ipcz_world.proofs.acts.ExtendingStages.{nowhere_same, ordered-extended, stands-extended, words-extended, spares-extended}
 use Rattle.ipcz_world.proofs.acts.ExtendingStages.{bypasses-extended, stages-extended, terminals-extended}
-use Rattle.ipcz_world.proofs.acts.ExtendingLinks.{counts-extended, shape-extended, links-extended, positions-extended}
+use Rattle.ipcz_world.proofs.acts.ExtendingLinks.{counts-extended, shape-extended, roles-extended, begun-extended}
 use Rattle.ipcz_world.proofs.acts.ExtendingItems.{order-extended, proxy_numbers-extended}
 use Rattle.ipcz_world.proofs.acts.ExtendingFacts.{last_of, in_node-same}
 use Rattle.ipcz_world.proofs.acts.ExtendingPlaces.{came, items-extended, told-extended, descriptor_came, moves-extended}
@@ -204,8 +204,8 @@ module _ (w v : World) (b : Books) (g : Records) (q : Key) (r : Router) (a : ℕ
       counts = counts-extended law is t hands;
       ordered = ordered-extended law is t;
       shape = shape-extended law is t still_open;
-      links = links-extended law is t;
-      positions = positions-extended law is t;
+      roles = roles-extended law is t;
+      begun = begun-extended law is t;
       stands = stands-extended law is t;
       words = words-extended law is t still_open;
       spares = spares-extended law is t;

@@ -3,7 +3,7 @@ use Rattle.ipcz_world.specs.Standing.{passes}
 use Rattle.ipcz_word.specs.SideSets.{has, has-none}
 use Rattle.ipcz_world.proofs.Vocabulary.{Side, A, B, LinkId, Central, Peripheral, same_link, has_link, Edge, Router, is_terminal, World, Key}
 use Rattle.ipcz_world.proofs.Vocabulary.{same_key, node_at, word_at, router_at, Books, Records, is_recorded, is_begun, bypass_of, inner_link}
-use Rattle.ipcz_world.proofs.Vocabulary.{side_node, side_router, side_end, proxy_side, is_nowhere, key_passes, is_outward, Descriptor, is_left, none}
+use Rattle.ipcz_world.proofs.Vocabulary.{side_node, side_router, side_end, proxy_side, is_nowhere, key_passes, Descriptor, is_left, none}
 use Rattle.ipcz_world.proofs.Vocabulary.{descriptor_of, Moving}
 use Rattle.ipcz_world.specs.Routes.{source as source'}
 use Rattle.std.specs.Prelude.{◌≡◌, ◌≢◌, ◌⊎◌, ◌≤◌, ◌<◌, ◌+◌, ℕ, Bool, true, false, cond, ◌&&◌, nat_eq, nat_le, nat_lt, Option, Some, None}
@@ -70,10 +70,6 @@ just_below n c d i j l e f = grind (arith, l, e, f, nat_tests)
 same_key-is : (n x : ℕ) (p : Key) → same_key (record { node = n; serial = x }) p ≡ false → (nat_eq n p.node && nat_eq x p.serial) ≡ false
 unfolding same_key
 same_key-is n x p f = f
-
-pub is_outward-A : (k : Key) → is_outward (inner_link k) A ≡ false
-unfolding is_outward
-is_outward-A k = refl
 
 pub inner_one : (j k : Key) → inner_link j ≡ inner_link k → j ≡ k
 inner_one j k e = let n : j.node ≡ k.node = grind (arith, e) in let s : j.serial ≡ k.serial = grind (arith, e) in

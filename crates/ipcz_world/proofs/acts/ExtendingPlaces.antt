@@ -1,4 +1,5 @@
 -- A terminal becomes a proxy, and the message that takes its end along gets the descriptor: the messages, and the place of each end.
+use Rattle.ipcz_world.proofs.frames.Opened.{links-open}
 use Rattle.ipcz_world.proofs.Vocabulary.{Side, A, B, End, LinkId, Central, Descriptor, Item, Message, opposite, same_link, is_central, same_end}
 use Rattle.ipcz_world.proofs.Vocabulary.{has_end, item_at, Router, ends_in, World, Key, node_at, router_at, Books, is_closed, Records, is_recorded}
 use Rattle.ipcz_world.proofs.Vocabulary.{is_begun, inner_link, side_node, side_router, side_end, is_nowhere, terminal_node, view, IsUnderWay, makes}
@@ -242,7 +243,7 @@ module _ {w v : World} {b : Books} {g : Records} {q : Key} {r : Router} {a : ℕ
         (law.fresh_numbers x u.0 u.1).comes e f len from to i m c j.0 (ap (λ e. e.primary) (sym u.2) ∙ on)
         (ap (λ e. e.decaying) (sym u.2) ∙ off) (sym (length_same w v b g q r a law is t f.link (opposite f.side)) ∙ d) j.1;
     other = λ c e f len on off d there.
-        let recorded = ((law.links x u.0 u.1).primary e (ap (λ e. e.primary) (sym u.2) ∙ on)).recorded in
+        let recorded = (((links-open law) x u.0 u.1).primary e (ap (λ e. e.primary) (sym u.2) ∙ on)).recorded in
         let o = standing_came e.link (opposite e.side) c recorded there in
         let le : len ≤ o.0.out_queue.current = (law.fresh_numbers x u.0 u.1).other o.0 e f len (ap (λ e. e.primary) (sym u.2) ∙ on)
         (ap (λ e. e.decaying) (sym u.2) ∙ off) (sym (length_same w v b g q r a law is t f.link (opposite f.side)) ∙ d) o.1 in

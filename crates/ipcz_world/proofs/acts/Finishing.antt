@@ -1,4 +1,5 @@
 -- A router gives a decaying link up: the invariant is kept, for all that was to come over the link has come.
+use Rattle.ipcz_world.proofs.frames.RolesTell.{links-in, positions-in}
 use Rattle.std.proofs.lemmas.Bool.{or_left}
 use Rattle.ipcz_world.proofs.frames.GivingUp.{stays_bare}
 use Rattle.ipcz_world.proofs.Vocabulary.{in_router, at_end, Side, A, B, End, LinkId, Central, Peripheral, LinkEnd, Descriptor, Item, opposite}
@@ -169,12 +170,12 @@ unfolding fed_queue is_outward
 come-out w b g k r (Central j) s law here done is = go (side_is s (proxy_side g j))
   where
     recorded : IsRecorded w g k r done.end
-    recorded = (law.links k r here).decaying done.end done.decaying
+    recorded = ((links-in law) k r here).decaying done.end done.decaying
 
     go : (s ≡ proxy_side g j) ⊎ (s ≡ across_side g j) → HasCome w g r (Central j) s
     go (inl e) =
         let own : IsKnown 4 (g.bypass j).stage (g.bypass j).accepted_at done.from =
-        known_from-tells 4 _ _ _ (sym ((law.positions.each k r here).own_from done.end j done.decaying is.link (is.side ∙ e)) ∙
+        known_from-tells 4 _ _ _ (sym (((positions-in law).each k r here).own_from done.end j done.decaying is.link (is.side ∙ e)) ∙
         done.length_from) in
         record {
           from = done.from;
@@ -185,9 +186,9 @@ come-out w b g k r (Central j) s law here done is = go (side_is s (proxy_side g 
           end = recorded.end ∙ ap (λ t. side_end g t done.end.side) is.link ∙ ap (side_end g (Central j)) is.side;
         }
     go (inr e) =
-        let stage : 3 ≤ (g.bypass j).stage = (law.positions.each k r here).across_stage done.end j done.decaying is.link (is.side ∙ e) in
+        let stage : 3 ≤ (g.bypass j).stage = ((positions-in law).each k r here).across_stage done.end j done.decaying is.link (is.side ∙ e) in
         let own : done.from ≡ (g.bypass j).taken_at = same_Some _ _
-        (sym done.length_from ∙ (law.positions.each k r here).across_from done.end j done.decaying is.link (is.side ∙ e)) in
+        (sym done.length_from ∙ ((positions-in law).each k r here).across_from done.end j done.decaying is.link (is.side ∙ e)) in
         record {
           from = done.from;
           length = ap (λ t. side_length g (Central j) (opposite t)) e ∙ ap (side_length g (Central j)) (opposite-twice (proxy_side g j))
@@ -198,20 +199,20 @@ come-out w b g k r (Central j) s law here done is = go (side_is s (proxy_side g 
           end = recorded.end ∙ ap (λ t. side_end g t done.end.side) is.link ∙ ap (side_end g (Central j)) is.side;
         }
 come-out w b g k r (Peripheral n x) A law here done is = absurd (grind
-    (arith, (law.links k r here).decaying_outward done.end done.decaying, is.link, is.side))
+    (arith, ((links-in law) k r here).decaying_outward done.end done.decaying, is.link, is.side))
 come-out w b g k r (Peripheral n x) B law here done is = go (g.peripheral p).by refl
   where
     p : Key
     p = record { node = n; serial = x }
 
     recorded : IsRecorded w g k r done.end
-    recorded = (law.links k r here).decaying done.end done.decaying
+    recorded = ((links-in law) k r here).decaying done.end done.decaying
 
     go : (o : Option ℕ) → (g.peripheral p).by ≡ o → HasCome w g r (inner_link p) B
-    go None e = absurd (grind (arith, bypass_of-inner g p, is.link, (law.positions.each k r here).decaying done.end done.decaying, e))
+    go None e = absurd (grind (arith, bypass_of-inner g p, is.link, ((positions-in law).each k r here).decaying done.end done.decaying, e))
     go (Some o) e =
         let own : IsKnown 5 (g.bypass o).stage (g.bypass o).accepted_at done.from =
-        known_from-tells 5 _ _ _ (sym ((law.positions.each k r here).inner_from done.end p o done.decaying is.link e) ∙ done.length_from) in
+        known_from-tells 5 _ _ _ (sym (((positions-in law).each k r here).inner_from done.end p o done.decaying is.link e) ∙ done.length_from) in
         record {
           from = done.from;
           length = length-inward g p o e (omega (arith, own.since)) ∙ ap Some (sym own.is);
@@ -235,16 +236,16 @@ in-told w b g k r law here e h = begun (g.begun k) e.link refl refl
     begun (Some o) l a q = record {
       bypass = o;
       is = record {
-        begun = law.positions.begun_stage k o a;
+        begun = law.begun.begun_stage k o a;
         proxy =
-            law.positions.begun_proxy k o a;
+            law.begun.begun_proxy k o a;
         here = here;
       };
     }
     begun None l a q = absurd (grind (
       arith,
-      (law.positions.each k r here).inward_decaying e h,
-      (law.positions.each k r here).begun,
+      ((positions-in law).each k r here).inward_decaying e h,
+      ((positions-in law).each k r here).begun,
       (law.shape k r here).role,
       a,
       h,
@@ -266,10 +267,10 @@ come-in w b g k r l s law here done is = subst (λ t. HasCome w g r t s) (sym in
     inner = proxy-inward law told.is done.end done.decaying
 
     recorded : IsRecorded w g k r done.end
-    recorded = (law.links k r here).inward_decaying done.end done.decaying
+    recorded = ((links-in law) k r here).inward_decaying done.end done.decaying
 
     own : IsKnown 4 (g.bypass o).stage (g.bypass o).taken_at done.from
-    own = known_from-tells 4 _ _ _ (sym ((law.positions.each k r here).inward_from done.end o done.decaying (proxy-begun law told.is)) ∙
+    own = known_from-tells 4 _ _ _ (sym (((positions-in law).each k r here).inward_from done.end o done.decaying (proxy-begun law told.is)) ∙
         done.length_from)
 
     by : (g.peripheral (g.bypass o).inner).by ≡ Some o
@@ -430,14 +431,14 @@ inv-finish_out w b g k r law can = inv-gives w (finish_out_act w k r) b g k r (S
         let t : HasEnd r.outward.decaying (Central o) (proxy_side g o) =
         has_link-tells r.outward.decaying (Central o) (proxy_side g o) h in
         let own : IsKnown 4 (g.bypass o).stage (g.bypass o).taken_at done.to =
-        known_from-tells 4 _ _ _ (sym ((law.positions.each k r can.here).own_to t.end o t.there t.on_link t.at_side) ∙ done.length_to) in
+        known_from-tells 4 _ _ _ (sym (((positions-in law).each k r can.here).own_to t.end o t.there t.on_link t.at_side) ∙ done.length_to) in
         omega (arith, own.since)
 
     early_inner : (o : ℕ) → (g.bypass o).stage ≤ 4 → 2 ≤ (g.bypass o).stage → has_decaying (inner_of g o) B r ≡ true → ⊥
     early_inner o a c h =
         let t : HasEnd r.outward.decaying (inner_of g o) B = has_link-tells r.outward.decaying (inner_of g o) B h in
         let own : IsKnown 5 (g.bypass o).stage (g.bypass o).accepted_at done.from
-        = known_from-tells 5 _ _ _ (sym ((law.positions.each k r can.here).inner_from t.end (g.bypass o).inner o t.there t.on_link
+        = known_from-tells 5 _ _ _ (sym (((positions-in law).each k r can.here).inner_from t.end (g.bypass o).inner o t.there t.on_link
         ((law.bypasses o).inner_by (begun-since g o 2 (omega arith) c))) ∙ done.length_from) in
         omega (arith, own.since)
 
@@ -461,7 +462,7 @@ inv-finish_out w b g k r law can = inv-gives w (finish_out_act w k r) b g k r (S
             proxy-outward law (record { begun = begun-since g o 4 (omega arith) a; proxy = e; here = can.here }) done.end done.decaying
             in
             let own : IsKnown 4 (g.bypass o).stage (g.bypass o).taken_at done.to =
-            known_from-tells 4 _ _ _ (sym ((law.positions.each k r can.here).own_to done.end o done.decaying n.link n.side) ∙ done.length_to)
+            known_from-tells 4 _ _ _ (sym (((positions-in law).each k r can.here).own_to done.end o done.decaying n.link n.side) ∙ done.length_to)
             in
             omega (arith, own.is, done.all_sent)
 
@@ -484,7 +485,7 @@ inv-finish_in w b g k r law can = inv-gives w (finish_in_act w k r) b g k r (Som
     early : (o : ℕ) → (g.bypass o).proxy ≡ k → is_begun (g.bypass o) ≡ true → (g.bypass o).stage ≤ 3 → ⊥
     early o e c a =
         let own : IsKnown 4 (g.bypass o).stage (g.bypass o).taken_at done.from
-        = known_from-tells 4 _ _ _ (sym ((law.positions.each k r can.here).inward_from done.end o done.decaying
+        = known_from-tells 4 _ _ _ (sym (((positions-in law).each k r can.here).inward_from done.end o done.decaying
         (proxy-begun law (record { begun = c; proxy = e; here = can.here }))) ∙ done.length_from) in
         omega (arith, own.since)
 
@@ -505,6 +506,6 @@ inv-finish_in w b g k r law can = inv-gives w (finish_in_act w k r) b g k r (Som
         sent : (o : ℕ) → (g.bypass o).proxy ≡ k → 4 ≤ (g.bypass o).stage → (g.bypass o).accepted_at ≤ r.in_queue.current
         sent o e a =
             let own : IsKnown 4 (g.bypass o).stage (g.bypass o).accepted_at done.to
-            = known_from-tells 4 _ _ _ (sym ((law.positions.each k r can.here).inward_to done.end o done.decaying
+            = known_from-tells 4 _ _ _ (sym (((positions-in law).each k r can.here).inward_to done.end o done.decaying
             (proxy-begun law (record { begun = begun-since g o 4 (omega arith) a; proxy = e; here = can.here }))) ∙ done.length_to) in
             omega (arith, own.is, done.all_sent)

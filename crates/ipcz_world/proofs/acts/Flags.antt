@@ -1,4 +1,5 @@
 -- A router changes in flags alone, and a word with it: the invariant is kept.
+use Rattle.ipcz_world.proofs.frames.RolesTell.{links-in}
 use Rattle.ipcz_world.proofs.Vocabulary.{HasShape, End, Side, A, B, LinkId, Central, Peripheral, LinkEnd, opposite, has, word_of, Word, Router}
 use Rattle.ipcz_world.proofs.Vocabulary.{primary_word, World, Key, same_key, word_at, router_at, Books, Records, is_recorded, is_linked, is_begun}
 use Rattle.ipcz_world.proofs.Vocabulary.{side_router, side_end, across_side, is_attached, passes, key_passes, has_primary, Shape, Words, IsRecorded}
@@ -131,7 +132,7 @@ on-word w b g k r i law here on = go r.outward.primary refl
     at e p (Central j) q =
         let m : j ≡ i = same_Some j i (grind (arith, on, p, q)) in
         let l : e.link ≡ Central i = q ∙ ap Central m in
-        let is : IsRecorded w g k r e = (law.links k r here).primary e p in
+        let is : IsRecorded w g k r e = ((links-in law) k r here).primary e p in
         let s : e.side ≡ r.end.side = sym (ap (λ z. z.side) (is.end ∙ ap (λ t. side_end g t e.side) l)) in
         record {
           end = e;
@@ -290,7 +291,7 @@ words-touched w v b g k r y i x law here on live one same words touch = record {
     other_holds q z e j there h p l n ne = go (side_is e.side y.end.side)
       where
         rec : IsRecorded w g q z e
-        rec = (law.links q z there).primary e p
+        rec = ((links-in law) q z there).primary e p
 
         at_i : side_router g (Central i) e.side ≡ Some q
         at_i = ap (λ u. side_router g u e.side) (sym (l ∙ ap Central n)) ∙ rec.router

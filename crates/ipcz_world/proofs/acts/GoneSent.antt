@@ -1,4 +1,5 @@
 -- The last item of an end that has retired is sent: what is said of all but terminals, retired ends and Gone is kept, with Gone in the books.
+use Rattle.ipcz_world.proofs.frames.NearInv.{links-near}
 use Rattle.std.specs.Prelude.{◌≡◌, ◌≢◌, ◌⊎◌, ◌≤◌, ◌+◌, ℕ, suc, Bool, true, false, cond, ◌||◌, Some, None, List, [], ◌∷◌, ◌++◌, length}
 use Rattle.std.specs.Prelude.{take, drop, map, slice_get, refl}
 use Rattle.std.proofs.Common.{arith, ap, subst, ◌∙◌, sym, inl, inr}
@@ -23,7 +24,7 @@ use Rattle.ipcz_world.proofs.frames.Draining.{other-drained}
 use Rattle.ipcz_world.proofs.frames.Frames.{same_key_tells}
 use Rattle.ipcz_world.proofs.frames.NearInv.{NearInv}
 use Rattle.ipcz_world.proofs.frames.Touching.{IsTouched, alike-itself, HasSameHands, HasSameEnds, hands-same, recorded_same, counts-touched}
-use Rattle.ipcz_world.proofs.frames.Touching.{shape-touched, links-touched, positions-touched, stands-touched, words-touched, spares-touched}
+use Rattle.ipcz_world.proofs.frames.Touching.{shape-touched, roles-touched, stands-touched, words-touched, spares-touched}
 use Rattle.ipcz_world.proofs.frames.Touching.{bypasses-touched, stages-touched}
 use Rattle.ipcz_world.proofs.acts.Sending.{about-item, moves-item, times_same}
 use Rattle.ipcz_world.proofs.frames.Known.{not_there_yet}
@@ -171,7 +172,7 @@ module _ (w v : World) (b : Books) (g : Records) (e : End) (jk : Key) (z : Route
   items-pushed = items_by v g (λ from to' i l t m x moves u. elim
       (came_pushed w v fr to (messages.Item link s n Gone []) is.pushed from to' i (messages.Item l t m x moves) u) [
         | inl c ↦ fits-drained w v jk z z g from to' i c.at l t m d (fits_of w g from to' c.at l t m x moves law.items c.was) (c.made l t)
-            (λ q h. not_there_yet w b g from to' c.at l t m x moves q law.conserved law.counts law.links c.was h)
+            (λ q h. not_there_yet w b g from to' c.at l t m x moves q law.conserved law.counts (links-near law) c.was h)
         | inr c ↦ new from to' i l t m x moves c.sender c.receiver c.at c.message
       ])
     where
@@ -331,8 +332,8 @@ module _ (w v : World) (b : Books) (g : Records) (e : End) (jk : Key) (z : Route
     counts = counts-touched w v jk z z g is.touched (alike-itself z) law.counts (hands-same w v g law.counts is.touched.count is.hands);
     ordered = ordered-drained w v jk z z g d law.ordered;
     shape = shape-touched w v jk z z g is.touched (alike-itself z) law.shape;
-    links = links-touched w v jk z z g is.touched (alike-itself z) law.links;
-    positions = positions-touched w v jk z z g is.touched (alike-itself z) law.positions;
+    roles = roles-touched w v jk z z g is.touched (alike-itself z) law.roles;
+    begun = law.begun;
     stands = stands-touched w v jk z z g is.touched (alike-itself z) law.stands;
     words = words-touched w v jk z z g is.touched (alike-itself z) law.words;
     spares = spares-touched w v jk z z g is.touched (alike-itself z) law.spares;

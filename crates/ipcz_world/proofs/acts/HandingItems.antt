@@ -1,5 +1,6 @@
 -- A node that handles an item makes the terminals of its descriptors and gives the item to the router that it is for: all that holds is
 -- kept.
+use Rattle.ipcz_world.proofs.frames.Opened.{links-open}
 use Rattle.ipcz_world.proofs.Vocabulary.{Side, End, LinkId, Central, Peripheral, Descriptor, Item, Message, same_end, has_end, is_central, put_place}
 use Rattle.ipcz_world.proofs.Vocabulary.{Router, from_descriptor, Hand, Node, bare_node, with_router, World, Key, node_at, mail_at, way, router_at}
 use Rattle.ipcz_world.proofs.Vocabulary.{set_node, set_mail, after_act, hand_message, Books, Records, inner_link, terminal_node, IsUnderWay}
@@ -280,7 +281,7 @@ module _ (w : World) (b : Books) (g : Records) (from n : ℕ) (l : LinkId) (s : 
     here = router_there;
     in_hand = mail_there;
     hand = ap (λ x. x.hand) node_there ∙ made_hand (node_at w n) from (d ∷ ds) ∙ hand;
-    router = (has_at u h key asks.router l s made.links router_there (has_attached l s asks.router asks.on)).router;
+    router = (has_at u h key asks.router l s (links-open made) router_there (has_attached l s asks.router asks.on)).router;
     attached = asks.on;
     ends = λ e has. made_gets g n (node_at w n).next_router e (d ∷ ds) peripheral
         (subst (λ es. has_end e es ≡ true) (sym (its_ends w b g from n l s number item (d ∷ ds) law below hand mail away)) has);

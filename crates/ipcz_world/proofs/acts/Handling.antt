@@ -1,4 +1,5 @@
 -- A message in hand finds its router and fits there: what a node does with it is the update that the bypass's stage expects.
+use Rattle.ipcz_world.proofs.frames.RolesTell.{links-in, positions-in}
 use Rattle.std.specs.Prelude.{nat_lt}
 use Rattle.ipcz_world.proofs.frames.Sources.{accept_source}
 use Rattle.ipcz_world.proofs.Vocabulary.{Side, A, B, LinkId, Central, LinkEnd, Message, opposite, has_link, is_central, Router, router_has}
@@ -107,7 +108,7 @@ module _ (w : World) (b : Books) (g : Records) (law : Inv w b g) where
       go : IsPeer g from n o link side target fresh → fits (node_at w n) from (messages.BypassPeer link side o target fresh)
           (source_for w (messages.BypassPeer link side o target fresh)) ≡ true
       go at =
-          let mine : HasAt w g k r link side = has_at w g k r link side law.links can.here has in
+          let mine : HasAt w g k r link side = has_at w g k r link side (links-in law) can.here has in
           let known : side_router g (inner_of g o) B ≡ Some k = subst (λ l. side_router g l B ≡ Some k) at.on_link
           (subst (λ s. side_router g link s ≡ Some k) at.at_side mine.router) in
           let on : has_primary (inner_of g o) B r ≡ true = sym (passes-at w (Some k) k r (has_primary (inner_of g o) B) refl can.here) ∙
@@ -122,7 +123,7 @@ module _ (w : World) (b : Books) (g : Records) (law : Inv w b g) where
           in
           let new : is_named (node_at w n) (Central fresh) r.end.side ≡ false =
           unnamed n (Central fresh) r.end.side (λ q y there named. not_linked at
-          (has_at w g q y (Central fresh) r.end.side law.links there named).recorded) in
+          (has_at w g q y (Central fresh) r.end.side (links-in law) there named).recorded) in
           rw (e, primary, peripheral, still, low, new) refl
         where
           old_recorded : is_recorded w g (Central o) ≡ true
@@ -134,7 +135,7 @@ module _ (w : World) (b : Books) (g : Records) (law : Inv w b g) where
 
           stays : HasEnd r.outward.primary (inner_of g o) B → (d : Option LinkEnd) → r.outward.decaying ≡ d → is_some d ≡ false
           stays end None q = refl
-          stays end (Some d) q = let c = fresh_central w g k r end.end d law.positions can.here end.there q in
+          stays end (Some d) q = let c = fresh_central w g k r end.end d (positions-in law) can.here end.there q in
               let bad : inner_of g o ≡ Central c.0 = sym end.on_link ∙ c.1 in cc
 
   pub peer_is : (n from o : ℕ) (link : LinkId) (side : Side) (target fresh : ℕ)
@@ -174,7 +175,7 @@ module _ (w : World) (b : Books) (g : Records) (law : Inv w b g) where
       go at =
           let begun : is_begun (g.bypass o) ≡ true = grind (arith, at.stage, nat_tests) in
           let early : (g.bypass o).stage ≤ 2 = omega (arith, at.stage) in
-          let mine : HasAt w g k r (Central o) side = has_at w g k r (Central o) side law.links here has in
+          let mine : HasAt w g k r (Central o) side = has_at w g k r (Central o) side (links-in law) here has in
           let known : side_router g (Central o) (across_side g o) ≡ Some k =
           subst (λ s. side_router g (Central o) s ≡ Some k) at.at_side mine.router in
           let on : has_primary (Central o) (across_side g o) r ≡ true =
@@ -183,7 +184,7 @@ module _ (w : World) (b : Books) (g : Records) (law : Inv w b g) where
           let marked : r.marked ≡ true = sym (passes-at w _ k r (λ x. x.marked) known here) ∙ (law.stages o).across_marked begun early in
           let still : edge_decays r.outward ≡ false = grind (arith, (law.shape k r here).marked_still marked) in
           let new : is_named (node_at w n) (Central fresh) side ≡ false =
-          unnamed n (Central fresh) side (λ q y there named. awaited at (has_at w g q y (Central fresh) side law.links there named)) in
+          unnamed n (Central fresh) side (λ q y there named. awaited at (has_at w g q y (Central fresh) side (links-in law) there named)) in
           (rw (e, primary, still, new) (accept_source w b g n from o side fresh length law at), primary)
         where
           awaited : {q : Key} {y : Router} → IsAccept g from n o side fresh length → HasAt w g q y (Central fresh) side → ⊥
@@ -249,11 +250,11 @@ module _ (w : World) (b : Books) (g : Records) (law : Inv w b g) where
           let begun : is_begun (g.bypass o) ≡ true = grind (arith, at.stage, nat_tests) in
           let early : (g.bypass o).stage ≤ 3 = omega (arith, at.stage) in
           let late : nat_le 4 (g.bypass o).stage ≡ false = grind (arith, at.stage, nat_tests) in
-          let mine : HasAt w g k r (Central o) side = has_at w g k r (Central o) side law.links here has in
+          let mine : HasAt w g k r (Central o) side = has_at w g k r (Central o) side (links-in law) here has in
           let known : side_router g (Central o) (proxy_side g o) ≡ Some k =
           subst (λ s. side_router g (Central o) s ≡ Some k) at.at_side mine.router in
           let proxy : Some (g.bypass o).proxy ≡ Some k = sym ((law.bypasses o).proxy_old begun) ∙ known in
-          let owns : g.begun k ≡ Some o = ap g.begun (sym (same_Some _ k proxy)) ∙ law.positions.proxy_begun o begun in
+          let owns : g.begun k ≡ Some o = ap g.begun (sym (same_Some _ k proxy)) ∙ law.begun.proxy_begun o begun in
           let off : has_decaying (Central o) (proxy_side g o) r ≡ true =
           sym (passes-at w _ k r (has_decaying (Central o) (proxy_side g o)) proxy here) ∙ (law.stages o).proxy_old begun early in
           let decaying : has_link r.outward.decaying (Central o) side ≡ true =
@@ -264,14 +265,14 @@ module _ (w : World) (b : Books) (g : Records) (law : Inv w b g) where
           sym (passes-at w _ k r (has_inward_decaying (inner_of g o) A) proxy here) ∙ (law.stages o).proxy_inner begun early in
           let i : HasEnd (inward_edge r).decaying (inner_of g o) A = has_link-tells (inward_edge r).decaying (inner_of g o) A inner in
           let to : is_none r.outward.length_to ≡ true =
-          unknown _ 4 _ _ ((law.positions.each k r here).own_to d.end o d.there d.on_link d.at_side) late in
+          unknown _ 4 _ _ (((positions-in law).each k r here).own_to d.end o d.there d.on_link d.at_side) late in
           let back : is_none r.outward.length_from ≡ true =
-          unknown _ 4 _ _ ((law.positions.each k r here).own_from d.end o d.there d.on_link d.at_side) late in
+          unknown _ 4 _ _ (((positions-in law).each k r here).own_from d.end o d.there d.on_link d.at_side) late in
           let in_to : is_none (inward_edge r).length_to ≡ true =
-          unknown _ 4 _ _ ((law.positions.each k r here).inward_to i.end o i.there owns) late
+          unknown _ 4 _ _ (((positions-in law).each k r here).inward_to i.end o i.there owns) late
           in
           let in_back : is_none (inward_edge r).length_from ≡ true =
-          unknown _ 4 _ _ ((law.positions.each k r here).inward_from i.end o i.there owns) late in
+          unknown _ 4 _ _ (((positions-in law).each k r here).inward_from i.end o i.there owns) late in
           let outer : decays_unknown r.outward ≡ true = grind (arith, d.there, to, back) in
           let inward : decays_unknown (inward_edge r) ≡ true = grind (arith, i.there, in_to, in_back) in
           (rw (e, decaying, outer, inward) refl, i.end, i.there)
@@ -316,7 +317,7 @@ module _ (w : World) (b : Books) (g : Records) (law : Inv w b g) where
       go : (o : ℕ) → IsWillStop g from n o link side in_length → fits (node_at w n) from (messages.ProxyWillStop link side in_length)
           (source_for w (messages.ProxyWillStop link side in_length)) ≡ true
       go o at =
-          let mine : HasAt w g k r link side = has_at w g k r link side law.links here has in
+          let mine : HasAt w g k r link side = has_at w g k r link side (links-in law) here has in
           let known : side_router g (inner_of g o) B ≡ Some k = subst (λ l. side_router g l B ≡ Some k) at.on_link
           (subst (λ s. side_router g link s ≡ Some k) at.at_side mine.router) in
           let off : has_decaying (inner_of g o) B r ≡ true = sym (passes-at w _ k r (has_decaying (inner_of g o) B) known here) ∙
@@ -325,7 +326,7 @@ module _ (w : World) (b : Books) (g : Records) (law : Inv w b g) where
           (subst (λ s. has_decaying (inner_of g o) s r ≡ true) (sym at.at_side) off) in
           let d : HasEnd r.outward.decaying (inner_of g o) B = has_link-tells r.outward.decaying (inner_of g o) B off in
           let back : is_none r.outward.length_from ≡ true =
-          unknown _ 5 _ _ ((law.positions.each k r here).inner_from d.end (g.bypass o).inner o d.there d.on_link
+          unknown _ 5 _ _ (((positions-in law).each k r here).inner_from d.end (g.bypass o).inner o d.there d.on_link
           ((law.bypasses o).inner_by (grind (arith, at.stage, nat_tests)))) (grind (arith, at.stage, nat_tests)) in
           rw (e, decaying, back) refl
 

@@ -1,4 +1,5 @@
 -- An item in the hand of a node finds the router that it is for, and fits there, so it is never kept as a stray.
+use Rattle.ipcz_world.proofs.frames.RolesTell.{links-in}
 use Rattle.ipcz_world.proofs.Vocabulary.{Side, A, B, End, LinkId, Central, Peripheral, LinkEnd, Descriptor, Item, same_end, has_end, opposite_end}
 use Rattle.ipcz_world.proofs.Vocabulary.{same_link, Router, router_has, Node, Found, outbox, ends_in, World, Key, node_at, mail_at, way, router_at}
 use Rattle.ipcz_world.proofs.Vocabulary.{messages_in, Books, read, is_closed, Records, side_router, side_end, at_end, names_end, moves_of, Links}
@@ -164,7 +165,7 @@ module _ (w : World) (b : Books) (g : Records) (from n : ℕ) (l : LinkId) (s : 
       go Awaited e = let m = law.items.behind from n 0 l s number item moves under (ap is_awaited e) in cc
       go (Waiting d) e = let m = law.items.behind from n 0 l s number item moves under (ap is_awaited e) in cc
       go Gone e = let m = law.items.receiver_there from n 0 l s number item moves under in absurd (grind (arith, e, m))
-      go (Standing r) e = let st : IsStanding w g l s r = standing_known w g l s r law.links e in
+      go (Standing r) e = let st : IsStanding w g l s r = standing_known w g l s r (links-in law) e in
           let at : st.key.node ≡ n = sym (law.items.receiver from n 0 l s number item moves under ∙ node_of_router g l s st.key st.router)
           in record {
             serial = st.key.serial;
@@ -186,7 +187,7 @@ module _ (w : World) (b : Books) (g : Records) (from n : ℕ) (l : LinkId) (s : 
   placed : has_place (fed_queue l s r) number ≡ true
   placed =
       let low = law.items.not_passed from n 0 l s number item moves (fed_queue l s r) under taking in
-      let free = not_there_yet w b g from n 0 l s number item moves (fed_queue l s r) law.conserved law.counts law.links under taking in
+      let free = not_there_yet w b g from n 0 l s number item moves (fed_queue l s r) law.conserved law.counts (links-in law) under taking in
       grind (arith, low, free, nat_tests)
 
   -- the number is of an item that was put
@@ -226,7 +227,7 @@ module _ (w : World) (b : Books) (g : Records) (from n : ℕ) (l : LinkId) (s : 
 
   new_move : (j : ℕ) (d : Descriptor) → slice_get moves j ≡ Some d → is_new_move (node_at w n) d ≡ true
   new_move j d h =
-      let unnamed = link_missing w g n d.link B law.links (law.moves.awaited from n 0 j (messages.Item l s number item moves) d under
+      let unnamed = link_missing w g n d.link B (links-in law) (law.moves.awaited from n 0 j (messages.Item l s number item moves) d under
       (descriptor j d h)) in
       let unclosed = law.conserved.move_open from n 0 j (messages.Item l s number item moves) d under (descriptor j d h) in
       let low : d.next_out ≤ last_number = low_next d.next_out (length (b.put d.end)) (is_closed b d.end) (is_retired b d.end)
@@ -263,10 +264,10 @@ module _ (w : World) (b : Books) (g : Records) (from n : ℕ) (l : LinkId) (s : 
           (λ j d h. law.moves.end from n 0 j (messages.Item l s number item moves) d under (descriptor j d h))
 
   pub found : link_router (node_at w n) l s ≡ Some (record { serial = asked.serial; router = asked.router })
-  found = link_found w g k r l s law.links asked.here (has_attached l s r asked.on)
+  found = link_found w g k r l s (links-in law) asked.here (has_attached l s r asked.on)
 
   pub outward : outward_has r l s ≡ is_outward l s
-  outward = outward_is w g k r l s law.links asked.here asked.on
+  outward = outward_is w g k r l s (links-in law) asked.here asked.on
 
   -- the item fits
   pub item-fits : fits (node_at w n) from (messages.Item l s number item moves) (source_for w (messages.Item l s number item moves)) ≡ true

@@ -1,4 +1,5 @@
 -- A proxy leaves, without links or when it has sent Gone inward: the invariant is kept, for its queues are empty.
+use Rattle.ipcz_world.proofs.frames.RolesTell.{links-in, positions-in}
 use Rattle.ipcz_world.proofs.frames.NearInv.{inv-near, near-inv}
 use Rattle.std.specs.Prelude.{◌≢◌, ◌⊎◌, ◌<◌, ◌||◌, length}
 use Rattle.std.proofs.Common.{ap, sym, subst, ◌∙◌, inl, inr}
@@ -74,10 +75,10 @@ unfolding has_link
 leaver-told w b g k r law here bare = go (g.begun k) refl
   where
     go : (o : Option ℕ) → g.begun k ≡ o → IsTold g k
-    go None e = absurd (grind (arith, (law.positions.each k r here).begun, bare.proxy, bare.inward_primary, e))
+    go None e = absurd (grind (arith, ((positions-in law).each k r here).begun, bare.proxy, bare.inward_primary, e))
     go (Some o) e = record {
       bypass = o;
-      proxy = law.positions.begun_proxy k o e;
+      proxy = law.begun.begun_proxy k o e;
       told = late (nat_le 4 (g.bypass o).stage) refl;
     }
       where
@@ -86,9 +87,9 @@ leaver-told w b g k r law here bare = go (g.begun k) refl
         late false q = absurd (grind (
           arith,
           standing_rules,
-          (law.stages o).proxy_old (law.positions.begun_stage k o e)
+          (law.stages o).proxy_old (law.begun.begun_stage k o e)
               (grind (arith, q, nat_tests)),
-          law.positions.begun_proxy k o e,
+          law.begun.begun_proxy k o e,
           here,
           bare.decaying,
         ))
@@ -217,7 +218,7 @@ module _ (w : World) (b : Books) (g : Records) (k : Key) (r : Router) (law : Inv
       left i e p l = law.retired_ends.left (opposite_end r.end) i retired linked (unbegun (is_begun (g.bypass i)) refl) pair
         where
           rec : IsRecorded w g k r e
-          rec = (law.links k r here).primary e p
+          rec = ((links-in law) k r here).primary e p
 
           linked : is_linked (g.owner i) ≡ true
           linked = sym (ap (is_recorded w g) l) ∙ rec.recorded
@@ -227,7 +228,7 @@ module _ (w : World) (b : Books) (g : Records) (k : Key) (r : Router) (law : Inv
 
           unbegun : (c : Bool) → is_begun (g.bypass i) ≡ c → is_begun (g.bypass i) ≡ false
           unbegun false f = f
-          unbegun true f = let low = (law.positions.each k r here).primary_old e i p l f in
+          unbegun true f = let low = ((positions-in law).each k r here).primary_old e i p l f in
               absurd (unbypassed i (grind (arith, f, nat_tests)) (omega (arith, low)) pair)
 
 -- a proxy that has sent Gone leaves

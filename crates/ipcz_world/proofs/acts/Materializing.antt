@@ -26,7 +26,7 @@ use Rattle.ipcz_world.proofs.acts.ExtendingFacts.{in_node-same}
 use Rattle.ipcz_world.proofs.acts.MaterializingAround.{made_key_records, IsMade, IsMaterial, source_same, was_there}
 use Rattle.ipcz_world.proofs.acts.MaterializingStages.{nowhere_same, stands-made, words-made, spares-made, bypasses-made, stages-made}
 use Rattle.ipcz_world.proofs.acts.MaterializingStages.{terminals-made}
-use Rattle.ipcz_world.proofs.acts.MaterializingLinks.{counts-made, ordered-made, shape-made, links-made, positions-made}
+use Rattle.ipcz_world.proofs.acts.MaterializingLinks.{counts-made, ordered-made, shape-made, roles-made, begun-made}
 use Rattle.ipcz_world.proofs.acts.MaterializingItems.{reach-blank, order-made, proxy_numbers-made}
 use Rattle.ipcz_world.proofs.acts.MaterializingPlaces.{came, items-made, told-made, descriptor_came, moves-made, fresh_numbers-made}
 use Rattle.ipcz_world.proofs.acts.MaterializingPlaces.{end_places-made, books_kept-made}
@@ -201,8 +201,8 @@ module _ (w v : World) (b : Books) (g : Records) (a : ℕ) (q p : Key) (d : Desc
       counts = counts-made law is t hands;
       ordered = ordered-made law is t;
       shape = shape-made law is t;
-      links = links-made law is t;
-      positions = positions-made law is t;
+      roles = roles-made law is t;
+      begun = begun-made law is t;
       stands = stands-made law is t;
       words = words-made law is t;
       spares = spares-made law is t;

@@ -1,22 +1,23 @@
 -- A descriptor becomes a terminal: each link is as its record says, and primary or decaying as its bypass says.
-use Rattle.ipcz_world.proofs.Vocabulary.{HasLinks}
-use Rattle.ipcz_world.proofs.frames.EachKept.{each-by}
-use Rattle.ipcz_world.proofs.frames.LinksKept.{links-still}
+use Rattle.ipcz_world.proofs.frames.Roles.{On, Unbegun, HasRole, Roles, BegunRecords, lone}
+use Rattle.ipcz_world.proofs.frames.RolesKept.{Knows, keeps-same, role-kept}
+use Rattle.ipcz_world.proofs.frames.RecordRules.{bypass_of-inner}
+use Rattle.std.proofs.lemmas.Option.{none-some}
 use Rattle.ipcz_world.proofs.Vocabulary.{HasShape}
 use Rattle.ipcz_world.proofs.Vocabulary.{IsOrdered}
 use Rattle.ipcz_world.proofs.frames.EachKept.{each-one}
-use Rattle.std.specs.Prelude.{◌≡◌, ◌<◌, ℕ, Bool, true, false, ◌&&◌, nat_eq, nat_le, Some, is_some, refl}
+use Rattle.std.specs.Prelude.{◌≡◌, ◌<◌, ℕ, Bool, true, false, ◌&&◌, nat_eq, nat_le, Some, None, refl}
 use Rattle.std.proofs.Common.{arith, ap, subst, ◌∙◌, sym, inl, inr}
 use Rattle.std.proofs.lemmas.Bool.Decides.{nat_tests}
-use Rattle.ipcz_world.proofs.Vocabulary.{Side, A, B, LinkId, Central, LinkEnd, Descriptor, opposite, same_side, same_link}
-use Rattle.ipcz_world.proofs.Vocabulary.{Router, inward_edge, from_descriptor, World, Key, node_at, router_at, Books, Records}
-use Rattle.ipcz_world.proofs.Vocabulary.{is_recorded, is_begun, inner_link, side_node, side_router, side_end, proxy_side, across_side}
-use Rattle.ipcz_world.proofs.Vocabulary.{Counts, Ordered, Shape, Links, IsRecorded, Positions, is_outward}
+use Rattle.ipcz_world.proofs.Vocabulary.{Side, A, B, LinkId, Descriptor, same_side, same_link}
+use Rattle.ipcz_world.proofs.Vocabulary.{Router, from_descriptor, World, Key, node_at, Books, Records}
+use Rattle.ipcz_world.proofs.Vocabulary.{is_recorded, is_begun, inner_link, side_node, side_router}
+use Rattle.ipcz_world.proofs.Vocabulary.{Counts, Ordered, Shape}
 use Rattle.ipcz_world.proofs.frames.Touching.{Hands}
 use Rattle.ipcz_world.proofs.frames.Opened.{OpenInv}
-use Rattle.ipcz_world.proofs.acts.ExtendingAround.{inner_end_is, inner_one}
+use Rattle.ipcz_world.proofs.acts.ExtendingAround.{inner_end_is}
 use Rattle.ipcz_world.proofs.acts.MaterializingAround.{made_key_records, IsMade, IsMaterial, up, own_up, empty_at, is_outward-B}
-use Rattle.ipcz_world.proofs.acts.MaterializingAround.{no_central, recorded, from_node, unmade, end_is, node_same, end_same, by_same}
+use Rattle.ipcz_world.proofs.acts.MaterializingAround.{recorded, from_node, unmade, end_is, node_same, end_same}
 use Rattle.ipcz_world.proofs.acts.MaterializingAround.{bypass_same, side_same, recorded_same, router_kept, router_new, router_same}
 use Rattle.ipcz_world.proofs.acts.MaterializingAround.{was_there}
 use Rattle.ipcz_world.proofs.facts.Lengths.{same_link-tells, same_side-tells}
@@ -90,50 +91,6 @@ module _ {w v : World} {b : Books} {g : Records} {a : ℕ} {q p : Key} {d : Desc
     spare_central = λ i e. absurd (grind (arith, e));
   })
 
-  still_recorded : (x : Key) (z : Router) (e : LinkEnd) → IsRecorded w g x z e → IsRecorded v h x z e
-  still_recorded x z e rec = record {
-    recorded = recorded_same law is t e.link ∙ rec.recorded;
-    other = rec.other ∙ sym (node_same law is t e.link (opposite e.side));
-    router = router_kept law is t e.link e.side x rec.router;
-    end = rec.end ∙ sym (end_same law is t e.link e.side);
-  }
-
-  new_recorded : IsRecorded v h q y (record { link = d.link; side = B; other = a })
-  new_recorded = record {
-    recorded = recorded_same law is t d.link ∙ ap (is_recorded w g) is.link ∙ recorded law is t;
-    other = sym (node_same law is t d.link A ∙ ap (λ l. side_node g l A) is.link ∙ from_node law is t);
-    router = ap (λ l. side_router h l B) is.link ∙ router_new law is t;
-    end = sym (end_same law is t d.link B ∙ ap (λ l. side_end g l B) is.link ∙ inner_end_is g p B ∙ end_is law is t);
-  }
-
-  the_end : (z : Router) (e : LinkEnd) → z ≡ y → z.outward.primary ≡ Some e → record { link = d.link; side = B; other = a } ≡ e
-  the_end z e n f = same_some (ap (λ z. z.outward.primary) (sym n) ∙ f)
-
-  pub links-made : Links v h
-  links-made = each-by w v q y (HasLinks w g) (HasLinks v h) t.router (λ x z. links-still (λ e. still_recorded x z e)) law.links (record {
-    primary = λ e f. subst (λ e. IsRecorded v h q y e) (the_end y e refl f) new_recorded;
-    decaying = λ e f. absurd (grind (arith, f));
-    inward_primary = λ e f. absurd (grind (arith, f));
-    inward_decaying = λ e f. absurd (grind (arith, f));
-    primary_outward = λ e f. subst (λ e. is_outward e.link e.side ≡ true) (the_end y e refl f) (ap (λ l. is_outward l B) is.link ∙ is_outward-B p);
-    decaying_outward = λ e f. absurd (grind (arith, f));
-    inward_primary_inward = λ e f. absurd (grind (arith, f));
-    inward_decaying_inward = λ e f. absurd (grind (arith, f));
-  })
-
-  -- a router with more than an outward primary link was there
-  was_old : (x : Key) (z : Router) (e : LinkEnd) → router_at v x ≡ Some z → z.outward.decaying ≡ Some e → router_at w x ≡ Some z
-  was_old x z e at f = elim (was_there law is t x z at) [ inl o ↦ o.0 | inr o ↦ absurd (grind (arith, o.0, f)) ]
-
-  was_in : (x : Key) (z : Router) (e : LinkEnd) → router_at v x ≡ Some z → (inward_edge z).decaying ≡ Some e → router_at w x ≡ Some z
-  was_in x z e at f = elim (was_there law is t x z at) [ inl o ↦ o.0 | inr o ↦ absurd (grind (arith, o.0, f)) ]
-
-  own_side : (o : ℕ) (s : Side) → s ≡ proxy_side h o → s ≡ proxy_side g o
-  own_side o s e = e ∙ side_same law is t o
-
-  far_side : (o : ℕ) (s : Side) → s ≡ across_side h o → s ≡ across_side g o
-  far_side o s e = e ∙ ap opposite (side_same law is t o)
-
   -- a bypass that has been taken has its router inward
   early : (o : ℕ) → (g.peripheral p).by ≡ Some o → (g.bypass o).stage ≡ 1
   early o e = go (nat_le 2 (g.bypass o).stage) refl
@@ -146,51 +103,43 @@ module _ {w v : World} {b : Books} {g : Records} {a : ℕ} {q p : Key} {d : Desc
       go true f = let some = (law.bypasses o).inner_known (grind (arith, f, nat_tests)) in
           absurd (grind (arith, some, ap (λ k. side_router g (inner_link k) B) (law.stands.by_inner p o e) ∙ unmade law is t))
 
-  pub positions-made : Positions v h
-  positions-made = record {
-    each = λ x z at. record {
-      inward_primary = λ e f. elim (was_there law is t x z at) [
-        | inl o ↦ bypass_same law is t e.link ∙ (law.positions.each x z o.0).inward_primary e f
-        | inr o ↦
-            absurd (grind (arith, o.0, f))
-      ];
-      inward_decaying = λ e f. bypass_same law is t e.link ∙ (law.positions.each x z (was_in x z e at f)).inward_decaying e f;
-      inward_to = λ e o f c. (law.positions.each x z (was_in x z e at f)).inward_to e o f c;
-      inward_from = λ e o f c. (law.positions.each x z (was_in x z e at f)).inward_from e o f c;
-      primary_old = λ e o f l c. elim (was_there law is t x z at) [
-        | inl n ↦ (law.positions.each x z n.0).primary_old e o f l c
-        | inr n ↦ absurd
-            (not_central z e o n.0 f l)
-      ];
-      primary_across = λ e o f l c. elim (was_there law is t x z at) [
-        | inl n ↦ (law.positions.each x z n.0).primary_across e o f l c ∙ ap opposite
-            (sym (side_same law is t o))
-        | inr n ↦ absurd (not_central z e o n.0 f l)
-      ];
-      primary_inner = λ e k o f l c. elim (was_there law is t x z at) [
-        | inl n ↦ (law.positions.each x z n.0).primary_inner e k o f l (sym (by_same law is t k) ∙ c)
-        | inr n ↦ let same : k ≡ p = inner_one k p (sym l ∙ ap (λ e. e.link) (sym (the_end z e n.0 f)) ∙ is.link) in
-            early o (ap (λ k. (g.peripheral k).by) (sym same) ∙ sym (by_same law is t k) ∙ c)
-      ];
-      decaying = λ e f. ap is_some (bypass_same law is t e.link) ∙ (law.positions.each x z (was_old x z e at f)).decaying e f;
-      inner_stage = λ e k o f l c. (law.positions.each x z (was_old x z e at f)).inner_stage e k o f l (sym (by_same law is t k) ∙ c);
-      inner_to = λ e k o f l c. (law.positions.each x z (was_old x z e at f)).inner_to e k o f l (sym (by_same law is t k) ∙ c);
-      inner_from = λ e k o f l c. (law.positions.each x z (was_old x z e at f)).inner_from e k o f l (sym (by_same law is t k) ∙ c);
-      inner_fresh = λ e k o f l c. (law.positions.each x z (was_old x z e at f)).inner_fresh e k o f l (sym (by_same law is t k) ∙ c);
-      own_proxy = λ e o f l s. (law.positions.each x z (was_old x z e at f)).own_proxy e o f l (own_side o e.side s);
-      own_alone = λ e o f l s. (law.positions.each x z (was_old x z e at f)).own_alone e o f l (own_side o e.side s);
-      own_to = λ e o f l s. (law.positions.each x z (was_old x z e at f)).own_to e o f l (own_side o e.side s);
-      own_from = λ e o f l s. (law.positions.each x z (was_old x z e at f)).own_from e o f l (own_side o e.side s);
-      across_stage = λ e o f l s. (law.positions.each x z (was_old x z e at f)).across_stage e o f l (far_side o e.side s);
-      across_to = λ e o f l s. (law.positions.each x z (was_old x z e at f)).across_to e o f l (far_side o e.side s);
-      across_from = λ e o f l s. (law.positions.each x z (was_old x z e at f)).across_from e o f l (far_side o e.side s);
-      across_fresh = λ e o f l s. (law.positions.each x z (was_old x z e at f)).across_fresh e o f l (far_side o e.side s);
-      begun = λ f. elim (was_there law is t x z at) [ inl o ↦ (law.positions.each x z o.0).begun f | inr o ↦ absurd (grind (arith, o.0, f)) ];
-    };
-    begun_proxy = law.positions.begun_proxy;
-    begun_stage = law.positions.begun_stage;
-    proxy_begun = law.positions.proxy_begun;
+  knows : Knows w v g h
+  knows = record {
+    recorded = λ l e. recorded_same law is t l ∙ e;
+    router = λ l s x a e. router_kept law is t l s x e;
+    node = λ l s a. node_same law is t l s;
+    end = λ l s a. end_same law is t l s;
+    fresh = λ o b. refl;
+    inner = λ o b. refl;
+    stage = λ o. omega arith;
   }
-    where
-      not_central : (z : Router) (e : LinkEnd) (o : ℕ) → z ≡ y → z.outward.primary ≡ Some e → e.link ≡ Central o → ⊥
-      not_central z e o n f l = no_central (sym l ∙ ap (λ e. e.link) (sym (the_end z e n f)) ∙ is.link)
+
+  -- the new terminal is on its link
+  own : HasRole v h q y
+  own = record {
+    role = Unbegun (On (inner_link p) B) None;
+    proxy = refl;
+    outward = λ i. lone (Some (record { link = is.link i; side = B; other = sym (node_same law is t (inner_link p) A ∙ from_node law is t) i }));
+    inward = refl;
+    fits = (
+      record {
+        recorded = recorded_same law is t (inner_link p) ∙ recorded law is t;
+        router = router_new law is t;
+        end = sym (end_same law is t (inner_link p) B ∙ inner_end_is g p B ∙ end_is law is t);
+        stays = λ o by. omega (arith, early o (sym (bypass_of-inner g p) ∙ sym (bypass_same law is t (inner_link p)) ∙ by));
+      },
+      is_outward-B p,
+      λ i e. absurd (none-some i e),
+    );
+  }
+
+  pub roles-made : Roles v h
+  roles-made x z at = elim (was_there law is t x z at) [
+    | inl o ↦ role-kept knows law.bypasses law.begun.begun_stage
+        (keeps-same x (λ o. refl) (λ k. refl) (bypass_same law is t) (λ o b. side_same law is t o) law.stands) z
+        (law.roles x z o.0)
+    | inr o ↦ rw (o.0, o.1) own
+  ]
+
+  pub begun-made : BegunRecords h
+  begun-made = assumption law.begun

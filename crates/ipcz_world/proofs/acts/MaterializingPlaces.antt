@@ -1,4 +1,5 @@
 -- A descriptor becomes a terminal, and the message that had it has it no more: the messages, and the place of each end.
+use Rattle.ipcz_world.proofs.frames.Opened.{links-open, positions-open}
 use Rattle.ipcz_world.proofs.frames.OfRecords.{holds}
 use Rattle.std.specs.Prelude.{◌≡◌, ◌≢◌, ◌⊎◌, ◌+◌, ℕ, suc, Bool, true, false, ◌&&◌, Some, None, is_some, refl, List, ◌∷◌, slice_get}
 use Rattle.std.proofs.Common.{arith, ap, subst, ◌∙◌, sym, inl, inr}
@@ -258,9 +259,9 @@ module _ {w v : World} {b : Books} {g : Records} {a : ℕ} {q p : Key} {d : Desc
           z.outward.decaying ≡ Some f → standing_router (view v h2 e.link (opposite e.side)) ≡ Some c →
           standing_router (view w g e.link (opposite e.side)) ≡ Some c
       standing_came x z c e f at on off there = elim (seen_made w v b g a q p d law is t e.link (opposite e.side)
-          ((law.links x z at).primary e on).recorded) [
+          (((links-open law) x z at).primary e on).recorded) [
             | inl o ↦ ap standing_router (sym o) ∙ there
-            | inr o ↦ absurd (no_central (sym (fresh_central w g x z e f law.positions at on off).1 ∙ o.link_is))
+            | inr o ↦ absurd (no_central (sym (fresh_central w g x z e f (positions-open law) at on off).1 ∙ o.link_is))
           ]
 
   term_kept : (e : End) (m : ℕ) → terminal_node (g.terminal e) ≡ Some m → terminal_node (h2.terminal e) ≡ Some m

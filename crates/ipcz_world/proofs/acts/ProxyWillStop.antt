@@ -1,39 +1,40 @@
 -- The router inward learns its length: the last message of a bypass.
 use Rattle.ipcz_world.proofs.frames.LiveLinks.{live-kept}
 use Rattle.ipcz_world.proofs.frames.Sealing.{live_of}
-use Rattle.ipcz_world.proofs.Vocabulary.{Weight, in_router, Side, B, End, LinkId, Central, LinkEnd, Descriptor, Message, opposite, has_link, Router}
-use Rattle.ipcz_world.proofs.Vocabulary.{router_has, inward_edge, World, Key, same_key, mail_at, way, router_at, Books, Records, is_begun, inner_link}
-use Rattle.ipcz_world.proofs.Vocabulary.{side_router, bypass_of, proxy_side, across_side, known_from, Standing, is_gone, view, has_decaying}
-use Rattle.ipcz_world.proofs.Vocabulary.{IsUnderWay, makes, is_made_before, under_way, moves_of, of_end, total_list, is_outward, Told, of_bypass}
-use Rattle.ipcz_world.proofs.Vocabulary.{control_weight, inner_of, Inv, proxy_will_stop}
+use Rattle.ipcz_world.proofs.Vocabulary.{Weight, in_router, Side, B, End, LinkId, Descriptor, Message, opposite, has_link, Router}
+use Rattle.ipcz_world.proofs.Vocabulary.{router_has, inward_edge, World, Key, mail_at, way, router_at, Books, Records, is_begun, inner_link}
+use Rattle.ipcz_world.proofs.Vocabulary.{side_router, bypass_of, proxy_side, known_from, Standing, is_gone, view, has_decaying}
+use Rattle.ipcz_world.proofs.Vocabulary.{IsUnderWay, makes, is_made_before, under_way, moves_of, of_end, total_list, Told, of_bypass}
+use Rattle.ipcz_world.proofs.Vocabulary.{control_weight, inner_of, Inv, proxy_will_stop, is_proxy, fresh_of, A}
 use Rattle.ipcz_world.specs.Places.{in_message as in_message'}
-use Rattle.std.specs.Prelude.{◌≡◌, ◌≢◌, ◌⊎◌, ◌<◌, ◌≤◌, ℕ, ◌+◌, true, false, nat_eq, is_some, Some, refl}
+use Rattle.std.specs.Prelude.{◌≡◌, ◌≢◌, ◌⊎◌, ◌<◌, ◌≤◌, ℕ, ◌+◌, true, false, nat_eq, is_some, Option, Some, refl}
 use Rattle.std.proofs.Common.{arith, ap, ◌∙◌, sym, inl, inr}
 use Rattle.std.proofs.lemmas.Bool.Decides.{nat_tests}
-use Rattle.std.proofs.lemmas.Option.{same_Some}
+use Rattle.std.proofs.lemmas.Option.{same_Some, none-some}
 use Rattle.ipcz_base.specs.declared.message.Message.TheVariants as messages
 use Rattle.ipcz_world.specs.declared.mail.Mail.TheVariants as mails
-use Rattle.ipcz_world.proofs.frames.Frames.{same_key-itself}
 use Rattle.ipcz_world.proofs.facts.RecordsAfter.{ended_records}
 use Rattle.ipcz_world.proofs.frames.OfRecords.{in_places}
 use Rattle.ipcz_world.proofs.facts.Updates.{CanHand, will_stop_act}
 use Rattle.ipcz_world.proofs.frames.Handing.{handed, place_before, was_under_way-handed, was_made_before-handed, under_way-handed}
 use Rattle.ipcz_world.proofs.frames.Handing.{word-handed, hand-handed, mail-handed, changed-handed}
 use Rattle.ipcz_world.proofs.frames.Placing.{places-handed}
-use Rattle.ipcz_world.proofs.frames.Unmoved.{IsLike, Changed, Carried, Agree, side_node-agree, bypass_of-agree, about-agree, expected-agree}
+use Rattle.ipcz_world.proofs.frames.Unmoved.{IsLike, Changed, Carried, Agree, side_node-agree, proxy_side-agree, bypass_of-agree, about-agree, expected-agree}
 use Rattle.ipcz_world.proofs.frames.Unmoved.{places-agree, ordered-kept, spares-kept, moves-kept, terminals-kept, end_places-kept}
 use Rattle.ipcz_world.proofs.frames.Unmoved.{books_kept-kept, conserved-kept, held_once-kept, no_strays-kept}
 use Rattle.ipcz_world.proofs.frames.Counting.{IsReceived, counts-received}
-use Rattle.ipcz_world.proofs.facts.Lengths.{same_side-tells, HasEnd, has_link-tells, passed, is_attached-inner, view-standing}
+use Rattle.ipcz_world.proofs.facts.Lengths.{HasEnd, has_link-tells, passed, is_attached-inner, view-standing}
 use Rattle.ipcz_world.proofs.facts.Lengths.{known_from-yes}
 use Rattle.ipcz_world.proofs.acts.BypassAsked.{IsEnded, ended}
+use Rattle.ipcz_world.proofs.frames.Roles.{On, Across, Inward, Role, Unbegun, Begun, has_inner, outward_of, inward_of, standing_edge, Fits, HasRole, Roles}
+use Rattle.ipcz_world.proofs.frames.Roles.{end_of, trim, trim-decays, trim-tells, inner-one}
+use Rattle.ipcz_world.proofs.frames.RolesKept.{Knows, end-kept, on-kept, inward-kept}
 use Rattle.ipcz_world.proofs.frames.StageFurther as further
 use Rattle.ipcz_world.proofs.frames.StageFurtherNumbers as numbers
 use Rattle.ipcz_world.proofs.frames.StageFurther.{IsLinkedLike}
-use Rattle.ipcz_world.proofs.frames.Sealing.{Sealed, Closed, opened, counts_of, links_of, positions_of, stands_of, bypasses_of, stages_of}
+use Rattle.ipcz_world.proofs.frames.Sealing.{Sealed, Closed, opened, counts_of, links_of, bypasses_of, stages_of, roles_of}
 use Rattle.ipcz_world.proofs.frames.Sealing.{told_of, proxy_numbers_of, fresh_numbers_of, ordered_of, spares_of, moves_of as moves_law}
 use Rattle.ipcz_world.proofs.frames.Sealing.{terminals_of, end_places_of, books_kept_of, conserved_of, held_once_of, no_strays_of}
-use Rattle.ipcz_world.proofs.frames.Frames.{OneOrBefore, one_or_before}
 use Rattle.ipcz_world.proofs.frames.Having.{has_at}
 
 -- what the hand of the message needs: the router that has the link is asked
@@ -124,98 +125,50 @@ module _ (w : World) (b : Books) (g : Records) (from : ℕ) (k : Key) (r : Route
   at_o : (j : ℕ) → ((nat_eq j o ≡ true) × (j ≡ o)) ⊎ ((nat_eq j o ≡ false) × (j ≢ o))
   at_o j = grind (arith, nat_tests)
 
-  split : (q : Key) (t : Router) → router_at v q ≡ Some t → OneOrBefore w k x q t
-  split q t e = one_or_before w v k x changed.router q t e
-
-  -- the asked router's decaying link is the inner one
-  x_dec : (t : Router) (d : LinkEnd) → x ≡ t → t.outward.decaying ≡ Some d → d.link ≡ inner_of g o
-  x_dec t d m e = ap (λ u. u.link) (same_Some d z_end.end (sym e ∙ ap (λ u. u.outward.decaying) (sym m) ∙ z_end.there)) ∙ z_end.on_link
-
   known4 : (j n : ℕ) → known_from 4 (h.bypass j).stage n ≡ known_from 4 (g.bypass j).stage n
   known4 j n = grind (arith, at_o j, is.stage, known_from-yes 4 5 n, known_from-yes 4 4 n)
 
-  inner_is : (p q : Key) → inner_link p ≡ inner_link q → p ≡ q
-  inner_is p q m = let a : p.node ≡ q.node = grind (arith, m) in let c : p.serial ≡ q.serial = grind (arith, m) in
-      λ i. record { node = a i; serial = c i }
+  abbrev knows : Knows w v g h
+  knows = further.knows law changed like linked carried is.stage late early
 
-  -- the router inward alone has the inner link decaying
-  inner_alone : (q : Key) (t : Router) (d : LinkEnd) → same_key q k ≡ false → router_at w q ≡ Some t → t.outward.decaying ≡ Some d →
-      d.link ≡ inner_of g o → ⊥
-  unfolding is_outward
-  inner_alone q t d apart at m l = let s : d.side ≡ B = same_side-tells d.side B (rw l at (((links_of law) q t at).decaying_outward d m)) in
-      let known' : side_router g (inner_of g o) B ≡ Some q = rw (l, s) at ((((links_of law) q t at).decaying d m).router) in
-      let same : q ≡ k = same_Some q k (sym known' ∙ known) in grind (arith, apart, same, same_key-itself k)
-
-  owes : numbers.LengthsOwe law changed like linked carried is.stage late early
-  owes = record {
-    inward_to = λ q t d j e p n. let z : further.Was law changed like linked carried is.stage late early q t =
-        further.was_router law changed like linked carried is.stage late early q t e in
-        inward_to_at q t d j p n (split q t e) ∙ sym (known4 j (g.bypass j).accepted_at);
-    inward_from = λ q t d j e p n. inward_from_at q t d j p n (split q t e) ∙ sym (known4 j (g.bypass j).taken_at);
-    inner_to = λ q t d p j e m l n. inner_to_at q t d p j m l n (split q t e);
-    inner_from = λ q t d p j e m l n. inner_from_at q t d p j m l n (split q t e) (at_o j);
-    own_to = λ q t d j e m l n. own_to_at q t d j m l n (split q t e) ∙ sym (known4 j (g.bypass j).taken_at);
-    own_from = λ q t d j e m l n. own_from_at q t d j m l n (split q t e) ∙ sym (known4 j (g.bypass j).accepted_at);
-    across_to = λ q t d j e m l n. across_to_at q t d j m l n (split q t e);
-    across_from = λ q t d j e m l n. across_from_at q t d j m l n (split q t e);
-  }
+  -- the router inward knows both lengths
+  own : (a : Role) → is_proxy r ≡ has_inner a → trim r.outward ≡ outward_of g a → trim (inward_edge r) ≡ inward_of g a → Fits w g k r.end a →
+      HasRole v h k x
+  own (Unbegun (On l s) i) p c d f = absurd (none-some z_end.end (sym (ap (λ t. t.decaying) c) ∙ z_end.there))
+  own (Unbegun (Across j) i) p c d f = absurd (grind (arith, z_end.there, z_end.on_link, ap (λ t. t.decaying) c))
+  own (Begun j true z) p c d f = absurd (grind (arith, z_end.there, z_end.on_link, ap (λ t. t.decaying) c))
+  own (Begun j false z) p c d f = absurd (none-some z_end.end (sym (ap (λ t. t.decaying) c) ∙ z_end.there))
+  own (Unbegun (Inward j) i) p c d f = it i p (rw it-is at c) d (rw it-is at f)
     where
-      inward_to_at : (q : Key) (t : Router) (d : LinkEnd) (j : ℕ) → (inward_edge t).decaying ≡ Some d → g.begun q ≡ Some j →
-          ((q ≡ k) × (x ≡ t)) ⊎ ((same_key q k ≡ false) × (router_at w q ≡ Some t)) →
-          (inward_edge t).length_to ≡ known_from 4 (g.bypass j).stage (g.bypass j).accepted_at
-      inward_to_at q t d j p n (inl m) = rw (← m.1) (((positions_of law).each k r here).inward_to d j (rw (← m.1) at p) (ap g.begun (sym m.0) ∙ n))
-      inward_to_at q t d j p n (inr m) = ((positions_of law).each q t m.1).inward_to d j p n
+      it-is : j ≡ o
+      it-is = inner-one (bypasses_of law) j o (grind (arith, f.1.0, nat_tests)) begun
+          (ap (λ d. d.link) (same_Some _ z_end.end (sym (ap (λ t. t.decaying) c) ∙ z_end.there)) ∙ z_end.on_link)
 
-      inward_from_at : (q : Key) (t : Router) (d : LinkEnd) (j : ℕ) → (inward_edge t).decaying ≡ Some d → g.begun q ≡ Some j →
-          ((q ≡ k) × (x ≡ t)) ⊎ ((same_key q k ≡ false) × (router_at w q ≡ Some t)) →
-          (inward_edge t).length_from ≡ known_from 4 (g.bypass j).stage (g.bypass j).taken_at
-      inward_from_at q t d j p n (inl m) = rw (← m.1) (((positions_of law).each k r here).inward_from d j (rw (← m.1) at p)
-          (ap g.begun (sym m.0) ∙ n))
-      inward_from_at q t d j p n (inr m) = ((positions_of law).each q t m.1).inward_from d j p n
+      it : (i : Option Key) → is_proxy r ≡ is_some i → trim r.outward ≡ standing_edge g (Inward o) →
+          trim (inward_edge r) ≡ inward_of g (Unbegun (Inward o) i) → Fits w g k r.end (Unbegun (Inward o) i) → HasRole v h k x
+      it i p c d f = let t = trim-tells r.outward _ _ _ _ c in
+          let fresh : end_of h (fresh_of h o) (proxy_side h o) ≡ end_of g (fresh_of g o) (proxy_side g o) =
+          rw (agree.fresh o, proxy_side-agree g h agree o) (end-kept knows (fresh_of g o) (proxy_side g o) f.0.recorded) in
+          let inner : end_of h (inner_of h o) B ≡ end_of g (inner_of g o) B =
+          rw (agree.inner o) (end-kept knows (inner_of g o) B ((bypasses_of law o).inner begun)) in record {
+            role = Unbegun (Inward o) i;
+            proxy = p;
+            outward = trim-decays x.outward _ _ _ _ (t.primary ∙ ap Some (sym fresh)) (t.decaying ∙ ap Some (sym inner)) (rw (itself o) t.length_to)
+                (rw (itself o) (ap Some is.accepted ∙ sym (known_from-yes 5 5 _ (omega arith))));
+            inward = d ∙ sym (inward-kept knows r.end i f.2);
+            fits = (
+              rw (agree.fresh o, proxy_side-agree g h agree o) (on-kept knows f.0 (further.stays-further law changed like linked carried is.stage late early _ _ f.0.stays)),
+              (rw (itself o) (omega arith), rw (agree.inner o) (knows.router (inner_of g o) B k ((bypasses_of law o).inner begun) f.1.1)),
+              λ q e. on-kept knows (f.2 q e) (further.stays-further law changed like linked carried is.stage late early (inner_link q) A (f.2 q e).stays),
+            );
+          }
 
-      inner_to_at : (q : Key) (t : Router) (d : LinkEnd) (p : Key) (j : ℕ) → t.outward.decaying ≡ Some d → d.link ≡ inner_link p →
-          (g.peripheral p).by ≡ Some j → ((q ≡ k) × (x ≡ t)) ⊎ ((same_key q k ≡ false) × (router_at w q ≡ Some t)) →
-          t.outward.length_to ≡ Some (g.bypass j).taken_at
-      inner_to_at q t d p j m l n (inl c) = rw (← c.1) (((positions_of law).each k r here).inner_to d p j (rw (← c.1) at m) l n)
-      inner_to_at q t d p j m l n (inr c) = ((positions_of law).each q t c.1).inner_to d p j m l n
-
-      inner_from_at : (q : Key) (t : Router) (d : LinkEnd) (p : Key) (j : ℕ) → t.outward.decaying ≡ Some d → d.link ≡ inner_link p →
-          (g.peripheral p).by ≡ Some j → ((q ≡ k) × (x ≡ t)) ⊎ ((same_key q k ≡ false) × (router_at w q ≡ Some t)) →
-          ((nat_eq j o ≡ true) × (j ≡ o)) ⊎ ((nat_eq j o ≡ false) × (j ≢ o)) →
-          t.outward.length_from ≡ known_from 5 (h.bypass j).stage (g.bypass j).accepted_at
-      inner_from_at q t d p j m l n (inl c) (inl a) = ap (λ u. u.outward.length_from) (sym c.1) ∙ ap Some
-          (is.accepted ∙ ap (λ i. (g.bypass i).accepted_at) (sym a.1)) ∙ sym
-          (rw a.0 (known_from-yes 5 5 (g.bypass j).accepted_at (omega arith)))
-      inner_from_at q t d p j m l n (inr c) (inl a) = absurd (inner_alone q t d c.0 c.1 m
-          (l ∙ ap inner_link (sym ((stands_of law).by_inner p o (n ∙ ap Some a.1)))))
-      inner_from_at q t d p j m l n (inl c) (inr a) = absurd (a.1
-          (same_Some j o (sym n ∙ ap (λ i. (g.peripheral i).by) (inner_is p (g.bypass o).inner (sym l ∙ x_dec t d c.1 m)) ∙
-          (bypasses_of law o).inner_by begun)))
-      inner_from_at q t d p j m l n (inr c) (inr a) = rw a.0 (((positions_of law).each q t c.1).inner_from d p j m l n)
-
-      own_to_at : (q : Key) (t : Router) (d : LinkEnd) (j : ℕ) → t.outward.decaying ≡ Some d → d.link ≡ Central j →
-          d.side ≡ proxy_side g j → ((q ≡ k) × (x ≡ t)) ⊎ ((same_key q k ≡ false) × (router_at w q ≡ Some t)) →
-          t.outward.length_to ≡ known_from 4 (g.bypass j).stage (g.bypass j).taken_at
-      own_to_at q t d j m l n (inl c) = absurd (grind (arith, sym l ∙ x_dec t d c.1 m))
-      own_to_at q t d j m l n (inr c) = ((positions_of law).each q t c.1).own_to d j m l n
-
-      own_from_at : (q : Key) (t : Router) (d : LinkEnd) (j : ℕ) → t.outward.decaying ≡ Some d → d.link ≡ Central j →
-          d.side ≡ proxy_side g j → ((q ≡ k) × (x ≡ t)) ⊎ ((same_key q k ≡ false) × (router_at w q ≡ Some t)) →
-          t.outward.length_from ≡ known_from 4 (g.bypass j).stage (g.bypass j).accepted_at
-      own_from_at q t d j m l n (inl c) = absurd (grind (arith, sym l ∙ x_dec t d c.1 m))
-      own_from_at q t d j m l n (inr c) = ((positions_of law).each q t c.1).own_from d j m l n
-
-      across_to_at : (q : Key) (t : Router) (d : LinkEnd) (j : ℕ) → t.outward.decaying ≡ Some d → d.link ≡ Central j →
-          d.side ≡ across_side g j → ((q ≡ k) × (x ≡ t)) ⊎ ((same_key q k ≡ false) × (router_at w q ≡ Some t)) →
-          t.outward.length_to ≡ Some (g.bypass j).accepted_at
-      across_to_at q t d j m l n (inl c) = absurd (grind (arith, sym l ∙ x_dec t d c.1 m))
-      across_to_at q t d j m l n (inr c) = ((positions_of law).each q t c.1).across_to d j m l n
-
-      across_from_at : (q : Key) (t : Router) (d : LinkEnd) (j : ℕ) → t.outward.decaying ≡ Some d → d.link ≡ Central j →
-          d.side ≡ across_side g j → ((q ≡ k) × (x ≡ t)) ⊎ ((same_key q k ≡ false) × (router_at w q ≡ Some t)) →
-          t.outward.length_from ≡ Some (g.bypass j).taken_at
-      across_from_at q t d j m l n (inl c) = absurd (grind (arith, sym l ∙ x_dec t d c.1 m))
-      across_from_at q t d j m l n (inr c) = ((positions_of law).each q t c.1).across_from d j m l n
+  roles : Roles v h
+  roles = further.roles-further law changed like linked carried is.stage late early (λ q j n apart f. elim (at_o j) [
+    | inl a ↦ absurd (apart (same_Some q k (sym f.1 ∙ ap (λ i. side_router g (inner_of g i) B) a.1 ∙ known)))
+    | inr a ↦ rw a.0 refl
+  ]) (λ q j n apart b. known4 j n)
+      (let c = roles_of law k r here in own c.role c.proxy c.outward c.inward c.fits)
 
   view_z : view w g (inner_of g o) B ≡ Standing r
   view_z = view-standing w g (inner_of g o) B k r known here (grind (arith, is_attached-inner (g.bypass o).inner r, z_inner))
@@ -311,8 +264,8 @@ module _ (w : World) (b : Books) (g : Records) (from : ℕ) (k : Key) (r : Route
         (sym (further.recorded_same law changed like linked carried is.stage late early l) ∙ rec)));
     ordered = ordered-kept w v g h k r x changed agree like (ordered_of law);
     shape = further.shape-further law changed like linked carried is.stage late early;
-    links = further.links-further law changed like linked carried is.stage late early;
-    positions = numbers.positions-further law changed like linked carried is.stage late early owes;
+    roles = roles;
+    begun = further.begun-further law changed like linked carried is.stage late early;
     stands = further.stands-further law changed like linked carried is.stage late early;
     words = further.words-further law changed like linked carried is.stage late early (word-handed w from k x);
     spares = spares-kept w v g h k r x changed agree like (λ i. refl) (λ j st. grind (arith, st, at_o j, is.stage)) (spares_of law);

@@ -1,4 +1,5 @@
 -- A terminal puts an item, a parcel or its mark: all that holds is kept, with the books after it.
+use Rattle.ipcz_world.proofs.frames.RolesTell.{links-in}
 use Rattle.std.specs.Prelude.{is_none, is_some, unwrap_or}
 use Rattle.ipcz_world.proofs.Vocabulary.{LinkEnd, inward_edge, side_end, across_side, Side, A, B, End, LinkId, Central, Peripheral, Item, opposite}
 use Rattle.ipcz_world.proofs.Vocabulary.{opposite_end, same_end, has_end, has_link, Edge, Queue, item_at, Router, is_terminal, ends_in, World, Key}
@@ -28,7 +29,7 @@ use Rattle.ipcz_world.proofs.frames.Frames.{same_key_tells, same_key-itself}
 use Rattle.ipcz_world.specs.Places.{unread_weight}
 use Rattle.ipcz_world.specs.Whereabouts.{times_closed}
 use Rattle.ipcz_world.proofs.frames.Touching.{IsTouched, IsAlike, HasSameHands, hands-same, recorded_same, counts-touched, shape-touched}
-use Rattle.ipcz_world.proofs.frames.Touching.{links-touched, positions-touched, stands-touched, words-touched, spares-touched}
+use Rattle.ipcz_world.proofs.frames.Touching.{roles-touched, stands-touched, words-touched, spares-touched}
 use Rattle.ipcz_world.proofs.frames.Touching.{bypasses-touched, stages-touched, terminals-touched}
 use Rattle.ipcz_world.proofs.frames.Draining.{gone_same, taking_queue-standing}
 use Rattle.ipcz_world.proofs.facts.Reaching.{is_reach}
@@ -576,10 +577,10 @@ module _ (w v : World) (b : Books) (g : Records) (k : Key) (r y : Router) (item 
             (λ same. absurd (none same))
           where
             rec : IsRecorded w g q z.router e
-            rec = (law.links q z.router z.at).inward_primary e p
+            rec = ((links-in law) q z.router z.at).inward_primary e p
 
             end : side_end g e.link (opposite e.side) ≡ z.router.end
-            end = end_around g e.link e.side ((law.links q z.router z.at).inward_primary_inward e p) ∙ sym rec.end
+            end = end_around g e.link e.side (((links-in law) q z.router z.at).inward_primary_inward e p) ∙ sym rec.end
 
             none : opposite_end z.router.end ≡ r.end → ⊥
             none same = let e' : z.router.end ≡ opposite_end r.end = sym (opposite_end-twice z.router.end) ∙ ap opposite_end same in
@@ -620,8 +621,8 @@ module _ (w v : World) (b : Books) (g : Records) (k : Key) (r y : Router) (item 
       counts = counts-touched w v k r y g is.touched is.alike law.counts (hands-same w v g law.counts is.touched.count is.hands);
       ordered = ordered-put;
       shape = shape-touched w v k r y g is.touched is.alike law.shape;
-      links = links-touched w v k r y g is.touched is.alike law.links;
-      positions = positions-touched w v k r y g is.touched is.alike law.positions;
+      roles = roles-touched w v k r y g is.touched is.alike law.roles;
+      begun = law.begun;
       stands = stands-touched w v k r y g is.touched is.alike law.stands;
       words = words-touched w v k r y g is.touched is.alike law.words;
       spares = spares-touched w v k r y g is.touched is.alike law.spares;

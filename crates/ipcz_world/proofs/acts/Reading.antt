@@ -1,4 +1,5 @@
 -- A terminal's in queue loses its current item, got by a caller or discarded by a sink: all that holds is kept, with the books after it.
+use Rattle.ipcz_world.proofs.frames.RolesTell.{links-in}
 use Rattle.std.specs.Prelude.{Option, None, is_some, nat_lt}
 use Rattle.std.proofs.lemmas.Bool.Decides.{nat_tests}
 use Rattle.ipcz_world.proofs.Vocabulary.{Edge, inward_edge, End, Item, opposite_end, has_end, total, item_at, current_item, Router, is_terminal}
@@ -19,8 +20,8 @@ use Rattle.ipcz_router.specs.Calls.{take_item}
 use Rattle.ipcz_base.specs.Items.{same_item}
 use Rattle.ipcz_world.proofs.frames.Frames.{same_key-itself}
 use Rattle.ipcz_world.specs.Places.{unread_weight}
-use Rattle.ipcz_world.proofs.frames.Touching.{IsTouched, IsAlike, HasSameHands, hands-same, counts-touched, shape-touched, links-touched}
-use Rattle.ipcz_world.proofs.frames.Touching.{positions-touched, stands-touched, words-touched, spares-touched, bypasses-touched}
+use Rattle.ipcz_world.proofs.frames.Touching.{IsTouched, IsAlike, HasSameHands, hands-same, counts-touched, shape-touched, roles-touched}
+use Rattle.ipcz_world.proofs.frames.Touching.{stands-touched, words-touched, spares-touched, bypasses-touched}
 use Rattle.ipcz_world.proofs.frames.Touching.{stages-touched, terminals-touched}
 use Rattle.ipcz_world.proofs.frames.Draining.{IsDraining, drained_same, drained_pop, drained_before, ordered-drained, order-drained}
 use Rattle.ipcz_world.proofs.frames.Draining.{proxy_numbers-drained, own-drained, other-drained}
@@ -157,7 +158,7 @@ module _ (w v : World) (b : Books) (g : Records) (k : Key) (r : Router) (item : 
   items-read = items_by v g (λ from to i l t m x moves u. let o = under-same w v from to i (messages.Item l t m x moves) same u in
       fits-drained w v k r y g from to i i l t m draining (fits_of w g from to i l t m x moves law.items o)
       (λ e. made-same w v from to i l t same ∙ e)
-      (λ q h. not_there_yet w b g from to i l t m x moves q law.conserved law.counts law.links o h))
+      (λ q h. not_there_yet w b g from to i l t m x moves q law.conserved law.counts (links-in law) o h))
 
   fresh_numbers-read : FreshNumbers v g
   fresh_numbers-read q x at = record {
@@ -365,8 +366,8 @@ module _ (w v : World) (b : Books) (g : Records) (k : Key) (r : Router) (item : 
     counts = counts-touched w v k r y g is.touched alike law.counts (hands-same w v g law.counts is.touched.count is.hands);
     ordered = ordered-drained w v k r y g draining law.ordered;
     shape = shape-touched w v k r y g is.touched alike law.shape;
-    links = links-touched w v k r y g is.touched alike law.links;
-    positions = positions-touched w v k r y g is.touched alike law.positions;
+    roles = roles-touched w v k r y g is.touched alike law.roles;
+    begun = law.begun;
     stands = stands-touched w v k r y g is.touched alike law.stands;
     words = words-touched w v k r y g is.touched alike law.words;
     spares = spares-touched w v k r y g is.touched alike law.spares;

@@ -1,4 +1,5 @@
 -- A sink retires under its lock and sends Gone: the invariant is kept, with the books and the records after it.
+use Rattle.ipcz_world.proofs.frames.RolesTell.{links-in}
 use Rattle.std.specs.Prelude.{◌≡◌, ◌≢◌, ◌⊎◌, ◌≤◌, ◌<◌, ◌+◌, ◌&&◌, ◌||◌, ◌++◌, ℕ, Bool, true, false, cond, Option, Some, None, [], ◌∷◌, length}
 use Rattle.std.specs.Prelude.{is_some, slice_get, refl}
 use Rattle.ipcz_world.proofs.Vocabulary.{Queue, Side, A, B, End, LinkId, Central, Peripheral, LinkEnd, Item, Message, opposite, opposite_end}
@@ -135,7 +136,7 @@ module _ (w : World) (b : Books) (g : Records) (k : Key) (r : Router) (i : ℕ) 
   z = retiring.across w b g k r i law here on can
 
   rec : IsRecorded w g k r on.end
-  rec = (law.links k r here).primary on.end on.primary
+  rec = ((links-in law) k r here).primary on.end on.primary
 
   known : side_router g link s ≡ Some z.key
   known = z.is
@@ -267,7 +268,7 @@ module _ (w : World) (b : Books) (g : Records) (k : Key) (r : Router) (i : ℕ) 
 
   end_z : opposite_end z.router.end ≡ e
   unfolding side_end
-  end_z = let rec_z : IsRecorded w g z.key z.router has_z.end = (law.links z.key z.router z.at).primary has_z.end has_z.there in
+  end_z = let rec_z : IsRecorded w g z.key z.router has_z.end = ((links-in law) z.key z.router z.at).primary has_z.end has_z.there in
       ap opposite_end (rec_z.end ∙ ap (λ l. side_end g l has_z.end.side) has_z.on_link ∙ ap (side_end g (Central i)) has_z.at_side) ∙
       opposite_end-twice (end_at (g.central i).pair r.end.side) ∙ ap (λ p. end_at p r.end.side) (retiring.pair_is w b g k r i law here on can)
 
@@ -329,7 +330,7 @@ module _ (w : World) (b : Books) (g : Records) (k : Key) (r : Router) (i : ℕ) 
       still q y d a p l f = none y.outward.decaying refl
         where
           rec_y : IsRecorded w g q y d
-          rec_y = (law.links q y a).primary d p
+          rec_y = ((links-in law) q y a).primary d p
 
           side : side_router g link s ≡ Some q
           side = sym (ap (λ x. side_router g x d.side) l ∙ ap (side_router g link) f) ∙ rec_y.router
@@ -485,7 +486,7 @@ module _ (w : World) (b : Books) (g : Records) (k : Key) (r : Router) (i : ℕ) 
       )
 
       mine : (l : LinkId) (p : Side) (d : LinkEnd) → r.outward.primary ≡ Some d → l ≡ d.link → p ≡ d.side → side_end g l p ≡ e
-      mine l p d f h j = ap (λ x. side_end g x p) h ∙ ap (side_end g d.link) j ∙ sym ((law.links k r here).primary d f).end
+      mine l p d f h j = ap (λ x. side_end g x p) h ∙ ap (side_end g d.link) j ∙ sym (((links-in law) k r here).primary d f).end
 
       or_more : (d : End) → (is_retired b d || is_retired b (opposite_end d)) ≡ true → (is_retired c d || is_retired c (opposite_end d)) ≡ true
       or_more d h = elim (either (is_retired b d) (is_retired b (opposite_end d)) h) [
@@ -571,21 +572,21 @@ module _ (w : World) (b : Books) (g : Records) (k : Key) (r : Router) (i : ℕ) 
               let same : x ≡ on.end = same_Some x on.end (sym f ∙ on.primary) in
               let on_link : d.link ≡ Central i = l ∙ ap (λ y. y.link) same ∙ on.link in
               let side : opposite d.side ≡ e.side = h ∙ ap (λ y. y.side) same ∙ on.side in
-              ap opposite_end (((law.links q y was).primary d p).end ∙ ap (λ l. side_end g l d.side) on_link) ∙
+              ap opposite_end ((((links-in law) q y was).primary d p).end ∙ ap (λ l. side_end g l d.side) on_link) ∙
               ap (end_at (g.central i).pair) side ∙ ap (λ n. end_at n e.side) (retiring.pair_is w b g k r i law here on can)
 
           not_inner : (d : LinkEnd) → (inward_edge y).primary ≡ Some d → (x : LinkEnd) → r.outward.primary ≡ Some x → d.link ≡ x.link → ⊥
           not_inner d p x f l =
               let same : x ≡ on.end = same_Some x on.end (sym f ∙ on.primary) in
               let on_link : d.link ≡ Central i = l ∙ ap (λ y. y.link) same ∙ on.link in
-              not_central i d.side (ap (λ z. is_outward z d.side) (sym on_link) ∙ (law.links q y was).inward_primary_inward d p)
+              not_central i d.side (ap (λ z. is_outward z d.side) (sym on_link) ∙ ((links-in law) q y was).inward_primary_inward d p)
 
           -- no side of a link of the pair was left before
           open_left : (d : LinkEnd) → (inward_edge y).primary ≡ Some d → is_left g d.link (opposite d.side) ≡ true → opposite_end y.end ≡ e → ⊥
           open_left d p f j =
               let y_pair : y.end.pair ≡ e.pair = ap (λ x. x.pair) j in
               let there : (side_end g d.link (opposite d.side)).pair ≡ e.pair =
-              around_pair g d.link d.side ∙ sym (ap (λ x. x.pair) ((law.links q y was).inward_primary d p).end) ∙ y_pair in
+              around_pair g d.link d.side ∙ sym (ap (λ x. x.pair) (((links-in law) q y was).inward_primary d p).end) ∙ y_pair in
               elim (either _ _ (law.retired_ends.left_of d.link (opposite d.side) f)) [
                 | inl h ↦ other_pair (side_end g d.link (opposite d.side)) h there
                 | inr h ↦ other_pair (opposite_end (side_end g d.link (opposite d.side))) h there

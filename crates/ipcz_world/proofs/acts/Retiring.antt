@@ -1,4 +1,5 @@
 -- A sink that retires: what holds of it, so that it may leave.
+use Rattle.ipcz_world.proofs.frames.RolesTell.{links-in, positions-in}
 use Rattle.std.specs.Prelude.{◌≡◌, ◌≢◌, ◌⊎◌, ◌≤◌, ◌<◌, ℕ, Bool, true, false, cond, nat_eq, nat_le, Option, Some, None, length, slice_get}
 use Rattle.std.specs.Prelude.{List, [], ◌∷◌, suc, refl}
 use Rattle.std.proofs.Common.{arith, ap, ◌∙◌, sym, inl, inr}
@@ -67,7 +68,7 @@ module _ (w : World) (b : Books) (g : Records) (k : Key) (r : Router) (i : ℕ) 
 
   pub pair_is : (g.central i).pair ≡ r.end.pair
   unfolding side_end
-  pair_is = let rec : IsRecorded w g k r on.end = (law.links k r here).primary on.end on.primary in
+  pair_is = let rec : IsRecorded w g k r on.end = ((links-in law) k r here).primary on.end on.primary in
       sym (ap (λ z. z.pair) rec.end ∙ ap (λ l. (side_end g l on.end.side).pair) on.link)
 
   -- who holds a lock hasn't begun, nor is across one that has
@@ -77,8 +78,8 @@ module _ (w : World) (b : Books) (g : Records) (k : Key) (r : Router) (i : ℕ) 
       go : (c : Bool) → is_begun (g.bypass i) ≡ c → is_begun (g.bypass i) ≡ false
       go false f = f
       go true f =
-          let low = (law.positions.each k r here).primary_old on.end i on.primary on.link f in
-          let side : r.end.side ≡ across_side g i = sym on.side ∙ (law.positions.each k r here).primary_across on.end i on.primary on.link f in
+          let low = ((positions-in law).each k r here).primary_old on.end i on.primary on.link f in
+          let side : r.end.side ≡ across_side g i = sym on.side ∙ ((positions-in law).each k r here).primary_across on.end i on.primary on.link f in
           let at : side_router g (Central i) (across_side g i) ≡ Some k = ap (side_router g (Central i)) (sym side) ∙ on.known in
           let free = (law.stages i).across_free f low in
           absurd (grind (arith, standing_rules, free, at, here, holds))
@@ -149,7 +150,7 @@ module _ (w : World) (b : Books) (g : Records) (k : Key) (r : Router) (i : ℕ) 
               let z = known_tells w (side_router g (inner_of g o) B) (has_decaying (inner_of g o) B) ((law.stages o).inner_decaying a m) in
               let has = has_link-tells z.router.outward.decaying (inner_of g o) B z.passed in
               let to : link_in z.router.outward.primary ≡ Some (Central f) =
-              (law.positions.each z.key z.router z.at).inner_fresh has.end (g.bypass o).inner o has.there has.on_link
+              ((positions-in law).each z.key z.router z.at).inner_fresh has.end (g.bypass o).inner o has.there has.on_link
               ((law.bypasses o).inner_by begun_o) in
               over z.key z.router z.at has.end has.there z.router.outward.primary refl to
             where
@@ -158,9 +159,9 @@ module _ (w : World) (b : Books) (g : Records) (k : Key) (r : Router) (i : ℕ) 
               over q z at d dec None x t = cc
               over q z at d dec (Some e) x t =
                   let l : e.link ≡ Central f = same_Some e.link (Central f) t in
-                  let low = (law.positions.each q z at).primary_old e f x l fl in
-                  let side : e.side ≡ across_side g f = (law.positions.each q z at).primary_across e f x l fl in
-                  let rec : IsRecorded w g q z e = (law.links q z at).primary e x in
+                  let low = ((positions-in law).each q z at).primary_old e f x l fl in
+                  let side : e.side ≡ across_side g f = ((positions-in law).each q z at).primary_across e f x l fl in
+                  let rec : IsRecorded w g q z e = ((links-in law) q z at).primary e x in
                   let known : side_router g (Central f) (across_side g f) ≡ Some q =
                   ap (side_router g (Central f)) (sym side) ∙ ap (λ y. side_router g y e.side) (sym l) ∙ rec.router in
                   let marked : z.marked ≡ true = grind (arith, standing_rules, (law.stages f).across_marked fl low, known, at) in
@@ -225,11 +226,11 @@ module _ (w : World) (b : Books) (g : Records) (k : Key) (r : Router) (i : ℕ) 
       pair_n = (law.bypasses o).fresh_pair two ∙ pair
 
       go : (c : Bool) → is_begun (g.bypass n) ≡ c → decays y ≡ false
-      go true f = let low = (law.positions.each q y at).primary_old d n p l f in
+      go true f = let low = ((positions-in law).each q y at).primary_old d n p l f in
           absurd (unbypassed n (grind (arith, f, nat_tests)) (omega (arith, low)) pair_n)
       go false f =
           let same : n ≡ i = law.live.one_live n i linked on.linked (pair_n ∙ sym pair_is) f live in
-          let rec : IsRecorded w g q y d = (law.links q y at).primary d p in
+          let rec : IsRecorded w g q y d = ((links-in law) q y at).primary d p in
           let known : side_router g (Central i) d.side ≡ Some q =
           ap (λ m. side_router g (Central m) d.side) (sym same) ∙ ap (λ z. side_router g z d.side) (sym l) ∙ rec.router in
           (law.shape q y at).marked_still (grind (arith, standing_rules, marked_at d.side, known, at))
@@ -264,10 +265,10 @@ module _ (w : World) (b : Books) (g : Records) (k : Key) (r : Router) (i : ℕ) 
       outer (Some e) off = on_link e.link refl (bypass_of g e.link) refl
         where
           rec : IsRecorded w g q y e
-          rec = (law.links q y at).decaying e off
+          rec = ((links-in law) q y at).decaying e off
 
           on_link : (l : LinkId) → e.link ≡ l → (b : Option ℕ) → bypass_of g e.link ≡ b → decays y ≡ false
-          on_link l m None b = absurd (grind (arith, (law.positions.each q y at).decaying e off, b))
+          on_link l m None b = absurd (grind (arith, ((positions-in law).each q y at).decaying e off, b))
           on_link (Central o) m (Some j) b = by_stage o (begun_of o (sym (ap (bypass_of g) m) ∙ b)) pair_o (λ three. sides three
               (side_is e.side (proxy_side g o)))
             where
@@ -283,13 +284,13 @@ module _ (w : World) (b : Books) (g : Records) (k : Key) (r : Router) (i : ℕ) 
 
               sides : 3 ≤ (g.bypass o).stage → (e.side ≡ proxy_side g o) ⊎ (e.side ≡ opposite (proxy_side g o)) → decays y ≡ false
               sides three (inl s) =
-                  let proxy : (g.bypass o).proxy ≡ q = (law.positions.each q y at).own_proxy e o off m s in
+                  let proxy : (g.bypass o).proxy ≡ q = ((positions-in law).each q y at).own_proxy e o off m s in
                   let begun = (law.stages o).proxy_begun y (grind (arith, three, nat_tests)) (ap (router_at w) proxy ∙ at) in
                   absurd (not_both (is_begun_router y) begun unbegun)
-              sides three (inr s) = marked_fresh q y o y.outward.primary at refl ((law.positions.each q y at).across_fresh e o off m s)
+              sides three (inr s) = marked_fresh q y o y.outward.primary at refl (((positions-in law).each q y at).across_fresh e o off m s)
                   (omega (arith, three)) pair_o
           on_link (Peripheral n x) m (Some o) b = by_stage o (law.stands.by_begun p o by) pair_o
-              (λ three. marked_fresh q y o y.outward.primary at refl ((law.positions.each q y at).inner_fresh e p o off m by) (omega (arith, three)) pair_o)
+              (λ three. marked_fresh q y o y.outward.primary at refl (((positions-in law).each q y at).inner_fresh e p o off m by) (omega (arith, three)) pair_o)
             where
               p : Key
               p = record { node = n; serial = x }

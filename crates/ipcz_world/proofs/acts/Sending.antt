@@ -1,4 +1,5 @@
 -- A router sends the current item of a queue, without ends that move: all that holds is kept.
+use Rattle.ipcz_world.proofs.frames.Opened.{links-open, positions-open}
 use Rattle.ipcz_world.proofs.frames.GonesKept.{IsGoneRight, gones-one}
 use Rattle.ipcz_world.proofs.frames.OfRecords.{holds, held_times, source, in_message, in_places}
 use Rattle.std.specs.Prelude.{◌≡◌, ◌⊎◌, ◌≤◌, ◌<◌, ◌+◌, ℕ, true, false, Option, Some, None, refl, List, [], length, slice_get}
@@ -16,7 +17,7 @@ use Rattle.ipcz_world.proofs.frames.Frames.{node-set_node, word-set_node, mail-s
 use Rattle.ipcz_world.proofs.frames.Frames.{same_key_tells, same_key-itself}
 use Rattle.ipcz_world.proofs.frames.Opened.{OpenInv, OpenMoves, HasEnds, opened, closed}
 use Rattle.ipcz_world.proofs.frames.Touching.{IsTouched, IsAlike, HasSameHands, HasSameEnds, hands-same, recorded_same, counts-touched}
-use Rattle.ipcz_world.proofs.frames.Touching.{shape-touched, links-touched, positions-touched, stands-touched, words-touched}
+use Rattle.ipcz_world.proofs.frames.Touching.{shape-touched, roles-touched, stands-touched, words-touched}
 use Rattle.ipcz_world.proofs.frames.Touching.{spares-touched, bypasses-touched, stages-touched, terminals-touched}
 use Rattle.ipcz_world.proofs.frames.Seen.{attached_same}
 use Rattle.ipcz_world.proofs.frames.Draining.{IsDrained, IsDraining, below_drained, has_passed-mono, gone_same, awaited_same, taken_before}
@@ -355,8 +356,8 @@ inv-sent w b g k r y link s to n item law is = record {
   counts = counts-touched w v k r y g t is.alike law.counts (hands-same w v g law.counts c.count hands);
   ordered = ordered-drained w v k r y g d law.ordered;
   shape = shape-touched w v k r y g t is.alike law.shape;
-  links = links-touched w v k r y g t is.alike law.links;
-  positions = positions-touched w v k r y g t is.alike law.positions;
+  roles = roles-touched w v k r y g t is.alike law.roles;
+  begun = law.begun;
   stands = stands-touched w v k r y g t is.alike law.stands;
   words = words-touched w v k r y g t is.alike law.words;
   spares = spares-touched w v k r y g t is.alike law.spares;
@@ -370,10 +371,10 @@ inv-sent w b g k r y link s to n item law is = record {
   books_kept = books_kept-sent w v b g k r y link s to n item is.sent d p law.books_kept;
   retired_ends = law.retired_ends;
   gones = gones-one w v b g k y t.router (is.right b law) law.gones;
-  items = items-sent w v b g k r y link s to n item is.sent d p law.counts law.links law.order law.conserved law.items;
+  items = items-sent w v b g k r y link s to n item is.sent d p law.counts (links-open law) law.order law.conserved law.items;
   order = order-drained w v k r y g d law.order;
   proxy_numbers = proxy_numbers-drained w v k r y g d law.proxy_numbers;
-  fresh_numbers = fresh_numbers-sent w v b g k r y link s to n item is.sent d p law.positions law.links law.fresh_numbers;
+  fresh_numbers = fresh_numbers-sent w v b g k r y link s to n item is.sent d p (positions-open law) (links-open law) law.fresh_numbers;
   conserved = conserved-sent w v b g k r y link s to n item is.sent d p is.next places law.conserved;
   held_once = held_once-sent w v b g k r y link s to n item is.sent d p (λ e. places (names_end e)) ends law.held_once;
   no_strays = λ j. t.strays j ∙ law.no_strays j;

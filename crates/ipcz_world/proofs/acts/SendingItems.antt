@@ -1,4 +1,5 @@
 -- The sends of a router, out and in, keep all that holds.
+use Rattle.ipcz_world.proofs.frames.Opened.{links-open, positions-open}
 use Rattle.ipcz_world.proofs.frames.Booking.{flag}
 use Rattle.ipcz_world.proofs.Vocabulary.{Side, A, B, LinkId, Central, Peripheral, LinkEnd, Item, Descriptor, Edge, opposite, opposite_end, has_link}
 use Rattle.ipcz_world.proofs.Vocabulary.{item_at, current_item, Router, is_terminal, inward_edge, ends_in, World, Key, router_at, flow, Books}
@@ -128,10 +129,10 @@ is_send_out w b g k r e item law here chosen at = record {
         (sending_queue-out e.link e.side (pop_out r) out);
     recorded = rec.recorded;
     receiver = rec.other;
-    below = λ len h. below_out w g k r e item len law.positions law.fresh_numbers law.proxy_numbers here out chosen at
+    below = λ len h. below_out w g k r e item len (positions-open law) law.fresh_numbers law.proxy_numbers here out chosen at
         (ap (side_length g e.link) (sym (opposite-twice e.side)) ∙ h);
     there = there;
-    low = λ c o l none born. low_out w g k r c o (opposite e.side) law.positions law.fresh_numbers law.stands law.bypasses law.stages here
+    low = λ c o l none born. low_out w g k r c o (opposite e.side) (positions-open law) law.fresh_numbers law.stands law.bypasses law.stages here
         (grind (arith, record_rules, rec.recorded, l)) (ap (λ z. side_router g z (opposite (opposite e.side))) (sym l) ∙ ap
         (side_router g e.link) (opposite-twice e.side) ∙ rec.router) none born;
     made = λ h. made_way w b g k r e law rec there (awaited_none w g e.link (opposite e.side) h);
@@ -169,11 +170,11 @@ is_send_out w b g k r e item law here chosen at = record {
 
     rec : IsRecorded w g k r e
     rec = elim (choose-tells r.outward r.out_queue.current e chosen)
-        [ inl on ↦ (law.links k r here).primary e on | inr off ↦ (law.links k r here).decaying e off.0 ]
+        [ inl on ↦ ((links-open law) k r here).primary e on | inr off ↦ ((links-open law) k r here).decaying e off.0 ]
 
     out : is_outward e.link e.side ≡ true
     out = elim (choose-tells r.outward r.out_queue.current e chosen)
-        [ inl on ↦ (law.links k r here).primary_outward e on | inr off ↦ (law.links k r here).decaying_outward e off.0 ]
+        [ inl on ↦ ((links-open law) k r here).primary_outward e on | inr off ↦ ((links-open law) k r here).decaying_outward e off.0 ]
 
     has : (has_link r.outward.primary e.link e.side || has_link r.outward.decaying e.link e.side) ≡ true
     has = elim (choose-tells r.outward r.out_queue.current e chosen) [
@@ -195,7 +196,7 @@ is_send_out w b g k r e item law here chosen at = record {
             absurd (omega (arith, n.0, n.1, all, ap (λ d. length (b.put d)) (opposite_end-twice r.end)))
 
     there : is_gone (view w g e.link (opposite e.side)) ≡ false
-    there = there_out w g k r e item law.positions law.fresh_numbers law.proxy_numbers law.stands law.bypasses law.stages here out chosen at
+    there = there_out w g k r e item (positions-open law) law.fresh_numbers law.proxy_numbers law.stands law.bypasses law.stages here out chosen at
         rec.recorded unleft
 
 -- what a proxy sends inward lies below the link's length
@@ -203,7 +204,7 @@ below_in : (w : World) (b : Books) (g : Records) (k : Key) (r : Router) (e : Lin
     router_at w k ≡ Some r → is_outward e.link e.side ≡ false → way_in r ≡ Some e →
     item_at r.in_queue r.in_queue.current ≡ Some item → side_length g e.link e.side ≡ Some len → r.in_queue.current < len
 below_in w b g k r e item len law here out chosen at h = elim (choose-tells (inward_edge r) r.in_queue.current e chosen) [
-  | inl on ↦ absurd (some_none ((law.positions.each k r here).inward_primary e on))
+  | inl on ↦ absurd (some_none (((positions-open law).each k r here).inward_primary e on))
   | inr off ↦ decaying off.0 (inward_link e.link e.side out)
 ]
   where
@@ -214,9 +215,9 @@ below_in w b g k r e item len law here out chosen at h = elim (choose-tells (inw
     decaying off p =
         let f = length-inner_in g p.0 len (subst (λ t. side_length g (inner_link p.0) t ≡ Some len) p.2
         (subst (λ l. side_length g l e.side ≡ Some len) p.1 h)) in
-        let begun : g.begun k ≡ Some f.0 = sym ((law.positions.each k r here).inward_decaying e off) ∙ ap (bypass_of g) p.1 ∙ bypass_of-inner g p.0
+        let begun : g.begun k ≡ Some f.0 = sym (((positions-open law).each k r here).inward_decaying e off) ∙ ap (bypass_of g) p.1 ∙ bypass_of-inner g p.0
         ∙ f.1 in
-        let proxy = law.positions.begun_proxy k f.0 begun in
+        let proxy = law.begun.begun_proxy k f.0 begun in
         let low : r.in_queue.current < (g.bypass f.0).accepted_at =
         law.proxy_numbers.in_items f.0 r r.in_queue.current item (ap (router_at w) proxy ∙ here) f.2 at in
         omega (arith, low, f.3)
@@ -255,9 +256,9 @@ there_in : (w : World) (b : Books) (g : Records) (k : Key) (r : Router) (e : Lin
     router_at w k ≡ Some r → way_in r ≡ Some e → item_at r.in_queue r.in_queue.current ≡ Some item → is_recorded w g e.link ≡ true →
     e.link ≡ inner_link p → is_gone (view w g (inner_link p) B) ≡ false
 there_in w b g k r e item p law here chosen at rec l = elim (choose-tells (inward_edge r) r.in_queue.current e chosen) [
-  | inl on ↦ live (unleft on) (sym (bypass_of-inner g p) ∙ ap (bypass_of g) (sym l) ∙ (law.positions.each k r here).inward_primary e on)
+  | inl on ↦ live (unleft on) (sym (bypass_of-inner g p) ∙ ap (bypass_of g) (sym l) ∙ ((positions-open law).each k r here).inward_primary e on)
       (side_router g (inner_link p) B) refl
-  | inr off ↦ begun (g.begun k) refl (sym (bypass_of-inner g p) ∙ ap (bypass_of g) (sym l) ∙ (law.positions.each k r here).inward_decaying e off.0)
+  | inr off ↦ begun (g.begun k) refl (sym (bypass_of-inner g p) ∙ ap (bypass_of g) (sym l) ∙ ((positions-open law).each k r here).inward_decaying e off.0)
       off.0
 ]
   where
@@ -270,7 +271,7 @@ there_in w b g k r e item p law here chosen at rec l = elim (choose-tells (inwar
       where
         go : (c : Bool) → is_left g (inner_link p) B ≡ c → c ≡ false
         go false q = refl
-        go true q = let side = (inward_link e.link e.side ((law.links k r here).inward_primary_inward e on)).2 in
+        go true q = let side = (inward_link e.link e.side (((links-open law) k r here).inward_primary_inward e on)).2 in
             let past : length (b.put (opposite_end r.end)) ≤ r.in_queue.current = law.gones.left_inner k r e here on
             (ap (λ x. is_left g x (opposite e.side)) l ∙ ap (λ t. is_left g (inner_link p) (opposite t)) side ∙ q) in
             let low = slice_get-below r.in_queue.current (b.put (opposite_end r.end)) item
@@ -287,7 +288,7 @@ there_in w b g k r e item p law here chosen at rec l = elim (choose-tells (inwar
     none_begun s off = go (inward_edge r).primary refl
       where
         go : (o : Option LinkEnd) → (inward_edge r).primary ≡ o → ⊥
-        go None q = grind (arith, (law.positions.each k r here).begun (begun_bare r e q off), s)
+        go None q = grind (arith, ((positions-open law).each k r here).begun (begun_bare r e q off), s)
         go (Some d) q = grind (arith, (law.shape k r here).role, q, off, bare_proxy r e off)
 
     begun : (o : Option ℕ) → g.begun k ≡ o → (g.peripheral p).by ≡ g.begun k → (inward_edge r).decaying ≡ Some e →
@@ -299,10 +300,10 @@ there_in w b g k r e item p law here chosen at rec l = elim (choose-tells (inwar
         is = law.stands.by_inner p o (by ∙ s)
 
         has_begun : is_begun (g.bypass o) ≡ true
-        has_begun = law.positions.begun_stage k o s
+        has_begun = law.begun.begun_stage k o s
 
         proxy : router_at w (g.bypass o).proxy ≡ Some r
-        proxy = ap (router_at w) (law.positions.begun_proxy k o s) ∙ here
+        proxy = ap (router_at w) (law.begun.begun_proxy k o s) ∙ here
 
         last : (x : Bool) → is_gone (view w g (inner_link p) B) ≡ x → (g.bypass o).stage ≡ 5 → is_gone (view w g (inner_link p) B) ≡ false
         last false f five = f
@@ -364,10 +365,10 @@ gone_inner w b g k r item law here proxy at gone = go (inward_edge r).primary re
     ]
       where
         begun : is_begun (g.bypass o) ≡ true
-        begun = law.positions.begun_stage k o s
+        begun = law.begun.begun_stage k o s
 
         stands : router_at w (g.bypass o).proxy ≡ Some r
-        stands = ap (router_at w) (law.positions.begun_proxy k o s) ∙ here
+        stands = ap (router_at w) (law.begun.begun_proxy k o s) ∙ here
 
         end : r.end ≡ (g.peripheral (g.bypass o).inner).end
         end = (law.stages o).proxy_end r begun stands
@@ -394,7 +395,7 @@ gone_inner w b g k r item law here proxy at gone = go (inward_edge r).primary re
         begun = grind (arith, proxy, q)
 
         begins : (o : Option ℕ) → g.begun k ≡ o → is_some (inward_edge r).primary ≡ true
-        begins None s = absurd (grind (arith, (law.positions.each k r here).begun begun, s))
+        begins None s = absurd (grind (arith, ((positions-open law).each k r here).begun begun, s))
         begins (Some o) s = staged o s
 
 right_in : (w : World) (b : Books) (g : Records) (k : Key) (r : Router) (item : Item) → OpenInv w b g → router_at w k ≡ Some r →
@@ -480,11 +481,11 @@ is_send_in w b g k r e item law here chosen at = record {
   where
     rec : IsRecorded w g k r e
     rec = elim (choose-tells (inward_edge r) r.in_queue.current e chosen)
-        [ inl on ↦ (law.links k r here).inward_primary e on | inr off ↦ (law.links k r here).inward_decaying e off.0 ]
+        [ inl on ↦ ((links-open law) k r here).inward_primary e on | inr off ↦ ((links-open law) k r here).inward_decaying e off.0 ]
 
     out : is_outward e.link e.side ≡ false
     out = elim (choose-tells (inward_edge r) r.in_queue.current e chosen)
-        [ inl on ↦ (law.links k r here).inward_primary_inward e on | inr off ↦ (law.links k r here).inward_decaying_inward e off.0 ]
+        [ inl on ↦ ((links-open law) k r here).inward_primary_inward e on | inr off ↦ ((links-open law) k r here).inward_decaying_inward e off.0 ]
 
     has : (has_link (inward_edge r).primary e.link e.side || has_link (inward_edge r).decaying e.link e.side) ≡ true
     has = elim (choose-tells (inward_edge r) r.in_queue.current e chosen) [

@@ -1,11 +1,12 @@
 -- The proxy learns its lengths, and tells the router inward.
+use Rattle.ipcz_world.proofs.frames.Sealing.{begun_of}
 use Rattle.ipcz_world.proofs.frames.LiveLinks.{live-kept}
 use Rattle.ipcz_world.proofs.frames.Sealing.{live_of}
 use Rattle.ipcz_world.proofs.Vocabulary.{Weight, in_router, Side, A, B, End, LinkId, Central, LinkEnd, Descriptor, Item, Message, opposite, has_link}
-use Rattle.ipcz_world.proofs.Vocabulary.{Router, router_has, inward_edge, Edge, World, Key, same_key, mail_at, way, router_at, Books, Records}
-use Rattle.ipcz_world.proofs.Vocabulary.{is_begun, inner_link, side_node, side_router, bypass_of, proxy_side, across_side, known_from, has_decaying}
+use Rattle.ipcz_world.proofs.Vocabulary.{Router, router_has, inward_edge, Edge, World, Key, mail_at, way, router_at, Books, Records}
+use Rattle.ipcz_world.proofs.Vocabulary.{is_begun, inner_link, side_node, side_router, bypass_of, proxy_side, known_from, has_decaying}
 use Rattle.ipcz_world.proofs.Vocabulary.{has_inward_decaying, IsUnderWay, makes, is_made_before, under_way, moves_of, of_end, total_list, Told}
-use Rattle.ipcz_world.proofs.Vocabulary.{of_bypass, control_weight, inner_of, Inv, no_edge, stop_proxying}
+use Rattle.ipcz_world.proofs.Vocabulary.{of_bypass, control_weight, inner_of, Inv, no_edge, stop_proxying, is_proxy, is_begun_router, side_end}
 use Rattle.ipcz_world.specs.Places.{in_message as in_message'}
 use Rattle.std.specs.Prelude.{◌≡◌, ◌≢◌, ◌⊎◌, ◌<◌, ◌≤◌, ℕ, ◌+◌, true, false, nat_eq, is_some, is_none, option_map, unwrap_or, Option, Some}
 use Rattle.std.specs.Prelude.{None, List, refl}
@@ -15,27 +16,28 @@ use Rattle.std.proofs.lemmas.Option.{none-some, same_Some}
 use Rattle.ipcz_base.specs.declared.message.Message.TheVariants as messages
 use Rattle.ipcz_edge.specs.Edge.{set_length_to, set_length_from}
 use Rattle.ipcz_world.specs.declared.mail.Mail.TheVariants as mails
-use Rattle.ipcz_world.proofs.frames.Frames.{same_key-itself}
-use Rattle.ipcz_world.proofs.frames.RecordRules.{bypass_of-inner}
+use Rattle.ipcz_world.proofs.frames.RecordRules.{bypass_of-inner, is_recorded-central}
+use Rattle.ipcz_world.proofs.facts.Tests.{none_is, and_first, and_second}
 use Rattle.ipcz_world.proofs.facts.RecordsAfter.{told_records}
 use Rattle.ipcz_world.proofs.frames.OfRecords.{in_places}
 use Rattle.ipcz_world.proofs.facts.Updates.{CanHand, stop_act}
 use Rattle.ipcz_world.proofs.frames.Handing.{handed_on, place_before, was_under_way, was_made_before, under_way-handed_on, word-handed_on}
 use Rattle.ipcz_world.proofs.frames.Handing.{hand-handed_on, mail-handed_on, changed-handed_on}
 use Rattle.ipcz_world.proofs.frames.Placing.{places-handed_on}
-use Rattle.ipcz_world.proofs.frames.Unmoved.{IsLike, Changed, Carried, Agree, side_node-agree, bypass_of-agree, about-agree, expected-agree}
+use Rattle.ipcz_world.proofs.frames.Unmoved.{IsLike, Changed, Carried, Agree, side_node-agree, proxy_side-agree, bypass_of-agree, about-agree, expected-agree}
 use Rattle.ipcz_world.proofs.frames.Unmoved.{places-agree, ordered-kept, spares-kept, moves-kept, terminals-kept, end_places-kept}
 use Rattle.ipcz_world.proofs.frames.Unmoved.{books_kept-kept, conserved-kept, held_once-kept, no_strays-kept}
 use Rattle.ipcz_world.proofs.frames.Counting.{IsReceived, counts-received}
 use Rattle.ipcz_world.proofs.facts.Lengths.{HasEnd, has_link-tells, passed, known_from-yes, known_from-no}
 use Rattle.ipcz_world.proofs.acts.BypassAsked.{IsStopped, stopped}
+use Rattle.ipcz_world.proofs.frames.Roles.{Begun, HasRole, Roles, end_of, trim-decays, end-is}
+use Rattle.ipcz_world.proofs.frames.RolesKept.{Knows, end-kept}
 use Rattle.ipcz_world.proofs.frames.StageFurther as further
 use Rattle.ipcz_world.proofs.frames.StageFurtherNumbers as numbers
 use Rattle.ipcz_world.proofs.frames.StageFurther.{IsLinkedLike}
 use Rattle.ipcz_world.proofs.frames.Sealing.{Sealed, Closed, opened, counts_of, links_of, positions_of, bypasses_of, stages_of, told_of}
 use Rattle.ipcz_world.proofs.frames.Sealing.{ordered_of, spares_of, moves_of as moves_law, terminals_of, end_places_of, books_kept_of}
 use Rattle.ipcz_world.proofs.frames.Sealing.{conserved_of, held_once_of, no_strays_of}
-use Rattle.ipcz_world.proofs.frames.Frames.{OneOrBefore, one_or_before}
 use Rattle.ipcz_world.proofs.frames.Having.{has_at}
 
 -- what the hand of the message needs: the router that has the old link is asked; its inward decaying link is e
@@ -112,7 +114,7 @@ module _ (w : World) (b : Books) (g : Records) (from : ℕ) (k : Key) (r : Route
   alone = ((positions_of law).each k r here).own_alone y_end.end o y_end.there y_end.on_link y_end.at_side
 
   pub y_begun : g.begun k ≡ Some o
-  y_begun = ap g.begun (sym proxy_is) ∙ (positions_of law).proxy_begun o begun
+  y_begun = ap g.begun (sym proxy_is) ∙ (begun_of law).proxy_begun o begun
 
   abbrev x : Router
   x = stop_proxying r in_length out_length
@@ -208,23 +210,8 @@ module _ (w : World) (b : Books) (g : Records) (from : ℕ) (k : Key) (r : Route
   at_o : (j : ℕ) → ((nat_eq j o ≡ true) × (j ≡ o)) ⊎ ((nat_eq j o ≡ false) × (j ≢ o))
   at_o j = grind (arith, nat_tests)
 
-  split : (q : Key) (t : Router) → router_at v q ≡ Some t → OneOrBefore w k x q t
-  split q t e = one_or_before w v k x changed.router q t e
-
-  -- the asked router's decaying link is the old one, at the proxy's side
-  x_dec : (t : Router) (d : LinkEnd) → x ≡ t → t.outward.decaying ≡ Some d → (d.link ≡ Central o) × (d.side ≡ proxy_side g o)
-  x_dec t d m n = let same : d ≡ y_end.end = same_Some d y_end.end (sym n ∙ ap (λ u. u.outward.decaying) (sym m) ∙ y_end.there) in
-      (ap (λ u. u.link) same ∙ y_end.on_link, ap (λ u. u.side) same ∙ y_end.at_side)
-
-  central_is : (i j : ℕ) → Central i ≡ Central j → i ≡ j
-  central_is i j p = grind (arith, p)
-
-  not_both : (i : ℕ) (p : Key) → Central i ≡ inner_link p → ⊥
-  not_both i p q = grind (arith, q)
-
-  sides_differ : (s : Side) → s ≡ opposite s → ⊥
-  sides_differ A m = grind (arith, m)
-  sides_differ B m = grind (arith, m)
+  abbrev At : ℕ → Type 0
+  At j = ((nat_eq j o ≡ true) × (j ≡ o)) ⊎ ((nat_eq j o ≡ false) × (j ≢ o))
 
   known4 : (n : ℕ) → known_from 4 (h.bypass o).stage n ≡ Some n
   known4 n = rw stage_after (known_from-yes 4 4 n (omega arith))
@@ -232,84 +219,51 @@ module _ (w : World) (b : Books) (g : Records) (from : ℕ) (k : Key) (r : Route
   known5 : (j n : ℕ) → known_from 5 (h.bypass j).stage n ≡ known_from 5 (g.bypass j).stage n
   known5 j n = grind (arith, at_o j, is.stage, known_from-no 5 4 n, known_from-no 5 3 n)
 
-  not_k : (q : Key) → same_key q k ≡ false → q ≡ k → ⊥
-  not_k q m n = grind (arith, m, n, same_key-itself k)
+  abbrev knows : Knows w v g h
+  knows = further.knows law changed like linked carried is.stage late early
 
-  abbrev At : ℕ → Type 0
-  At j = ((nat_eq j o ≡ true) × (j ≡ o)) ⊎ ((nat_eq j o ≡ false) × (j ≢ o))
-
-  -- the begun bypass of the proxy is this one
-  begun_is : (q : Key) (j : ℕ) → q ≡ k → g.begun q ≡ Some j → o ≡ j
-  begun_is q j m n = same_Some o j (sym y_begun ∙ ap g.begun (sym m) ∙ n)
-
-  begun_apart : (q : Key) (j : ℕ) → same_key q k ≡ false → g.begun q ≡ Some j → nat_eq j o ≡ true → j ≡ o → ⊥
-  begun_apart q j m n t p = not_k q m (sym ((positions_of law).begun_proxy q o (n ∙ ap Some p)) ∙ proxy_is)
-
-  owes : numbers.LengthsOwe law changed like linked carried is.stage late early
-  owes = record {
-    inward_to = λ q t d j m p n. inward_to_at q t d j p n (split q t m) (at_o j);
-    inward_from = λ q t d j m p n. inward_from_at q t d j p n (split q t m) (at_o j);
-    inner_to = λ q t d p j a m l n. ((positions_of law).each q t (inner_at q t d p m l (split q t a))).inner_to d p j m l n;
-    inner_from = λ q t d p j a m l n. ((positions_of law).each q t (inner_at q t d p m l (split q t a))).inner_from d p j m l n ∙ sym
-        (known5 j (g.bypass j).accepted_at);
-    own_to = λ q t d j a m l n. own_to_at q t d j m l n (split q t a) (at_o j);
-    own_from = λ q t d j a m l n. own_from_at q t d j m l n (split q t a) (at_o j);
-    across_to = λ q t d j a m l n. ((positions_of law).each q t (across_at q t d j m l n (split q t a))).across_to d j m l n;
-    across_from = λ q t d j a m l n. ((positions_of law).each q t (across_at q t d j m l n (split q t a))).across_from d j m l n;
+  -- the proxy has both its links, and knows their lengths
+  own : HasRole v h k x
+  unfolding side_end
+  own = record {
+    role = Begun o true true;
+    proxy = further.proxy_like r x like ∙ and_first (is_proxy r) _ has_begun;
+    outward = trim-decays x.outward None (end_of h (Central o) (proxy_side h o)) _ _ alone (y_end.there ∙ ap Some old)
+        (ap Some (is.taken ∙ sym taken) ∙ sym (known4 _)) (ap Some (is.accepted ∙ sym accepted) ∙ sym (known4 _));
+    inward = trim-decays (inward_edge x) None (end_of h (inner_of h o) A) _ _ (linked.inward_primary ∙ none_is _ (and_second (is_proxy r) _ has_begun)) (linked.inward_decaying ∙ inner_end.there ∙ ap Some inner)
+        ((edge_learned r.inward e on).0 ∙ ap Some (is.accepted ∙ sym accepted) ∙ sym (known4 _))
+        ((edge_learned r.inward e on).1 ∙ ap Some (is.taken ∙ sym taken) ∙ sym (known4 _));
+    fits = (y_begun, rw (itself o) ((stages_of law o).proxy_end r begun here_proxy));
   }
     where
-      inward_to_at : (q : Key) (t : Router) (d : LinkEnd) (j : ℕ) → (inward_edge t).decaying ≡ Some d → g.begun q ≡ Some j →
-          OneOrBefore w k x q t →
-          At j → (inward_edge t).length_to ≡ known_from 4 (h.bypass j).stage (g.bypass j).accepted_at
-      inward_to_at q t d j p n (inl m) a = let same : o ≡ j = begun_is q j m.0 n in
-          ap (λ u. (inward_edge u).length_to) (sym m.1) ∙ (edge_learned r.inward e on).0 ∙ ap Some is.accepted ∙ sym
-          (known4 (g.bypass o).accepted_at) ∙ ap (λ i. known_from 4 (h.bypass i).stage (g.bypass i).accepted_at) same
-      inward_to_at q t d j p n (inr m) (inl a) = absurd (begun_apart q j m.0 n a.0 a.1)
-      inward_to_at q t d j p n (inr m) (inr a) = rw a.0 (((positions_of law).each q t m.1).inward_to d j p n)
+      here_proxy : router_at w (g.bypass o).proxy ≡ Some r
+      here_proxy = ap (router_at w) proxy_is ∙ here
 
-      inward_from_at : (q : Key) (t : Router) (d : LinkEnd) (j : ℕ) → (inward_edge t).decaying ≡ Some d → g.begun q ≡ Some j →
-          OneOrBefore w k x q t →
-          At j → (inward_edge t).length_from ≡ known_from 4 (h.bypass j).stage (g.bypass j).taken_at
-      inward_from_at q t d j p n (inl m) a = let same : o ≡ j = begun_is q j m.0 n in
-          ap (λ u. (inward_edge u).length_from) (sym m.1) ∙ (edge_learned r.inward e on).1 ∙ ap Some is.taken ∙ sym
-          (known4 (g.bypass o).taken_at) ∙ ap (λ i. known_from 4 (h.bypass i).stage (g.bypass i).taken_at) same
-      inward_from_at q t d j p n (inr m) (inl a) = absurd (begun_apart q j m.0 n a.0 a.1)
-      inward_from_at q t d j p n (inr m) (inr a) = rw a.0 (((positions_of law).each q t m.1).inward_from d j p n)
+      has_begun : is_begun_router r ≡ true
+      has_begun = (stages_of law o).proxy_begun r begun here_proxy
 
-      inner_at : (q : Key) (t : Router) (d : LinkEnd) (p : Key) → t.outward.decaying ≡ Some d → d.link ≡ inner_link p →
-          OneOrBefore w k x q t →
-          router_at w q ≡ Some t
-      inner_at q t d p m l (inl c) = absurd (not_both o p (sym (x_dec t d c.1 m).0 ∙ l))
-      inner_at q t d p m l (inr c) = c.1
+      taken : (h.bypass o).taken_at ≡ (g.bypass o).taken_at
+      taken = rw (itself o) refl
 
-      across_at : (q : Key) (t : Router) (d : LinkEnd) (j : ℕ) → t.outward.decaying ≡ Some d → d.link ≡ Central j →
-          d.side ≡ across_side g j → OneOrBefore w k x q t → router_at w q ≡ Some t
-      across_at q t d j m l n (inl c) = let same : o ≡ j = central_is o j (sym (x_dec t d c.1 m).0 ∙ l) in
-          absurd (sides_differ (proxy_side g o) (sym (x_dec t d c.1 m).1 ∙ n ∙ ap (across_side g) (sym same)))
-      across_at q t d j m l n (inr c) = c.1
+      accepted : (h.bypass o).accepted_at ≡ (g.bypass o).accepted_at
+      accepted = rw (itself o) refl
 
-      own_apart : (q : Key) (t : Router) (d : LinkEnd) (j : ℕ) → same_key q k ≡ false → router_at w q ≡ Some t →
-          t.outward.decaying ≡ Some d → d.link ≡ Central j → d.side ≡ proxy_side g j → j ≡ o → ⊥
-      own_apart q t d j c a m l n p = not_k q c (sym (((positions_of law).each q t a).own_proxy d j m l n) ∙ ap (λ i. (g.bypass i).proxy) p ∙
-          proxy_is)
+      old : y_end.end ≡ end_of h (Central o) (proxy_side h o)
+      old = end-is ((links_of law k r here).decaying y_end.end y_end.there) ∙ (λ t. end_of g (y_end.on_link t) (y_end.at_side t)) ∙
+          sym (end-kept knows (Central o) (proxy_side g o) (is_recorded-central w g o ∙ (bypasses_of law o).old begun)) ∙
+          ap (end_of h (Central o)) (sym (proxy_side-agree g h agree o))
 
-      own_to_at : (q : Key) (t : Router) (d : LinkEnd) (j : ℕ) → t.outward.decaying ≡ Some d → d.link ≡ Central j →
-          d.side ≡ proxy_side g j → OneOrBefore w k x q t → At j → t.outward.length_to ≡ known_from 4 (h.bypass j).stage
-          (g.bypass j).taken_at
-      own_to_at q t d j m l n (inl c) a = let same : o ≡ j = central_is o j (sym (x_dec t d c.1 m).0 ∙ l) in
-          ap (λ u. u.outward.length_to) (sym c.1) ∙ ap Some is.taken ∙ sym (known4 (g.bypass o).taken_at) ∙ ap
-          (λ i. known_from 4 (h.bypass i).stage (g.bypass i).taken_at) same
-      own_to_at q t d j m l n (inr c) (inl a) = absurd (own_apart q t d j c.0 c.1 m l n a.1)
-      own_to_at q t d j m l n (inr c) (inr a) = rw a.0 (((positions_of law).each q t c.1).own_to d j m l n)
+      inner : inner_end.end ≡ end_of h (inner_of h o) A
+      inner = end-is ((links_of law k r here).inward_decaying inner_end.end inner_end.there) ∙
+          (λ t. end_of g (inner_end.on_link t) (inner_end.at_side t)) ∙ sym (end-kept knows (inner_of g o) A ((bypasses_of law o).inner begun)) ∙
+          ap (λ i. end_of h (inner_link i) A) (sym (agree.inner o))
 
-      own_from_at : (q : Key) (t : Router) (d : LinkEnd) (j : ℕ) → t.outward.decaying ≡ Some d → d.link ≡ Central j →
-          d.side ≡ proxy_side g j → OneOrBefore w k x q t → At j → t.outward.length_from ≡ known_from 4 (h.bypass j).stage
-          (g.bypass j).accepted_at
-      own_from_at q t d j m l n (inl c) a = let same : o ≡ j = central_is o j (sym (x_dec t d c.1 m).0 ∙ l) in
-          ap (λ u. u.outward.length_from) (sym c.1) ∙ ap Some is.accepted ∙ sym (known4 (g.bypass o).accepted_at) ∙ ap
-          (λ i. known_from 4 (h.bypass i).stage (g.bypass i).accepted_at) same
-      own_from_at q t d j m l n (inr c) (inl a) = absurd (own_apart q t d j c.0 c.1 m l n a.1)
-      own_from_at q t d j m l n (inr c) (inr a) = rw a.0 (((positions_of law).each q t c.1).own_from d j m l n)
+  roles : Roles v h
+  roles = further.roles-further law changed like linked carried is.stage late early (λ q j n apart f. known5 j n)
+      (λ q j n apart b. elim (at_o j) [
+        | inl a ↦ absurd (apart (sym ((begun_of law).begun_proxy q o (b ∙ ap Some a.1)) ∙ proxy_is))
+        | inr a ↦ rw a.0 refl
+      ]) own
 
   y_is : (t : Router) → router_at w (g.bypass o).proxy ≡ Some t → r ≡ t
   y_is t m = same_Some r t (sym here ∙ ap (router_at w) (sym proxy_is) ∙ m)
@@ -458,8 +412,8 @@ module _ (w : World) (b : Books) (g : Records) (from : ℕ) (k : Key) (r : Route
         (sym (further.recorded_same law changed like linked carried is.stage late early l) ∙ rec)));
     ordered = ordered-kept w v g h k r x changed agree like (ordered_of law);
     shape = further.shape-further law changed like linked carried is.stage late early;
-    links = further.links-further law changed like linked carried is.stage late early;
-    positions = numbers.positions-further law changed like linked carried is.stage late early owes;
+    roles = roles;
+    begun = further.begun-further law changed like linked carried is.stage late early;
     stands = further.stands-further law changed like linked carried is.stage late early;
     words = further.words-further law changed like linked carried is.stage late early
         (word-handed_on w from k x e.other sent);

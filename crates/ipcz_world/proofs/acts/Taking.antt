@@ -1,4 +1,5 @@
 -- A router takes the item of the message in hand, which moves no end: all that holds is kept.
+use Rattle.ipcz_world.proofs.frames.Opened.{links-open}
 use Rattle.ipcz_world.proofs.acts.Putting.{terminal_outward}
 use Rattle.std.proofs.Common.{true≢false}
 use Rattle.ipcz_world.proofs.frames.GonesKept.{IsGoneLike, gones-by, was-gone}
@@ -25,7 +26,7 @@ use Rattle.ipcz_world.proofs.frames.Frames.{count-set_node, node-set_mail, word-
 use Rattle.ipcz_world.proofs.frames.Frames.{count-set_mail}
 use Rattle.ipcz_world.proofs.frames.Opened.{OpenInv, OpenMoves, opened, closed}
 use Rattle.ipcz_world.proofs.frames.Touching.{IsTouched, IsAlike, HasSameEnds, Hands, recorded_same, counts-touched, shape-touched}
-use Rattle.ipcz_world.proofs.frames.Touching.{links-touched, positions-touched, stands-touched, words-touched, spares-touched}
+use Rattle.ipcz_world.proofs.frames.Touching.{roles-touched, stands-touched, words-touched, spares-touched}
 use Rattle.ipcz_world.proofs.frames.Touching.{bypasses-touched, stages-touched, terminals-touched}
 use Rattle.ipcz_world.proofs.frames.Draining.{taking_queue-standing}
 use Rattle.ipcz_world.proofs.frames.Fitting.{fits_of, items_by}
@@ -271,10 +272,10 @@ module _ (w v : World) (b : Books) (g : Records) (from : ℕ) (k : Key) (r y : R
           go false c = old (grind (arith, t.router q, c, at))
 
   link_end : r.end ≡ side_end g l s
-  link_end = (attached_recorded w g k r l s law.links is.here is.attached).3.end ∙ grind (
+  link_end = (attached_recorded w g k r l s (links-open law) is.here is.attached).3.end ∙ grind (
     arith,
-    (attached_recorded w g k r l s law.links is.here is.attached).1,
-    (attached_recorded w g k r l s law.links is.here is.attached).2,
+    (attached_recorded w g k r l s (links-open law) is.here is.attached).1,
+    (attached_recorded w g k r l s (links-open law) is.here is.attached).2,
   )
 
   -- a mark that comes was put
@@ -383,7 +384,7 @@ unfolding accept
 accepted_weight w b g from k r l s n item law is was end f = go (is_outward l s) refl
   where
     lacks : item_at (fed_queue l s r) n ≡ None
-    lacks = not_there_yet w b g from k.node 0 l s n item [] (fed_queue l s r) law.conserved law.counts law.links was
+    lacks = not_there_yet w b g from k.node 0 l s n item [] (fed_queue l s r) law.conserved law.counts (links-open law) was
         (ap (taking_queue l s) (view-standing w g l s k r is.router is.here is.attached) ∙ taking_queue-standing l s r)
 
     go : (o : Bool) → is_outward l s ≡ o → in_router f (accept r o n item) ≡ in_router f r + f (source g l s) n item
@@ -459,8 +460,8 @@ inv-taken w b g from k r l s n item law is = record {
   counts = counts-touched w v k r y g t a.alike law.counts hands;
   ordered = ordered-filled w v b g k r y from k.node 0 l s n item [] law is.here was is.router is.attached filling;
   shape = shape-touched w v k r y g t a.alike law.shape;
-  links = links-touched w v k r y g t a.alike law.links;
-  positions = positions-touched w v k r y g t a.alike law.positions;
+  roles = roles-touched w v k r y g t a.alike law.roles;
+  begun = law.begun;
   stands = stands-touched w v k r y g t a.alike law.stands;
   words = words-touched w v k r y g t a.alike law.words;
   spares = spares-touched w v k r y g t a.alike law.spares;

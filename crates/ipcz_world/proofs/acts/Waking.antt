@@ -1,4 +1,5 @@
 -- A wake keeps the invariant, and so does the hand of the Flush that it sends, whether a router has the link or not.
+use Rattle.ipcz_world.proofs.frames.RolesTell.{links-in}
 use Rattle.ipcz_world.proofs.frames.GivingUp.{stays_bare}
 use Rattle.ipcz_world.proofs.Vocabulary.{A, B, Side, LinkId, Central, LinkEnd, Message, opposite, has, is_central, word_of, Word, Router}
 use Rattle.ipcz_world.proofs.Vocabulary.{primary_word, is_possible, output_of, Hand, Node, Found, with_router, World, Key, node_at, word_at, mail_at}
@@ -201,7 +202,7 @@ inv-wake w b g k r i e law can at = inv-push_flush v b g k.node e.other e.link (
     )
 
     is : IsRecorded v g k y e
-    is = (sent.links k y there).primary e at
+    is = (links-in sent k y there).primary e at
 
     on : OnWord w g k r i
     on = on-word w b g k r i law can.here can.word

@@ -1,4 +1,5 @@
 -- The acts on words: a mark, a try for the lock, and its return keep the invariant.
+use Rattle.ipcz_world.proofs.frames.RolesTell.{positions-in}
 use Rattle.ipcz_world.proofs.frames.LeftSides.{not_left}
 use Rattle.ipcz_world.proofs.Vocabulary.{Side, A, B, Central, opposite, has, Word, Router, is_possible, World, Key, word_at, router_at, set_word}
 use Rattle.ipcz_world.proofs.Vocabulary.{set_router, Books, Records, is_begun, side_router, proxy_side, across_side, Inv, is_left, source_of, Plan}
@@ -43,10 +44,10 @@ begun-across w b g k r i law here on begun = record {
 }
   where
     stage : (g.bypass i).stage ≤ 2
-    stage = (law.positions.each k r here).primary_old on.end i on.primary on.link begun
+    stage = ((positions-in law).each k r here).primary_old on.end i on.primary on.link begun
 
     at : side_router g (Central i) (across_side g i) ≡ Some k
-    at = ap (side_router g (Central i)) (sym ((law.positions.each k r here).primary_across on.end i on.primary on.link begun) ∙ on.side) ∙ on.known
+    at = ap (side_router g (Central i)) (sym (((positions-in law).each k r here).primary_across on.end i on.primary on.link begun) ∙ on.side) ∙ on.known
 
 pub not_true : (b : Bool) → (b ≡ true → ⊥) → b ≡ false
 not_true true h = absurd (h refl)

@@ -1,4 +1,5 @@
 -- What the code needs of a world holds of each lawful one; and a step for a node that isn't there is refused.
+use Rattle.ipcz_world.proofs.frames.RolesTell.{links-in}
 use Rattle.std.specs.Prelude.{◌≡◌, ◌≤◌, ℕ, false, nat_lt, Option, Some, None, option_map, List}
 use Rattle.std.proofs.Common.{arith, ap, refl, inl}
 use Rattle.std.proofs.lemmas.Bool.Decides.{nat_tests}
@@ -26,7 +27,7 @@ sourced w law n serial r here = go (inward_edge r).primary refl
     go : (o : Option LinkEnd) → (inward_edge r).primary ≡ o → HasNode (option_map (λ (e : LinkEnd). e.other) o)
     go None h = tt
     go (Some e) h =
-        let is = (law.lawful.inv.links (record { node = n; serial = serial }) r here).inward_primary e h in
+        let is = ((links-in law.lawful.inv) (record { node = n; serial = serial }) r here).inward_primary e h in
         omega (
           arith,
           is.other,

@@ -1,16 +1,16 @@
 -- Records that differ aside: in who owns a word, if the same words are links; in which sides were left, if no fewer are; and in where terminals
 -- stand, if the same ends travel. What is said of all else is kept.
-use Rattle.ipcz_world.proofs.frames.PositionsKept.{positions-kept}
-use Rattle.ipcz_world.proofs.frames.LinksKept.{links-still}
+use Rattle.ipcz_world.proofs.frames.Roles.{Roles, BegunRecords}
+use Rattle.ipcz_world.proofs.frames.RolesKept.{role-kept, keeps-same}
 use Rattle.std.specs.Prelude.{◌≡◌, ◌||◌, ℕ, Bool, true, false, cond, Option, Some, None, is_some, option_map, refl}
 use Rattle.std.proofs.Common.{arith, sym, ◌∙◌, ap, inl, inr}
 use Rattle.std.proofs.lemmas.Bool.{or_left}
 use Rattle.ipcz_word.specs.SideSets.{Sides}
 use Rattle.ipcz_world.specs.Routes.{source as source'}
-use Rattle.ipcz_world.proofs.Vocabulary.{Side, B, End, LinkId, Central, Peripheral, LinkEnd, Descriptor, Router, World, Key, Books, Records, Owner}
+use Rattle.ipcz_world.proofs.Vocabulary.{Side, B, End, LinkId, Central, Peripheral, Descriptor, World, Key, Books, Records, Owner}
 use Rattle.ipcz_world.proofs.Vocabulary.{Weight, names_end, is_linked, is_recorded, inner_link, bypass_of, side_length, side_router, side_node}
 use Rattle.ipcz_world.proofs.Vocabulary.{side_end, view, view_by, is_gone, is_awaited, next_sent, taking_queue, standing_router, across_side}
-use Rattle.ipcz_world.proofs.Vocabulary.{inner_of, is_nowhere, Terminal, Counts, Links, IsRecorded, Positions, Stands, Stages, Told, of_bypass}
+use Rattle.ipcz_world.proofs.Vocabulary.{inner_of, is_nowhere, Terminal, Counts, Stands, Stages, Told, of_bypass}
 use Rattle.ipcz_world.proofs.Vocabulary.{control_weight, Terminals, Items, Order, ProxyNumbers, FreshNumbers, BypassRecords, BooksKept, Conserved}
 use Rattle.ipcz_world.proofs.Vocabulary.{HeldOnce, EndPlaces, opposite, terminal_descriptor, bypass_length, length_by, is_left, Moves, LiveLinks}
 use Rattle.ipcz_world.proofs.Vocabulary.{move_weight, may_have_sent, awaited_view}
@@ -79,16 +79,17 @@ module _ {g : Records} {owner : ℕ → Owner} {central : ℕ → Sides} {periph
       in_hand = law.in_hand;
     }
 
-    pub links-aside : Links v g → Links v h
-    unfolding side_router side_node side_end
-    links-aside law q z at = links-still (λ e. same q z e) (law q z at)
-      where
-        same : (q : Key) (z : Router) (e : LinkEnd) → IsRecorded v g q z e → IsRecorded v h q z e
-        same q z e rec = record { recorded = recorded-aside e.link ∙ rec.recorded; other = rec.other; router = rec.router; end = rec.end }
-
-    pub positions-aside : Positions v g → Positions v h
-    unfolding bypass_of
-    positions-aside law = positions-kept (record { bypass = λ o. refl; begun = λ k. refl; by = λ p. refl; link = λ l. refl; side = λ o. refl }) law
+    pub roles-aside : BypassRecords v g → BegunRecords g → Stands v g → Roles v g → Roles v h
+    unfolding side_router side_node side_end bypass_of
+    roles-aside bypasses begun stands law q z at = role-kept (record {
+      recorded = λ l e. recorded-aside l ∙ e;
+      router = λ l s k a e. e;
+      node = λ l s a. refl;
+      end = λ l s a. refl;
+      fresh = λ o b. refl;
+      inner = λ o b. refl;
+      stage = λ o. omega arith;
+    }) bypasses begun.begun_stage (keeps-same q (λ o. refl) (λ k. refl) (λ l. refl) (λ o b. refl) stands) z (law q z at)
 
     pub bypasses-aside : KeepsOwners g owner → BypassRecords v g → BypassRecords v h
     bypasses-aside keeps law = bypasses-alike {w = v}

@@ -1,4 +1,5 @@
 -- The proxy of a bypass: which links it still has, and who sees it there.
+use Rattle.ipcz_world.proofs.frames.RolesTell.{links-in, positions-in}
 use Rattle.std.specs.Prelude.{◌≡◌, ◌⊎◌, ◌≤◌, ℕ, Bool, true, false, nat_le, Option, Some, None, is_some, refl}
 use Rattle.std.proofs.Common.{arith, sym, ◌∙◌, ap, inl, inr}
 use Rattle.std.proofs.lemmas.Bool.Decides.{nat_tests}
@@ -25,7 +26,7 @@ pub record IsBypassed (w : World) (g : Records) (o : ℕ) (k : Key) (q : Router)
 
 pub proxy-begun : {w : World} {b : Books} {g : Records} {o : ℕ} {k : Key} {q : Router} → Inv w b g → IsBypassed w g o k q →
     g.begun k ≡ Some o
-proxy-begun {g = g} {o = o} law is = ap g.begun (sym is.proxy) ∙ law.positions.proxy_begun o is.begun
+proxy-begun {g = g} {o = o} law is = ap g.begun (sym is.proxy) ∙ law.begun.proxy_begun o is.begun
 
 pub proxy-role : {w : World} {b : Books} {g : Records} {o : ℕ} {k : Key} {q : Router} → Inv w b g → IsBypassed w g o k q →
     is_begun_router q ≡ true
@@ -56,21 +57,21 @@ proxy-outward {w} {b} {g} {o} {k} {q} law is e h = go e.link refl
     by_of : (p : Key) (m : Option ℕ) → (g.peripheral p).by ≡ m → is_some (g.peripheral p).by ≡ true → e.link ≡ inner_link p →
         Names e (Central o) (proxy_side g o)
     by_of p None a f l = absurd (grind (arith, a, f))
-    by_of p (Some j) a f l = absurd (grind (arith, (law.positions.each k q is.here).inner_fresh e p j h l a, proxy-alone law is))
+    by_of p (Some j) a f l = absurd (grind (arith, ((positions-in law).each k q is.here).inner_fresh e p j h l a, proxy-alone law is))
 
     on : (j : ℕ) → e.link ≡ Central j → is_begun (g.bypass j) ≡ true → (e.side ≡ proxy_side g j) ⊎ (e.side ≡ across_side g j) →
         Names e (Central o) (proxy_side g o)
     on j l f (inl s) =
-        let a : g.begun k ≡ Some j = ap g.begun (sym ((law.positions.each k q is.here).own_proxy e j h l s)) ∙ law.positions.proxy_begun j f in
+        let a : g.begun k ≡ Some j = ap g.begun (sym (((positions-in law).each k q is.here).own_proxy e j h l s)) ∙ law.begun.proxy_begun j f in
         let m : j ≡ o = same_Some j o (sym a ∙ proxy-begun law is) in
         record { link = l ∙ ap Central m; side = s ∙ ap (proxy_side g) m }
-    on j l f (inr s) = absurd (grind (arith, (law.positions.each k q is.here).across_fresh e j h l s, proxy-alone law is))
+    on j l f (inr s) = absurd (grind (arith, ((positions-in law).each k q is.here).across_fresh e j h l s, proxy-alone law is))
 
     go : (l : LinkId) → e.link ≡ l → Names e (Central o) (proxy_side g o)
-    go (Central j) l = on j l (begun-bypass_of g j (sym (ap (λ x. is_some (bypass_of g x)) l) ∙ (law.positions.each k q is.here).decaying e h))
+    go (Central j) l = on j l (begun-bypass_of g j (sym (ap (λ x. is_some (bypass_of g x)) l) ∙ ((positions-in law).each k q is.here).decaying e h))
         (side_is e.side (proxy_side g j))
     go (Peripheral n x) l = by_of (record { node = n; serial = x }) (g.peripheral (record { node = n; serial = x })).by refl
-        (grind (arith, bypass_of-inner g (record { node = n; serial = x }), l, (law.positions.each k q is.here).decaying e h)) l
+        (grind (arith, bypass_of-inner g (record { node = n; serial = x }), l, ((positions-in law).each k q is.here).decaying e h)) l
 
 -- its inward decaying link is the inner one
 pub inward-names : {w : World} {b : Books} {g : Records} {o : ℕ} {k : Key} {q : Router} → Inv w b g → router_at w k ≡ Some q →
@@ -79,11 +80,11 @@ unfolding is_outward
 inward-names {w} {b} {g} {o} {k} {q} law here begun e h = go e.link e.side refl refl
   where
     go : (l : LinkId) (s : Side) → e.link ≡ l → e.side ≡ s → Names e (inner_of g o) A
-    go (Central j) s l t = absurd (grind (arith, (law.links k q here).inward_decaying_inward e h, l))
-    go (Peripheral n x) B l t = absurd (grind (arith, (law.links k q here).inward_decaying_inward e h, l, t))
+    go (Central j) s l t = absurd (grind (arith, ((links-in law) k q here).inward_decaying_inward e h, l))
+    go (Peripheral n x) B l t = absurd (grind (arith, ((links-in law) k q here).inward_decaying_inward e h, l, t))
     go (Peripheral n x) A l t =
         let a : (g.peripheral (record { node = n; serial = x })).by ≡ Some o =
-        grind (arith, bypass_of-inner g (record { node = n; serial = x }), l, (law.positions.each k q here).inward_decaying e h, begun) in
+        grind (arith, bypass_of-inner g (record { node = n; serial = x }), l, ((positions-in law).each k q here).inward_decaying e h, begun) in
         record { link = l ∙ ap inner_link (sym (law.stands.by_inner (record { node = n; serial = x }) o a)); side = t }
 
 pub proxy-inward : {w : World} {b : Books} {g : Records} {o : ℕ} {k : Key} {q : Router} → Inv w b g → IsBypassed w g o k q → (e : LinkEnd) →

@@ -1,4 +1,5 @@
 -- A router leaves with its primary links, empty: what is said of all but books, retired ends and Gone is kept, with the records after it.
+use Rattle.ipcz_world.proofs.frames.NearInv.{links-near, positions-near}
 use Rattle.ipcz_world.proofs.frames.NearInv.{NearInv}
 use Rattle.ipcz_world.proofs.Vocabulary.{side_node, next_sent, side_length, has_passed, Side, A, B, LinkId, Central, Peripheral, LinkEnd, Descriptor}
 use Rattle.ipcz_world.proofs.Vocabulary.{Item, opposite, opposite_end, has, Router, is_terminal, inward_edge, World, Key, same_key, router_at}
@@ -11,7 +12,7 @@ use Rattle.std.proofs.lemmas.Bool.{or_left}
 use Rattle.ipcz_world.proofs.facts.LinkTests.{has_link-is}
 use Rattle.ipcz_world.proofs.facts.Lengths.{opposite-twice, view-standing, has_passed-none}
 use Rattle.ipcz_world.proofs.frames.Draining.{next_sent-standing}
-use Rattle.ipcz_world.proofs.frames.GivingUp.{counts-gives, ordered-gives, shape-gives, links-gives, positions-gives}
+use Rattle.ipcz_world.proofs.frames.GivingUp.{counts-gives, ordered-gives, shape-gives, roles-gives}
 use Rattle.ipcz_world.proofs.frames.GivenUp.{end_places-gives, books-gives, items-gives, order-gives, proxy_numbers-gives, fresh_numbers-gives}
 use Rattle.ipcz_world.proofs.frames.GivenUp.{conserved-gives, held_once-gives}
 use Rattle.ipcz_world.proofs.frames.GonesKept.{IsGoneRight, right-of, gones-all}
@@ -208,12 +209,12 @@ module _ {w v : World} {b : Books} {g : Records} {k : Key} {r : Router} (law : N
   -- the pair of a central link, and of an inner one
   central_pair : (o : ℕ) (s : Side) → HasEnd r.outward.primary (Central o) s → (g.central o).pair ≡ r.end.pair
   unfolding side_end
-  central_pair o s e = let rec : IsRecorded w g k r e.end = (law.links k r is.here).primary e.end e.there in
+  central_pair o s e = let rec : IsRecorded w g k r e.end = ((links-near law) k r is.here).primary e.end e.there in
       sym (ap (λ z. z.pair) rec.end ∙ ap (λ l. (side_end g l e.end.side).pair) e.on_link)
 
   inner_pair : (p : Key) → HasEnd r.outward.primary (inner_link p) B → (g.peripheral p).end.pair ≡ r.end.pair
   unfolding side_end
-  inner_pair p e = let rec : IsRecorded w g k r e.end = (law.links k r is.here).primary e.end e.there in
+  inner_pair p e = let rec : IsRecorded w g k r e.end = ((links-near law) k r is.here).primary e.end e.there in
       sym (ap (λ z. z.pair) rec.end ∙ ap (λ l. (side_end g l e.end.side).pair) e.on_link)
 
   pub settled : Settled w v h k r None
@@ -225,9 +226,9 @@ module _ {w v : World} {b : Books} {g : Records} {k : Key} {r : Router} (law : N
     known = λ l s up. right (is_some _) (is_left h l s) (known l s up.had);
     nothing = λ from to i l s n item moves u up. nothing from to i l s n item moves u up.before up.had;
     across_gone = λ o q at a up. let e = central_at o (across_side g o) up.had in
-        let low = (law.positions.each k r is.here).primary_old e.end o e.there e.on_link (begun_by o a) in absurd (omega (arith, low, a));
+        let low = ((positions-near law).each k r is.here).primary_old e.end o e.there e.on_link (begun_by o a) in absurd (omega (arith, low, a));
     inner_gone = λ o q at a up. let e = inner_at (g.bypass o).inner up.had in
-        let low = (law.positions.each k r is.here).primary_inner e.end (g.bypass o).inner o e.there e.on_link
+        let low = ((positions-near law).each k r is.here).primary_inner e.end (g.bypass o).inner o e.there e.on_link
         ((law.bypasses o).inner_by (begun_by o (omega (arith, a)))) in absurd (omega (arith, low, a));
     out_finished = λ o y p a f. absurd (none-some y f);
     in_finished = λ o y p a f. absurd (none-some y f);
@@ -248,7 +249,7 @@ module _ {w v : World} {b : Books} {g : Records} {k : Key} {r : Router} (law : N
           range = way_numbers w b g from to i l s n item moves law.conserved u
 
           rec : (e : LinkEnd) × (e.link ≡ l) × (e.side ≡ s) × IsRecorded w g k r e
-          rec = attached_recorded w g k r l s law.links is.here on
+          rec = attached_recorded w g k r l s (links-near law) is.here on
 
           end : r.end ≡ side_end g l s
           end = rec.3.end ∙ ap (λ x. side_end g x rec.0.side) rec.1 ∙ ap (side_end g l) rec.2
@@ -321,23 +322,23 @@ module _ {w v : World} {b : Books} {g : Records} {k : Key} {r : Router} (law : N
     by_inner = law.stands.by_inner;
     left_recorded = λ l s e. recorded-v l ∙ elim (left_back l s e) [
       | inl a ↦ law.stands.left_recorded l s a
-      | inr (inl a) ↦ ap (is_recorded w g) a.2 ∙ ((law.links k r is.here).primary a.0 a.1).recorded
-      | inr (inr a) ↦ ap (is_recorded w g) a.2 ∙ ((law.links k r is.here).inward_primary a.0 a.1).recorded
+      | inr (inl a) ↦ ap (is_recorded w g) a.2 ∙ (((links-near law) k r is.here).primary a.0 a.1).recorded
+      | inr (inr a) ↦ ap (is_recorded w g) a.2 ∙ (((links-near law) k r is.here).inward_primary a.0 a.1).recorded
     ];
     left_known = λ l s e. elim (left_back l s e) [
       | inl a ↦ law.stands.left_known l s a
-      | inr (inl a) ↦ ap is_some (at l s a.0 a.2 a.3 ((law.links k r is.here).primary a.0 a.1))
-      | inr (inr a) ↦ ap is_some (at l s a.0 a.2 a.3 ((law.links k r is.here).inward_primary a.0 a.1))
+      | inr (inl a) ↦ ap is_some (at l s a.0 a.2 a.3 (((links-near law) k r is.here).primary a.0 a.1))
+      | inr (inr a) ↦ ap is_some (at l s a.0 a.2 a.3 (((links-near law) k r is.here).inward_primary a.0 a.1))
     ];
     left_gone = λ l s e. elim (left_back l s e) [
       | inl a ↦ nobody (side_router g l s) (law.stands.left_gone l s a)
-      | inr (inl a) ↦ ap (λ o. key_passes v o (λ z. true)) (at l s a.0 a.2 a.3 ((law.links k r is.here).primary a.0 a.1)) ∙ gone
-      | inr (inr a) ↦ ap (λ o. key_passes v o (λ z. true)) (at l s a.0 a.2 a.3 ((law.links k r is.here).inward_primary a.0 a.1)) ∙ gone
+      | inr (inl a) ↦ ap (λ o. key_passes v o (λ z. true)) (at l s a.0 a.2 a.3 (((links-near law) k r is.here).primary a.0 a.1)) ∙ gone
+      | inr (inr a) ↦ ap (λ o. key_passes v o (λ z. true)) (at l s a.0 a.2 a.3 (((links-near law) k r is.here).inward_primary a.0 a.1)) ∙ gone
     ];
     left_live = λ l s e. elim (left_back l s e) [
       | inl a ↦ law.stands.left_live l s a
       | inr (inl a) ↦ ap (bypass_of g) a.2 ∙ live a.0 a.1 (bypass_of g a.0.link) refl
-      | inr (inr a) ↦ ap (bypass_of g) a.2 ∙ (law.positions.each k r is.here).inward_primary a.0 a.1
+      | inr (inr a) ↦ ap (bypass_of g) a.2 ∙ ((positions-near law).each k r is.here).inward_primary a.0 a.1
     ];
   }
     where
@@ -353,7 +354,7 @@ module _ {w v : World} {b : Books} {g : Records} {k : Key} {r : Router} (law : N
           taken (Central i) l z f =
               let here : HasEnd r.outward.primary (Central i) e.side = record { end = e; there = p; on_link = l; at_side = refl } in
               let begun : is_begun (g.bypass i) ≡ true = begun_of i (sym (ap (bypass_of g) l) ∙ f) in
-              let low = (law.positions.each k r is.here).primary_old e i p l begun in
+              let low = ((positions-near law).each k r is.here).primary_old e i p l begun in
               is.unbypassed i (grind (arith, begun, nat_tests)) (omega (arith, low)) (central_pair i e.side here)
             where
               begun_of : (i : ℕ) → bypass_of g (Central i) ≡ Some o → is_begun (g.bypass i) ≡ true
@@ -365,14 +366,14 @@ module _ {w v : World} {b : Books} {g : Records} {k : Key} {r : Router} (law : N
           taken (Peripheral n x) l z f =
               let q : Key = record { node = n; serial = x } in
               let by : (g.peripheral q).by ≡ Some o = sym (ap (bypass_of g) l) ∙ f in
-              let one = (law.positions.each k r is.here).primary_inner e q o p l by in
+              let one = ((positions-near law).each k r is.here).primary_inner e q o p l by in
               let pair : (g.peripheral q).end.pair ≡ r.end.pair = peripheral_pair q l in
               is.unbypassed o (omega (arith, one)) (omega (arith, one))
               (sym ((law.bypasses o).pair (law.stands.by_begun q o by)) ∙
               ap (λ z. (g.peripheral z).end.pair) (law.stands.by_inner q o by) ∙ pair)
             where
               peripheral_pair : (q : Key) → e.link ≡ inner_link q → (g.peripheral q).end.pair ≡ r.end.pair
-              peripheral_pair q l = let rec : IsRecorded w g k r e = (law.links k r is.here).primary e p in
+              peripheral_pair q l = let rec : IsRecorded w g k r e = ((links-near law) k r is.here).primary e p in
                   sym (ap (λ z. z.pair) rec.end ∙ ap (λ l. (side_end g l e.side).pair) l)
 
   pub words-departed : Words v h
@@ -463,7 +464,7 @@ module _ {w v : World} {b : Books} {g : Records} {k : Key} {r : Router} (law : N
 
       not_central : (i : ℕ) (e : LinkEnd) → (inward_edge r).primary ≡ Some e → Central i ≡ e.link → ⊥
       not_central i e p l = not_both (is_outward (Central i) e.side) refl
-          (ap (λ l. is_outward l e.side) l ∙ (law.links k r is.here).inward_primary_inward e p)
+          (ap (λ l. is_outward l e.side) l ∙ ((links-near law) k r is.here).inward_primary_inward e p)
 
   pub spares-departed : Spares v h
   unfolding spare_of is_lost_owner
@@ -551,8 +552,8 @@ module _ {w v : World} {b : Books} {g : Records} {k : Key} {r : Router} (law : N
       left = λ e i a l d p. left_more (Central i) e.side (retired_ends.left e i a (linked i l) d p);
       left_of = λ l s e. elim (left_back l s e) [
         | inl a ↦ retired_ends.left_of l s a
-        | inr (inl a) ↦ mine l s a.0 a.2 a.3 ((law.links k r is.here).primary a.0 a.1)
-        | inr (inr a) ↦ mine l s a.0 a.2 a.3 ((law.links k r is.here).inward_primary a.0 a.1)
+        | inr (inl a) ↦ mine l s a.0 a.2 a.3 (((links-near law) k r is.here).primary a.0 a.1)
+        | inr (inr a) ↦ mine l s a.0 a.2 a.3 (((links-near law) k r is.here).inward_primary a.0 a.1)
       ];
       accepted = retired_ends.accepted;
     }
@@ -576,10 +577,10 @@ module _ {w v : World} {b : Books} {g : Records} {k : Key} {r : Router} (law : N
         here_e = record { end = e; there = p; on_link = l; at_side = refl }
 
         rec : IsRecorded w g k r e
-        rec = (law.links k r is.here).primary e p
+        rec = ((links-near law) k r is.here).primary e p
 
         rec_d : IsRecorded w g q y d
-        rec_d = (law.links q y at).primary d dp
+        rec_d = ((links-near law) q y at).primary d dp
 
         is_link : is_linked (g.owner i) ≡ true
         is_link = sym (ap (is_recorded w g) l) ∙ rec.recorded
@@ -589,7 +590,7 @@ module _ {w v : World} {b : Books} {g : Records} {k : Key} {r : Router} (law : N
           where
             go : (c : Bool) → is_begun (g.bypass i) ≡ c → c ≡ false
             go false f = refl
-            go true f = let low = (law.positions.each k r is.here).primary_old e i p l f in
+            go true f = let low = ((positions-near law).each k r is.here).primary_old e i p l f in
                 absurd (is.unbypassed i (grind (arith, f, nat_tests)) (omega (arith, low)) (central_pair i e.side here_e))
 
         side : (opposite_end r.end).side ≡ d.side
@@ -612,7 +613,7 @@ module _ {w v : World} {b : Books} {g : Records} {k : Key} {r : Router} (law : N
         short in omega (arith, le, is.in_all, ap (λ z. length (b.put (opposite_end z))) ends)
       where
         out_d : is_outward d.link d.side ≡ false
-        out_d = (law.links q y at).inward_primary_inward d dp
+        out_d = ((links-near law) q y at).inward_primary_inward d dp
 
         side_d : d.side ≡ A
         side_d = (inward_link d.link d.side out_d).2
@@ -624,10 +625,10 @@ module _ {w v : World} {b : Books} {g : Records} {k : Key} {r : Router} (law : N
         link_d = dl ∙ l
 
         rec_d : IsRecorded w g q y d
-        rec_d = (law.links q y at).inward_primary d dp
+        rec_d = ((links-near law) q y at).inward_primary d dp
 
         rec_e : IsRecorded w g k r e
-        rec_e = (law.links k r is.here).primary e ep
+        rec_e = ((links-near law) k r is.here).primary e ep
 
         rec_p : is_recorded w g (inner_link p) ≡ true
         rec_p = sym (ap (is_recorded w g) l) ∙ rec_e.recorded
@@ -649,7 +650,7 @@ module _ {w v : World} {b : Books} {g : Records} {k : Key} {r : Router} (law : N
 
         short : has_passed (side_length g (inner_link p) A) y.in_queue.current ≡ false
         short = ap (λ o. has_passed (length_by g (inner_link p) A o) y.in_queue.current)
-            (ap (bypass_of g) (sym link_d) ∙ (law.positions.each q y at).inward_primary d dp) ∙ has_passed-none y.in_queue.current
+            (ap (bypass_of g) (sym link_d) ∙ ((positions-near law).each q y at).inward_primary d dp) ∙ has_passed-none y.in_queue.current
 
     pub gones-departed : Gones v b h
     gones-departed = gones-all right
@@ -667,7 +668,7 @@ module _ {w v : World} {b : Books} {g : Records} {k : Key} {r : Router} (law : N
             | inl a ↦ o.left_inner e p a
             | inr (inl a) ↦ beyond e p a.0 a.1 a.2 a.3
             | inr (inr a) ↦ absurd (both_inward e.link e.side a.0.link a.0.side a.2 a.3
-                ((law.links q y before).inward_primary_inward e p) ((law.links k r is.here).inward_primary_inward a.0 a.1))
+                (((links-near law) q y before).inward_primary_inward e p) (((links-near law) k r is.here).inward_primary_inward a.0 a.1))
           ];
           out_put = o.out_put;
           in_put = o.in_put;
@@ -695,8 +696,8 @@ module _ {w v : World} {b : Books} {g : Records} {k : Key} {r : Router} (law : N
                 go : (x : LinkId) → a.link ≡ x → is_retired b (opposite_end y.end) ≡ true
                 go (Central i) f = absurd (across_central i a ap_ f q y e before p l s)
                 go (Peripheral n x) f = absurd (out_apart n x e.side
-                    (ap (λ z. is_outward z e.side) (sym (l ∙ f)) ∙ (law.links q y before).primary_outward e p)
-                    (ap (λ z. is_outward z (opposite e.side)) (sym f) ∙ ap (is_outward a.link) s ∙ (law.links k r is.here).primary_outward a ap_))
+                    (ap (λ z. is_outward z e.side) (sym (l ∙ f)) ∙ ((links-near law) q y before).primary_outward e p)
+                    (ap (λ z. is_outward z (opposite e.side)) (sym f) ∙ ap (is_outward a.link) s ∙ ((links-near law) k r is.here).primary_outward a ap_))
 
             -- inward of the router
             inner : (e : LinkEnd) → y.outward.primary ≡ Some e → (a : LinkEnd) → (inward_edge r).primary ≡ Some a → e.link ≡ a.link →
@@ -704,9 +705,9 @@ module _ {w v : World} {b : Books} {g : Records} {k : Key} {r : Router} (law : N
             inner e p a ip l s = ap (λ z. is_retired b (opposite_end z)) ends ∙ retired
               where
                 ends : y.end ≡ r.end
-                ends = ((law.links q y before).primary e p).end ∙ ap (λ z. side_end g z e.side) l ∙ ap (side_end g a.link)
-                    (sym (opposite-twice e.side) ∙ ap opposite s) ∙ around g a.link a.side ((law.links k r is.here).inward_primary_inward a ip) ∙
-                    sym ((law.links k r is.here).inward_primary a ip).end
+                ends = (((links-near law) q y before).primary e p).end ∙ ap (λ z. side_end g z e.side) l ∙ ap (side_end g a.link)
+                    (sym (opposite-twice e.side) ∙ ap opposite s) ∙ around g a.link a.side (((links-near law) k r is.here).inward_primary_inward a ip) ∙
+                    sym (((links-near law) k r is.here).inward_primary a ip).end
 
             -- outward of it, over an inner link
             beyond : (e : LinkEnd) → (inward_edge y).primary ≡ Some e → (a : LinkEnd) → r.outward.primary ≡ Some a → e.link ≡ a.link →
@@ -714,7 +715,7 @@ module _ {w v : World} {b : Books} {g : Records} {k : Key} {r : Router} (law : N
             beyond e p a ap_ l s = go e.link refl
               where
                 go : (x : LinkId) → e.link ≡ x → length (b.put (opposite_end y.end)) ≤ y.in_queue.current
-                go (Central i) f = absurd (not_inward i e.side (ap (λ z. is_outward z e.side) (sym f) ∙ (law.links q y before).inward_primary_inward e p))
+                go (Central i) f = absurd (not_inward i e.side (ap (λ z. is_outward z e.side) (sym f) ∙ ((links-near law) q y before).inward_primary_inward e p))
                 go (Peripheral n x) f = across_inner (record { node = n; serial = x }) a ap_ (sym l ∙ f) q y e before p l s
 
   pub on_node : k.node < w.count
@@ -726,8 +727,8 @@ module _ {w v : World} {b : Books} {g : Records} {k : Key} {r : Router} (law : N
     counts = counts-gives w v h k r None c keeps.words.claimed (off.counts-aside is_off_here w keeps_owners law.counts);
     ordered = ordered-gives w v k r None c law.ordered;
     shape = shape-gives w v k r None c keeps law.shape;
-    links = links-gives w v h k r None c (off.links-aside is_off_here w law.links);
-    positions = positions-gives w v h k r None c (off.positions-aside is_off_here w law.positions);
+    roles = roles-gives w v h k r None c (off.roles-aside is_off_here w law.bypasses law.begun law.stands law.roles);
+    begun = assumption law.begun;
     stands = stands-departed;
     words = words-departed;
     spares = spares-departed;

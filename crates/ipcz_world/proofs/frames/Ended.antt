@@ -13,7 +13,7 @@ use Rattle.ipcz_world.proofs.facts.RecordsAfter.{set_terminal}
 use Rattle.ipcz_world.proofs.frames.Booking.{flag, end_tells, in_router-within, total-has}
 use Rattle.ipcz_world.proofs.frames.Holding.{times-has, times_held-at}
 use Rattle.ipcz_world.proofs.frames.Weighing.{in_router-is, in_places-has, in_message-item}
-use Rattle.ipcz_world.proofs.frames.Aside.{IsAside, KeepsOwners, central_left, peripheral_left, counts-aside, links-aside, positions-aside}
+use Rattle.ipcz_world.proofs.frames.Aside.{IsAside, KeepsOwners, central_left, peripheral_left, counts-aside, roles-aside}
 use Rattle.ipcz_world.proofs.frames.Aside.{stands-aside, bypasses-aside, live-aside, stages-aside, told-aside, moves-aside, books_kept-aside}
 use Rattle.ipcz_world.proofs.frames.Aside.{items-aside, order-aside, proxy_numbers-aside, fresh_numbers-aside, conserved-aside, held_once-aside}
 
@@ -111,8 +111,8 @@ module _ (v : World) (b : Books) (g : Records) (e : End) (k : Key) (at : g.termi
       counts = counts-aside is_ended v owners law.counts;
       ordered = law.ordered;
       shape = law.shape;
-      links = links-aside is_ended v law.links;
-      positions = positions-aside is_ended v law.positions;
+      roles = roles-aside is_ended v law.bypasses law.begun law.stands law.roles;
+      begun = assumption law.begun;
       stands = stands-aside is_ended v law.stands;
       words = words-ended law.words;
       spares = spares-ended law.spares;

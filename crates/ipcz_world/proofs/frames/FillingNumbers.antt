@@ -1,4 +1,5 @@
 -- The item that a router takes from a message has a number below what the other side has sent, on each link that feeds the queue.
+use Rattle.ipcz_world.proofs.frames.Opened.{links-open, positions-open}
 use Rattle.std.specs.Prelude.{◌≡◌, ◌≤◌, ◌<◌, ℕ, Bool, true, false, not, cond, nat_le, Option, Some, None, is_some, refl, List}
 use Rattle.std.proofs.Common.{arith, ap, subst, ◌∙◌, sym, inl, inr}
 use Rattle.std.proofs.lemmas.Bool.Decides.{nat_tests}
@@ -153,8 +154,8 @@ module _ (w : World) (b : Books) (g : Records) (k : Key) (r : Router) (from to i
   both : (p d : LinkEnd) → r.outward.primary ≡ Some p → r.outward.decaying ≡ Some d → p.link ≡ l → p.side ≡ s → (x : Option ℕ) →
       side_length g d.link (opposite d.side) ≡ x → has_passed (side_length g d.link (opposite d.side)) n ≡ true
   both p d isp isd pl ps None q =
-      let c = fresh_central w g k r p d law.positions here isp isd in
-      let none = half_sender w g k r p d law.links law.positions law.stands law.bypasses here isp isd q in
+      let c = fresh_central w g k r p d (positions-open law) here isp isd in
+      let none = half_sender w g k r p d (links-open law) (positions-open law) law.stands law.bypasses here isp isd q in
       let unsent = (central_unsent w g p.link (opposite p.side) c.0 c.1 none).1 in
       let sent : may_have_sent (view w g p.link (opposite p.side)) ≡ true =
       subst (λ z. may_have_sent (view w g z (opposite p.side)) ≡ true) (sym pl)
@@ -171,12 +172,12 @@ module _ (w : World) (b : Books) (g : Records) (k : Key) (r : Router) (from to i
       next_sent p.link (opposite p.side) (view w g p.link (opposite p.side)) ≡ Some x → (o : Option ℕ) →
       side_length g d.link (opposite d.side) ≡ o → n < x
   other p d x isp isd dl ds h None q =
-      let c = fresh_central w g k r p d law.positions here isp isd in
-      let none = half_sender w g k r p d law.links law.positions law.stands law.bypasses here isp isd q in
+      let c = fresh_central w g k r p d (positions-open law) here isp isd in
+      let none = half_sender w g k r p d (links-open law) (positions-open law) law.stands law.bypasses here isp isd q in
       let unsent = (central_unsent w g p.link (opposite p.side) c.0 c.1 none).0 in
       absurd (grind (arith, unsent, h))
   other p d x isp isd dl ds h (Some len) q =
-      let c = fresh_central w g k r p d law.positions here isp isd in
+      let c = fresh_central w g k r p d (positions-open law) here isp isd in
       let f = central_sends w g p.link (opposite p.side) c.0 x c.1 h in
       let le : len ≤ f.0.out_queue.current = (law.fresh_numbers k r here).other f.0 p d len isp isd q f.1 in
       let less : n < len = fit.below_length len (ap (λ z. side_length g z (opposite s)) (sym dl) ∙ ap
@@ -329,7 +330,7 @@ module _ (w v : World) (b : Books) (g : Records) (k : Key) (r y : Router) (from 
         | inl e ↦ absurd (grind (arith, role.0, e.is))
         | inr e ↦ let p = inward_link l s dir in
             let by : (g.peripheral p.0).by ≡ Some o = sym (bypass_of-inner g p.0) ∙ ap (bypass_of g) (sym p.1 ∙ sym e.link_is) ∙
-            (law.positions.each k r here).inward_decaying e.end e.is ∙ ap g.begun (sym proxy) ∙ law.positions.proxy_begun o begun in
+            ((positions-open law).each k r here).inward_decaying e.end e.is ∙ ap g.begun (sym proxy) ∙ law.begun.proxy_begun o begun in
             fits_here.below_length (g.bypass o).taken_at (ap (λ z. side_length g z (opposite s)) p.1 ∙ ap
             (λ z. side_length g (inner_link p.0) (opposite z)) p.2 ∙ length-inner g p.0 o by stage)
       ]
@@ -341,7 +342,7 @@ module _ (w v : World) (b : Books) (g : Records) (k : Key) (r y : Router) (from 
       elim (edge_has-tells r.outward l s (attached_outward l s r on dir)) [
         | inl e ↦ absurd (grind (arith, role.1, e.is))
         | inr e ↦ old e.end e.is e.link_is e.side_is role.1 begun (bypass_of g e.end.link) refl e.end.link refl
-            ((law.positions.each k r here).decaying e.end e.is)
+            (((positions-open law).each k r here).decaying e.end e.is)
       ]
     where
       old : (e : LinkEnd) → r.outward.decaying ≡ Some e → e.link ≡ l → e.side ≡ s → r.outward.primary ≡ None →
@@ -351,16 +352,16 @@ module _ (w v : World) (b : Books) (g : Records) (k : Key) (r y : Router) (from 
       old e is el es none begun (Some x) q (Central j) em some = elim (side_is e.side (proxy_side g j)) [
         | inl t ↦
             let f = bypass_of-central_is g j x (ap (bypass_of g) (sym em) ∙ q) in
-            let same : j ≡ o = same_some (sym (law.positions.proxy_begun j f.1) ∙ ap g.begun
-            ((law.positions.each k r here).own_proxy e j is em t ∙ sym proxy) ∙ law.positions.proxy_begun o begun) in
+            let same : j ≡ o = same_some (sym (law.begun.proxy_begun j f.1) ∙ ap g.begun
+            (((positions-open law).each k r here).own_proxy e j is em t ∙ sym proxy) ∙ law.begun.proxy_begun o begun) in
             let side : opposite s ≡ across_side g o = ap opposite (sym es ∙ t) ∙ ap (across_side g) same in
             let link : l ≡ Central o = sym el ∙ em ∙ ap Central same in
             fits_here.below_length (g.bypass o).accepted_at (ap (λ z. side_length g z (opposite s)) link ∙ ap (side_length g (Central o))
             side ∙ length-across_from g o (bypass_of-begun g o begun) stage)
-        | inr t ↦ absurd (no_primary none ((law.positions.each k r here).across_fresh e j is em t))
+        | inr t ↦ absurd (no_primary none (((positions-open law).each k r here).across_fresh e j is em t))
       ]
       old e is el es none begun (Some x) q (Peripheral a c) em some =
-          absurd (no_primary none ((law.positions.each k r here).inner_fresh e (record { node = a; serial = c }) x is em
+          absurd (no_primary none (((positions-open law).each k r here).inner_fresh e (record { node = a; serial = c }) x is em
           (sym (bypass_of-inner g (record { node = a; serial = c })) ∙ ap (bypass_of g) (sym em) ∙ q)))
 
   pub proxy_numbers-filled : ProxyNumbers v g

@@ -4,7 +4,7 @@ use Rattle.std.specs.Prelude.{ℕ}
 use Rattle.std.proofs.Common.{◌∙◌}
 use Rattle.ipcz_world.proofs.Vocabulary.{Side, End, World, Key, Books, Records, Owner, Terminal, Inv, CentralRecord}
 use Rattle.ipcz_world.proofs.frames.FreshPairs.{IsGrown}
-use Rattle.ipcz_world.proofs.frames.FirstLinkLinks.{counts-grown, ordered-grown, shape-grown, links-grown, positions-grown}
+use Rattle.ipcz_world.proofs.frames.FirstLinkLinks.{counts-grown, ordered-grown, shape-grown, roles-grown, begun-grown}
 use Rattle.ipcz_world.proofs.frames.FirstLinkStages.{stands-grown, words-grown, spares-grown, bypasses-grown, stages-grown, told-grown}
 use Rattle.ipcz_world.proofs.frames.FirstLinkItems.{moves-grown, terminals-grown, end_places-grown, books_kept-grown, items-grown, retired-grown, gones-grown}
 use Rattle.ipcz_world.proofs.frames.FirstLinkItems.{order-grown, proxy_numbers-grown, fresh_numbers-grown, conserved-grown, held_once-grown}
@@ -18,8 +18,8 @@ module _ (w v : World) (b : Books) (g : Records) (owner' : ℕ → Owner) (centr
     counts = counts-grown law is;
     ordered = ordered-grown law is;
     shape = shape-grown law is;
-    links = links-grown law is;
-    positions = positions-grown law is;
+    roles = roles-grown law is;
+    begun = begun-grown law is;
     stands = stands-grown law is;
     words = words-grown law is;
     spares = spares-grown law is;

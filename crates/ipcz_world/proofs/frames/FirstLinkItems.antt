@@ -1,4 +1,5 @@
 -- A word becomes a pair's first link: the terminals and descriptors, the numbers of items and their places.
+use Rattle.ipcz_world.proofs.frames.RolesTell.{links-in}
 use Rattle.ipcz_world.proofs.Vocabulary.{inward_edge, opposite_end, LinkEnd, Side, A, B, End, Central, Descriptor, Item, Message, opposite, same_end}
 use Rattle.ipcz_world.proofs.Vocabulary.{has_end, Queue, item_at, Router, is_terminal, World, Key, router_at, Books, read, is_closed, Records, Owner}
 use Rattle.ipcz_world.proofs.Vocabulary.{Terminal, At, is_linked, is_begun, is_recorded, inner_link, side_end, terminal_node, is_nowhere, across_side}
@@ -320,7 +321,7 @@ module _ {w v : World} {b : Books} {g : Records} {owner' : ℕ → Owner} {centr
     ];
     other = λ y e f len on off l there. elim (is.was q x a) [
       | inl o ↦ (law.fresh_numbers q x o).other y e f len on off (sym (length_kept law is f.link (opposite f.side)) ∙ l)
-          (ap standing_router (sym (view_kept law is e.link (opposite e.side) ((law.links q x o).primary e on).recorded)) ∙ there)
+          (ap standing_router (sym (view_kept law is e.link (opposite e.side) (((links-in law) q x o).primary e on).recorded)) ∙ there)
       | inr o ↦ absurd (no_end law is x.outward.decaying f (ap (λ (x : Router). x.outward.decaying) o.0.is) off)
     ];
   }

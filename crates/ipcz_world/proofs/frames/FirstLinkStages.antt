@@ -1,4 +1,5 @@
 -- A word becomes a pair's first link: who stands where, the words, the bypasses and their messages.
+use Rattle.ipcz_world.proofs.frames.RolesTell.{links-in}
 use Rattle.ipcz_world.proofs.frames.LiveLinks.{first_begun}
 use Rattle.ipcz_world.proofs.Vocabulary.{Side, A, B, End, LinkId, Central, Peripheral, Message, has, opposite, Word, empty_word, open_word, Router}
 use Rattle.ipcz_world.proofs.Vocabulary.{World, Key, word_at, router_at, Books, Records, Owner, Terminal, is_linked, is_begun, is_recorded}
@@ -127,7 +128,7 @@ module _ {w v : World} {b : Books} {g : Records} {owner' : ℕ → Owner} {centr
     source = sourced-by w v (λ q x e m. elim (is.was q x e) [
       | inl o ↦ had-itself w q x o
       | inr o ↦ absurd (not_both x.holds m (ap (λ (x : Router). x.holds) o.0.is))
-    ]) (λ q x e j at p l. ap (λ (x : Word). x.source) (is.word j (λ m. recorded_apart law is e.link ((law.links q x at).primary e p).recorded
+    ]) (λ q x e j at p l. ap (λ (x : Word). x.source) (is.word j (λ m. recorded_apart law is e.link (((links-in law) q x at).primary e p).recorded
         (l ∙ ap Central m)))) law.words.source;
   }
     where

@@ -23,7 +23,7 @@ use Rattle.ipcz_world.proofs.frames.SameMessages.{recorded-same, under-same, mad
 use Rattle.ipcz_world.proofs.frames.Views.{IsPart, Seen, GivesUp, seen, next_sent-seen, taking-seen, may_have_sent-seen}
 use Rattle.ipcz_world.proofs.frames.Views.{awaited-seen, gone-seen, standing-seen}
 use Rattle.ipcz_world.proofs.frames.GivingUp.{Gives, IsBare, HasSameFlags, Keeps, same-messages, was, passes-still, passes-primary, counts-gives}
-use Rattle.ipcz_world.proofs.frames.GivingUp.{ordered-gives, shape-gives, links-gives, begun_part, positions-gives, stands-gives}
+use Rattle.ipcz_world.proofs.frames.GivingUp.{ordered-gives, shape-gives, roles-gives, begun_part, stands-gives}
 use Rattle.ipcz_world.proofs.frames.GivingUp.{flag-still}
 use Rattle.ipcz_world.proofs.frames.GonesKept.{IsGoneLike, gones-by}
 use Rattle.ipcz_world.proofs.frames.EndsKept.{terminal-kept, ends-kept}
@@ -362,8 +362,8 @@ inv-flags w v b g k r x c bare is law flags = record {
   counts = flags.counts;
   ordered = ordered-gives w v k r x c law.ordered;
   shape = flags.shape;
-  links = links-gives w v g k r x c law.links;
-  positions = positions-gives w v g k r x c law.positions;
+  roles = roles-gives w v g k r x c law.roles;
+  begun = law.begun;
   stands = stands-gives w v g k r x c bare law.stands;
   words = flags.words;
   spares = flags.spares;

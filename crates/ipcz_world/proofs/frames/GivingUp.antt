@@ -1,13 +1,13 @@
 -- A router gives decaying links up, or leaves: the relation, and what is said of shapes, links and who stands there is kept.
-use Rattle.ipcz_world.proofs.Vocabulary.{HasPositions, word_of, HasShape, IsOrdered, Side, A, B, LinkId, Central, LinkEnd, has_link, Router}
+use Rattle.ipcz_world.proofs.frames.Roles.{Roles, Role, HasRole, Fits, Unbegun, Begun, trim, meant, outward_of, inward_of, has_inner, lone, trim-lone, On, Across, Inward, Outward, FitsOut, link_of, side_of, standing_edge, end_of, old_edge, inner_edge}
+use Rattle.ipcz_world.proofs.frames.RolesKept.{role-in}
+use Rattle.ipcz_world.proofs.Vocabulary.{word_of, HasShape, IsOrdered, Side, A, B, LinkId, Central, LinkEnd, has_link, Router}
 use Rattle.ipcz_world.proofs.Vocabulary.{is_terminal, inward_edge, World, Key, same_key, mail_at, way, router_at, Records, inner_link, side_router}
-use Rattle.ipcz_world.proofs.Vocabulary.{Weight, in_router, passes, key_passes, has_primary, Counts, Ordered, Shape, Links, IsRecorded, Positions}
-use Rattle.ipcz_world.proofs.Vocabulary.{Stands, decays, is_sink, has_inward_primary, is_begun_router, has_role, link_in}
-use Rattle.ipcz_world.proofs.frames.LinksKept.{links-kept}
-use Rattle.ipcz_world.proofs.frames.LinksKept.{KeepsLinks}
+use Rattle.ipcz_world.proofs.Vocabulary.{Weight, in_router, passes, key_passes, has_primary, Counts, Ordered, Shape}
+use Rattle.ipcz_world.proofs.Vocabulary.{Edge, no_edge, is_outward, is_proxy, Stands, decays, is_sink, has_inward_primary, is_begun_router, has_role}
 use Rattle.std.specs.Prelude.{◌≡◌, ◌≢◌, ◌⊎◌, ℕ, ◌+◌, ◌*◌, Bool, true, false, Option, Some, None, is_some, refl}
 use Rattle.std.proofs.lemmas.Option.{none-some}
-use Rattle.std.proofs.Common.{arith, sym, ◌∙◌, ap, inl, inr}
+use Rattle.std.proofs.Common.{arith, subst, sym, ◌∙◌, ap, inl, inr}
 use Rattle.ipcz_world.proofs.frames.Frames.{same_key_tells}
 use Rattle.ipcz_world.proofs.frames.StandingRules.{standing_rules}
 use Rattle.ipcz_world.proofs.frames.OneRouter.{SameWords, SameButRouter}
@@ -174,64 +174,86 @@ shape-part x y part flags law = record {
 pub shape-gives : (w v : World) (k : Key) (r : Router) (x : Option Router) → Gives w v k r x → Keeps w v r x → Shape w → Shape v
 shape-gives w v k r x c keeps law q y at = let o = was_same c keeps q y at in shape-part o.router y o.part o.flags (law q o.router o.at)
 
-recorded-part : (w v : World) (g : Records) (q : Key) (x y : Router) (e : LinkEnd) → SameMessages w v → IsPart x y → IsRecorded w g q x e →
-    IsRecorded v g q y e
-recorded-part w v g q x y e same part law = record {
-  recorded = recorded-same w v g e.link same ∙ law.recorded;
-  other = law.other;
-  router =
-      law.router;
-  end = part.end ∙ law.end;
-}
-
-keeps-part : (x y : Router) → IsPart x y → KeepsLinks x y
-keeps-part x y part = record {
-  primary = λ e p. sym part.primary ∙ p;
-  decaying = part.decaying;
-  inward_primary = λ e p. sym part.inward_primary ∙ p;
-  inward_decaying = part.inward_decaying;
-}
-
-pub links-gives : (w v : World) (g : Records) (k : Key) (r : Router) (x : Option Router) → Gives w v k r x → Links w g → Links v g
-links-gives w v g k r x c law q y at = let o = was c q y at in
-    links-kept (keeps-part o.router y o.part) (λ e. recorded-part w v g q o.router y e (same-messages c.one) o.part) (law q o.router o.at)
-
 pub begun_part : (x y : Router) → IsPart x y → is_begun_router y ≡ is_begun_router x
 begun_part x y p = grind (arith, p.proxy, p.inward_primary)
 
-positions-part : (g : Records) (k : Key) (x y : Router) → IsPart x y → HasPositions g k x → HasPositions g k y
-positions-part g k x y part law = record {
-  inward_primary = λ e p. law.inward_primary e (sym part.inward_primary ∙ p);
-  inward_decaying = λ e p. law.inward_decaying e (part.inward_decaying e p);
-  inward_to = λ e o p b. part.inward_to e p ∙ law.inward_to e o (part.inward_decaying e p) b;
-  inward_from = λ e o p b. part.inward_from e p ∙ law.inward_from e o (part.inward_decaying e p) b;
-  primary_old = λ e o p. law.primary_old e o (sym part.primary ∙ p);
-  primary_across = λ e o p. law.primary_across e o (sym part.primary ∙ p);
-  primary_inner = λ e q o p. law.primary_inner e q o (sym part.primary ∙ p);
-  decaying = λ e p. law.decaying e (part.decaying e p);
-  inner_stage = λ e q o p. law.inner_stage e q o (part.decaying e p);
-  inner_to = λ e q o p l b. part.length_to e p ∙ law.inner_to e q o (part.decaying e p) l b;
-  inner_from = λ e q o p l b. part.length_from e p ∙ law.inner_from e q o (part.decaying e p) l b;
-  inner_fresh = λ e q o p l b. ap link_in part.primary ∙ law.inner_fresh e q o (part.decaying e p) l b;
-  own_proxy = λ e o p. law.own_proxy e o (part.decaying e p);
-  own_alone = λ e o p l s. part.primary ∙ law.own_alone e o (part.decaying e p) l s;
-  own_to = λ e o p l s. part.length_to e p ∙ law.own_to e o (part.decaying e p) l s;
-  own_from = λ e o p l s. part.length_from e p ∙ law.own_from e o (part.decaying e p) l s;
-  across_stage = λ e o p. law.across_stage e o (part.decaying e p);
-  across_to = λ e o p l s. part.length_to e p ∙ law.across_to e o (part.decaying e p) l s;
-  across_from = λ e o p l s. part.length_from e p ∙ law.across_from e o (part.decaying e p) l s;
-  across_fresh = λ e o p l s. ap link_in part.primary ∙ law.across_fresh e o (part.decaying e p) l s;
-  begun = λ b. law.begun (sym (begun_part x y part) ∙ b);
-}
+-- a part of a router has a part of its role
+role-part : {w : World} {g : Records} {q : Key} (x y : Router) → IsPart x y → HasRole w g q x → HasRole w g q y
+unfolding is_outward
+role-part {w} {g} {q} x y part c = go c.role c.proxy c.outward c.inward c.fits y.outward.decaying (inward_edge y).decaying refl refl
+  where
+    whole : (a b : Edge) (e : LinkEnd) → b.primary ≡ a.primary → b.decaying ≡ Some e → a.decaying ≡ Some e → b.length_to ≡ a.length_to →
+        b.length_from ≡ a.length_from → trim b ≡ trim a
+    whole a b e p d f to from = λ t. record {
+      primary = p t;
+      decaying = (d ∙ sym f) t;
+      length_to = meant ((d ∙ sym f) t) (to t);
+      length_from = meant ((d ∙ sym f) t) (from t);
+    }
 
-pub positions-gives : (w v : World) (g : Records) (k : Key) (r : Router) (x : Option Router) → Gives w v k r x → Positions w g →
-    Positions v g
-positions-gives w v g k r x c law = record {
-  each = λ q y at. let o = was c q y at in positions-part g q o.router y o.part (law.each q o.router o.at);
-  begun_proxy = law.begun_proxy;
-  begun_stage = law.begun_stage;
-  proxy_begun = law.proxy_begun;
-}
+    out : (e : LinkEnd) → y.outward.decaying ≡ Some e → trim y.outward ≡ trim x.outward
+    out e d = whole x.outward y.outward e part.primary d (part.decaying e d) (part.length_to e d) (part.length_from e d)
+
+    inn : (e : LinkEnd) → (inward_edge y).decaying ≡ Some e → trim (inward_edge y) ≡ trim (inward_edge x)
+    inn e d = whole (inward_edge x) (inward_edge y) e part.inward_primary d (part.inward_decaying e d) (part.inward_to e d) (part.inward_from e d)
+
+    alone : {p : Option LinkEnd} → trim (inward_edge x) ≡ lone p → (inward_edge y).decaying ≡ None → trim (inward_edge y) ≡ lone p
+    alone i m = trim-lone (inward_edge y) _ (part.inward_primary ∙ ap (λ t. t.primary) i) m
+
+    -- an edge of a proxy that has begun has its link still, or not
+    half : (b a : Edge) (at : Bool → Edge) (c : Bool) → ((c : Bool) → (at c).primary ≡ None) → at false ≡ no_edge → b.primary ≡ a.primary → trim a ≡ at c →
+        ((e : LinkEnd) → b.decaying ≡ Some e → trim b ≡ trim a) → (d : Option LinkEnd) → b.decaying ≡ d → (x : Bool) × (trim b ≡ at x)
+    half b a at c none off p t same None d = (false, trim-lone b None (p ∙ ap (λ t. t.primary) t ∙ none c) d ∙ sym off)
+    half b a at c none off p t same (Some e) d = (c, same e d ∙ t)
+
+    go : (a : Role) → is_proxy x ≡ has_inner a → trim x.outward ≡ outward_of g a → trim (inward_edge x) ≡ inward_of g a → Fits w g q x.end a →
+        (d e : Option LinkEnd) → y.outward.decaying ≡ d → (inward_edge y).decaying ≡ e → HasRole w g q y
+    go (Unbegun a n) p o i f d (Some e) h m = absurd (none-some e (sym (ap (λ t. t.decaying) i) ∙ part.inward_decaying e m))
+    go (Unbegun a n) p o i f (Some d) None h m = record {
+      role = Unbegun a n;
+      proxy = part.proxy ∙ p;
+      outward = out d h ∙ o;
+      inward = alone i m;
+      fits = subst (λ e. Fits w g q e (Unbegun a n)) (sym part.end) f;
+    }
+    go (Unbegun a n) p o i f None None h m = record {
+      role = Unbegun (On (link_of g a) (side_of g a)) n;
+      proxy = part.proxy ∙ p;
+      outward = trim-lone y.outward _ (part.primary ∙ ap (λ t. t.primary) o ∙ on a) h;
+      inward = alone i m;
+      fits = subst (λ e. Fits w g q e (Unbegun (On (link_of g a) (side_of g a)) n)) (sym part.end) (f.0, outward a f.1, f.2);
+    }
+      where
+        on : (a : Outward) → (standing_edge g a).primary ≡ Some (end_of g (link_of g a) (side_of g a))
+        on (On l s) = refl
+        on (Across j) = refl
+        on (Inward j) = refl
+
+        outward : (a : Outward) → FitsOut g q a → is_outward (link_of g a) (side_of g a) ≡ true
+        outward (On l s) f = f
+        outward (Across j) f = refl
+        outward (Inward j) f = refl
+    go (Begun j c z) p o i f d e h m =
+        let s = half y.outward x.outward (old_edge g j) c (λ c. old c) refl part.primary o out d h in
+        let u = half (inward_edge y) (inward_edge x) (inner_edge g j) z (λ c. inner c) refl part.inward_primary i inn e m in record {
+          role = Begun j s.0 u.0;
+          proxy = part.proxy ∙ p;
+          outward = s.1;
+          inward = u.1;
+          fits = subst (λ e. Fits w g q e (Begun j s.0 u.0)) (sym part.end) f;
+        }
+      where
+        old : (c : Bool) → (old_edge g j c).primary ≡ None
+        old true = refl
+        old false = refl
+
+        inner : (c : Bool) → (inner_edge g j c).primary ≡ None
+        inner true = refl
+        inner false = refl
+
+pub roles-gives : (w v : World) (g : Records) (k : Key) (r : Router) (x : Option Router) → Gives w v k r x → Roles w g → Roles v g
+roles-gives w v g k r x c law q y at = let o = was c q y at in
+    role-in (λ l. recorded-same w v g l (same-messages c.one)) (role-part o.router y o.part (law q o.router o.at))
 
 pub stands-gives : (w v : World) (g : Records) (k : Key) (r : Router) (x : Option Router) → Gives w v k r x → IsBare r x → Stands w g → Stands v g
 stands-gives w v g k r x c bare law = record {

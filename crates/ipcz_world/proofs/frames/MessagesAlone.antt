@@ -1,14 +1,15 @@
 -- Messages alone move: if routers and words are the same, and nothing is under way but what was and Flushes, the invariant is kept.
-use Rattle.ipcz_world.proofs.frames.LinksKept.{links-still}
+use Rattle.ipcz_world.proofs.frames.Roles.{Roles}
+use Rattle.ipcz_world.proofs.frames.RolesKept.{role-in}
 use Rattle.ipcz_world.proofs.frames.GonesKept.{gones-by, gone_like-itself}
 use Rattle.ipcz_world.proofs.frames.Sourcing.{sourced-by, had-itself}
 use Rattle.ipcz_word.specs.Word.{Word}
 use Rattle.ipcz_world.proofs.frames.OfRecords.{holds, held_times, in_node, in_message, in_places}
-use Rattle.ipcz_world.proofs.Vocabulary.{Weight, at_end, names_end, times, Side, A, B, End, LinkId, Central, Peripheral, LinkEnd, Descriptor, Item}
+use Rattle.ipcz_world.proofs.Vocabulary.{Weight, at_end, names_end, times, Side, A, B, End, LinkId, Central, Peripheral, Descriptor, Item}
 use Rattle.ipcz_world.proofs.Vocabulary.{Message, opposite, has_end, is_central, Router, World, Key, node_at, router_at, Books, Records, is_recorded}
 use Rattle.ipcz_world.proofs.Vocabulary.{inner_link, side_node, side_router, across_side, IsUnderWay, of_end, moves_of, total_below, total_list, view}
 use Rattle.ipcz_world.proofs.Vocabulary.{view_by, router_view, passes, key_passes, next_sent, taking_queue, is_gone, is_awaited, Counts, Ordered}
-use Rattle.ipcz_world.proofs.Vocabulary.{Shape, Links, IsRecorded, Positions, Stands, Words, Spares, BypassRecords, Stages, Told, of_bypass, inner_of}
+use Rattle.ipcz_world.proofs.Vocabulary.{Shape, Stands, Words, Spares, BypassRecords, Stages, Told, of_bypass, inner_of}
 use Rattle.ipcz_world.proofs.Vocabulary.{Terminals, EndPlaces, BooksKept, Conserved, HeldOnce, times_held, Items, Order, ProxyNumbers, FreshNumbers}
 use Rattle.ipcz_world.proofs.Vocabulary.{standing_router, Inv, spare_of, may_have_sent, Moves, IsItemUnderWay}
 use Rattle.ipcz_world.specs.Places.{in_message as in_message', in_node as in_node'}
@@ -163,19 +164,8 @@ module _ (w v : World) (g : Records) (p : Passes w v g) where
   shape-passes : Shape w → Shape v
   shape-passes law q r at = law q r (back q r at)
 
-  still_recorded : (q : Key) (r : Router) (e : LinkEnd) → IsRecorded w g q r e → IsRecorded v g q r e
-  still_recorded q r e is = record { recorded = recorded e.link ∙ is.recorded; other = is.other; router = is.router; end = is.end }
-
-  links-passes : Links w g → Links v g
-  links-passes law q r at = links-still (λ e. still_recorded q r e) (law q r (back q r at))
-
-  positions-passes : Positions w g → Positions v g
-  positions-passes law = record {
-    each = λ q r at. law.each q r (back q r at);
-    begun_proxy = law.begun_proxy;
-    begun_stage = law.begun_stage;
-    proxy_begun = law.proxy_begun;
-  }
+  roles-passes : Roles w g → Roles v g
+  roles-passes law q r at = role-in recorded (law q r (back q r at))
 
   stands-passes : Stands w g → Stands v g
   stands-passes law = record {
@@ -385,8 +375,8 @@ module _ (w v : World) (g : Records) (p : Passes w v g) where
     counts = counts-passes hands law.counts;
     ordered = ordered-passes law.ordered;
     shape = shape-passes law.shape;
-    links = links-passes law.links;
-    positions = positions-passes law.positions;
+    roles = roles-passes law.roles;
+    begun = law.begun;
     stands = stands-passes law.stands;
     words = words-passes law.words;
     spares = spares-passes law.spares;

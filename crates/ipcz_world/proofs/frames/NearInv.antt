@@ -3,13 +3,15 @@ use Rattle.ipcz_world.proofs.Vocabulary.{World, Books, Records, Counts, Ordered,
 use Rattle.ipcz_world.proofs.Vocabulary.{Stages, Told, Terminals, EndPlaces, BooksKept, Items, Order, ProxyNumbers, FreshNumbers, Conserved, HeldOnce}
 use Rattle.ipcz_world.proofs.Vocabulary.{Inv, Moves, LiveLinks, RetiredEnds, Gones}
 use Rattle.ipcz_world.specs.Inv.{HasNoStrays}
+use Rattle.ipcz_world.proofs.frames.Roles.{Roles, BegunRecords}
+use Rattle.ipcz_world.proofs.frames.RolesTell.{links-of-roles, positions-of-roles}
 
 pub record NearInv (w : World) (b : Books) (g : Records) : Type 0 where
   pub counts : Counts w g
   pub ordered : Ordered w
   pub shape : Shape w
-  pub links : Links w g
-  pub positions : Positions w g
+  pub roles : Roles w g
+  pub begun : BegunRecords g
   pub stands : Stands w g
   pub words : Words w g
   pub spares : Spares w g
@@ -33,3 +35,9 @@ inv-near near terminals retired_ends gones = assumption near
 
 pub near-inv : {w : World} {b : Books} {g : Records} → Inv w b g → NearInv w b g
 near-inv law = assumption law
+
+pub links-near : {w : World} {b : Books} {g : Records} → NearInv w b g → Links w g
+links-near law = links-of-roles law.bypasses law.stands law.begun law.roles
+
+pub positions-near : {w : World} {b : Books} {g : Records} → NearInv w b g → Positions w g
+positions-near law = positions-of-roles law.bypasses law.stands law.begun law.roles

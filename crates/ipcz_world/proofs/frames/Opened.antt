@@ -7,6 +7,8 @@ use Rattle.ipcz_world.proofs.Vocabulary.{Inv, RetiredEnds, Gones, LiveLinks, mov
 use Rattle.std.specs.Prelude.{◌≡◌, ◌≢◌, ℕ, false, true, None, Some, List, [], map, slice_get}
 use Rattle.ipcz_base.specs.declared.message.Message.TheVariants as messages
 use Rattle.ipcz_world.specs.Inv.{HasNoStrays}
+use Rattle.ipcz_world.proofs.frames.Roles.{Roles, BegunRecords}
+use Rattle.ipcz_world.proofs.frames.RolesTell.{links-of-roles, positions-of-roles}
 
 -- an item between two nodes has one descriptor per end, in order
 abbrev pub HasEnds : World → Type 0
@@ -37,8 +39,8 @@ pub record OpenInv (w : World) (b : Books) (g : Records) : Type 0 where
   pub counts : Counts w g
   pub ordered : Ordered w
   pub shape : Shape w
-  pub links : Links w g
-  pub positions : Positions w g
+  pub roles : Roles w g
+  pub begun : BegunRecords g
   pub stands : Stands w g
   pub words : Words w g
   pub spares : Spares w g
@@ -65,8 +67,8 @@ opened w b g law = record {
   counts = law.counts;
   ordered = law.ordered;
   shape = law.shape;
-  links = law.links;
-  positions = law.positions;
+  roles = law.roles;
+  begun = law.begun;
   stands = law.stands;
   words = law.words;
   spares = law.spares;
@@ -94,8 +96,8 @@ closed w b g law ends = record {
   counts = law.counts;
   ordered = law.ordered;
   shape = law.shape;
-  links = law.links;
-  positions = law.positions;
+  roles = law.roles;
+  begun = law.begun;
   stands = law.stands;
   words = law.words;
   spares = law.spares;
@@ -117,3 +119,9 @@ closed w b g law ends = record {
   gones = law.gones;
   no_strays = law.no_strays;
 }
+
+pub links-open : {w : World} {b : Books} {g : Records} → OpenInv w b g → Links w g
+links-open law = links-of-roles law.bypasses law.stands law.begun law.roles
+
+pub positions-open : {w : World} {b : Books} {g : Records} → OpenInv w b g → Positions w g
+positions-open law = positions-of-roles law.bypasses law.stands law.begun law.roles

@@ -1,11 +1,12 @@
 -- The record of a bypass goes a stage further, from 3 or 4: links, words and stages are as before.
-use Rattle.ipcz_world.proofs.frames.LinksKept.{links-kept}
-use Rattle.ipcz_world.proofs.frames.LinksKept.{KeepsLinks}
-use Rattle.ipcz_world.proofs.Vocabulary.{HasShape, opposite_end, Side, A, B, LinkId, Central, Peripheral, LinkEnd, Descriptor, Item, opposite}
+use Rattle.ipcz_world.proofs.frames.Sealing.{begun_of}
+use Rattle.ipcz_world.proofs.frames.Roles.{begun-kept, Inward, FitsOut, HasRole, Roles, BegunRecords, until, until-same, until-most}
+use Rattle.ipcz_world.proofs.frames.RolesKept.{knows-agree, Knows, role-kept}
+use Rattle.ipcz_world.proofs.Vocabulary.{HasShape, opposite_end, Side, A, B, LinkId, Central, Peripheral, Descriptor, Item, opposite}
 use Rattle.ipcz_world.proofs.Vocabulary.{has_link, word_of, Router, inward_edge, World, Key, same_key, word_at, router_at, Books, Records}
-use Rattle.ipcz_world.proofs.Vocabulary.{is_recorded, inner_link, side_node, side_router, side_end, proxy_side, across_side, known_from, side_length}
+use Rattle.ipcz_world.proofs.Vocabulary.{is_recorded, bypass_of, inner_link, side_node, side_router, side_end, proxy_side, across_side, known_from, side_length}
 use Rattle.ipcz_world.proofs.Vocabulary.{is_attached, view, has_primary, has_decaying, has_inward_decaying, key_passes, IsUnderWay, is_made_before}
-use Rattle.ipcz_world.proofs.Vocabulary.{Shape, Links, IsRecorded, Stands, Words, BypassRecords, Stages, inner_of, is_done, is_sink, is_retired}
+use Rattle.ipcz_world.proofs.Vocabulary.{Shape, Stands, Words, BypassRecords, Stages, inner_of, is_done, is_sink, is_retired}
 use Rattle.ipcz_world.proofs.Vocabulary.{RetiredEnds, Gones, is_left, is_proxy, decays, has_inward_primary, is_begun_router, has_role, fresh_of}
 use Rattle.std.specs.Prelude.{◌||◌}
 use Rattle.ipcz_world.proofs.frames.Sealing.{retired_ends_of, gones_of}
@@ -18,13 +19,13 @@ use Rattle.std.specs.Prelude.{refl}
 use Rattle.std.proofs.Common.{arith, ap, ◌∙◌, sym, inl, inr}
 use Rattle.std.proofs.lemmas.Bool.Decides.{nat_tests}
 use Rattle.ipcz_base.specs.declared.message.Message.TheVariants as messages
-use Rattle.ipcz_world.proofs.frames.Frames.{same_key_tells}
+use Rattle.ipcz_world.proofs.frames.Frames.{same_key_tells, same_key-itself, one_or_before}
 use Rattle.ipcz_world.proofs.facts.RecordsAfter.{set_bypass}
 use Rattle.ipcz_world.proofs.frames.Unmoved.{IsLike, Changed, Carried, Agree, side_node-agree, side_end-agree, proxy_side-agree}
 use Rattle.ipcz_world.proofs.frames.Unmoved.{is_recorded-kept, key_passes-kept}
 use Rattle.ipcz_world.proofs.frames.Viewing.{IsSameView, view-kept}
 use Rattle.ipcz_world.proofs.facts.Lengths.{length-old, length-proxy, length-inner, length-live, length-none, known_from-yes}
-use Rattle.ipcz_world.proofs.frames.Sealing.{Sealed, shape_of, links_of, stands_of, words_of, bypasses_of, stages_of}
+use Rattle.ipcz_world.proofs.frames.Sealing.{Sealed, shape_of, stands_of, words_of, bypasses_of, stages_of, roles_of}
 use Rattle.ipcz_world.proofs.frames.BypassesKept.{bypasses-alike}
 use Rattle.ipcz_world.proofs.frames.WordsKept.{word-kept}
 
@@ -47,7 +48,7 @@ some_none : {X : Type 0} (t : Option X) → is_some t ≡ not (is_none t)
 some_none None = refl
 some_none (Some y) = refl
 
-proxy_like : (r x : Router) → IsLike r x → is_proxy x ≡ is_proxy r
+pub proxy_like : (r x : Router) → IsLike r x → is_proxy x ≡ is_proxy r
 proxy_like r x like = some_none x.inward ∙ ap not like.terminal ∙ sym (some_none r.inward)
 
 sink_like : (r x : Router) → IsLike r x → is_sink r ≡ true → is_sink x ≡ true
@@ -74,14 +75,6 @@ shape_like r x like linked law = record {
   sent_proxy = λ m. ap is_some linked.inward_primary ∙ law.sent_proxy (sym like.gone_sent ∙ m);
   spare_proxy = λ i e. proxy_like r x like ∙ law.spare_proxy i (sym like.spare ∙ e);
   spare_central = λ i e. ap (λ o. is_some (word_of o)) linked.primary ∙ law.spare_central i (sym like.spare ∙ e);
-}
-
-keeps_like : (r x : Router) → IsLinkedLike r x → KeepsLinks r x
-keeps_like r x linked = record {
-  primary = λ e p. sym linked.primary ∙ p;
-  decaying = λ e p. sym linked.decaying ∙ p;
-  inward_primary = λ e p. sym linked.inward_primary ∙ p;
-  inward_decaying = λ e p. sym linked.inward_decaying ∙ p;
 }
 
 pub gone_like : (r x : Router) → IsLike r x → IsLinkedLike r x → IsGoneLike r x
@@ -243,17 +236,32 @@ module _ {w v : World} {b : Books} {g : Records} {k : Key} {r x : Router} {o s :
   shape-further q t e = let z : Was q t = was_router q t e in
       shape_like z.router t z.alike z.linked_alike (shape_of law q z.router z.here_before)
 
-  rec_same : (q : Key) (t t' : Router) (d : LinkEnd) → t'.end ≡ t.end → IsRecorded w g q t d → IsRecorded v h q t' d
-  rec_same q t t' d e rec = record {
-    recorded = recorded_same d.link ∙ rec.recorded;
-    other = rec.other ∙ sym (node_same d.link (opposite d.side));
-    router = router_same d.link d.side ∙ rec.router;
-    end = e ∙ rec.end ∙ sym (side_end-agree g h agree d.link d.side);
-  }
+  pub knows : Knows w v g h
+  knows = knows-agree agree recorded_same (λ l t q e. router_same l t ∙ e) (λ j. grind (arith, at_o j, at))
 
-  pub links-further : Links v h
-  links-further q t e = let z : Was q t = was_router q t e in
-      links-kept (keeps_like z.router t z.linked_alike) (λ d. rec_same q z.router t d z.alike.end) (links_of law q z.router z.here_before)
+  -- a bypass that goes further here isn't one of a link that is primary still
+  pub stays-further : (l : LinkId) (t : Side) → ((j : ℕ) → bypass_of g l ≡ Some j → (g.bypass j).stage ≤ until g j l t) →
+      (j : ℕ) → bypass_of h l ≡ Some j → (h.bypass j).stage ≤ until h j l t
+  stays-further l t low j by = let m = low j (sym (bypass_of-agree g h agree l) ∙ by) in rw (until-same g h j l t (proxy_side_same j))
+      (grind (arith, at_o j, at, late, m, until-most g j l t))
+
+  -- the routers have their roles still, if the lengths that another stage tells are known where it tells them
+  pub roles-further : ((q : Key) (j n : ℕ) → (q ≡ k → ⊥) → FitsOut g q (Inward j) → known_from 5 (h.bypass j).stage n ≡ known_from 5 (g.bypass j).stage n) →
+      ((q : Key) (j n : ℕ) → (q ≡ k → ⊥) → g.begun q ≡ Some j → known_from 4 (h.bypass j).stage n ≡ known_from 4 (g.bypass j).stage n) →
+      HasRole v h k x → Roles v h
+  roles-further inward proxy own q z e = elim (one_or_before w v k x c.router q z e) [
+    | inl a ↦ rw (a.0, ← a.1) own
+    | inr a ↦ let apart : (q ≡ k → ⊥) = λ m. grind (arith, m, a.0, same_key-itself k) in role-kept knows (bypasses_of law) (begun_of law).begun_stage (record {
+      stays = λ d l t on. stays-further l t on.stays;
+      begun = λ j n. n;
+      across = λ j f. (accepted_same j, taken_same j);
+      inward = λ j f. (taken_same j, ap (known_from 5 (h.bypass j).stage) (accepted_same j) ∙ inward q j _ apart f);
+      proxy = λ j n. (
+        ap (known_from 4 (h.bypass j).stage) (taken_same j) ∙ proxy q j _ apart n,
+        ap (known_from 4 (h.bypass j).stage) (accepted_same j) ∙ proxy q j _ apart n,
+      );
+    }) z (roles_of law q z a.1)
+  ]
 
   pub stands-further : Stands v h
   stands-further = record {
@@ -382,3 +390,6 @@ module _ {w v : World} {b : Books} {g : Records} {k : Key} {r x : Router} {o s :
         recorded = λ p. recorded_same (inner_link p);
       })
       (bypasses_of law)
+
+  pub begun-further : BegunRecords h
+  begun-further = begun-kept agree.proxy agree.is_begun (λ q. refl) (begun_of law)

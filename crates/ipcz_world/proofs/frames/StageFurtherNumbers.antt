@@ -1,8 +1,8 @@
 -- The record of a bypass goes a stage further, from 3 or 4: the numbers of items against the lengths that are known then.
 use Rattle.std.specs.Prelude.{◌||◌}
 use Rattle.ipcz_world.proofs.Vocabulary.{B, Central, LinkEnd, Item, opposite, Queue, item_at, Router, inward_edge, World, Key, same_key, router_at}
-use Rattle.ipcz_world.proofs.Vocabulary.{Books, Records, inner_link, proxy_side, across_side, known_from, view, is_gone, Positions, inner_of, Items}
-use Rattle.ipcz_world.proofs.Vocabulary.{Order, ProxyNumbers, FreshNumbers, has_passed, standing_router, is_left, link_in}
+use Rattle.ipcz_world.proofs.Vocabulary.{Books, Records, across_side, view, is_gone, inner_of, Items}
+use Rattle.ipcz_world.proofs.Vocabulary.{Order, ProxyNumbers, FreshNumbers, has_passed, standing_router, is_left}
 use Rattle.ipcz_world.specs.Records.{side_length}
 use Rattle.ipcz_world.proofs.frames.StageFurther.{left_same}
 use Rattle.std.specs.Prelude.{◌≡◌, ◌≢◌, ◌⊎◌, ◌≤◌, ℕ, suc, true, false, nat_eq, is_some, Some, None, option_map}
@@ -10,10 +10,10 @@ use Rattle.std.proofs.Common.{arith, ap, ◌∙◌, sym, inl, inr}
 use Rattle.std.proofs.lemmas.Option.{same_Some}
 use Rattle.ipcz_world.proofs.frames.Frames.{same_key_tells}
 use Rattle.ipcz_world.proofs.facts.RecordsAfter.{set_bypass}
-use Rattle.ipcz_world.proofs.frames.Unmoved.{IsLike, Changed, Carried, bypass_of-agree}
-use Rattle.ipcz_world.proofs.frames.Sealing.{Sealed, positions_of, items_of, order_of, proxy_numbers_of, fresh_numbers_of}
-use Rattle.ipcz_world.proofs.frames.StageFurther.{IsLinkedLike, StillMade, begun_like, at_o, agree, taken_same, accepted_same, at_least}
-use Rattle.ipcz_world.proofs.frames.StageFurther.{proxy_side_same, across_side_same, length_same, view_same, recorded_same, node_same, Was}
+use Rattle.ipcz_world.proofs.frames.Unmoved.{IsLike, Changed, Carried}
+use Rattle.ipcz_world.proofs.frames.Sealing.{Sealed, items_of, order_of, proxy_numbers_of, fresh_numbers_of}
+use Rattle.ipcz_world.proofs.frames.StageFurther.{IsLinkedLike, StillMade, at_o, agree, taken_same, accepted_same, at_least}
+use Rattle.ipcz_world.proofs.frames.StageFurther.{across_side_same, length_same, view_same, recorded_same, node_same, Was}
 use Rattle.ipcz_world.proofs.frames.StageFurther.{was_router}
 use Rattle.ipcz_world.proofs.facts.Queues.{HasOutQueue, out_queue_of}
 
@@ -210,135 +210,4 @@ module _ {w v : World} {b : Books} {g : Records} {k : Key} {r x : Router} {o s :
             cur (ap (λ u. u.out_queue) (sym same) ∙ like.out_queue),
           )
       own_at q t p d len e prim dec l (inr m) = (fresh_numbers_of law q t (sym (rw m.0 at (c.router q)) ∙ e)).own p d len prim dec l
-
-  -- what the lengths owe that a router has for its decaying links
-  pub record LengthsOwe : Type 0 where
-    pub inward_to : (q : Key) (t : Router) (d : LinkEnd) (j : ℕ) → router_at v q ≡ Some t → (inward_edge t).decaying ≡ Some d →
-        g.begun q ≡ Some j → (inward_edge t).length_to ≡ known_from 4 (h.bypass j).stage (g.bypass j).accepted_at
-    pub inward_from : (q : Key) (t : Router) (d : LinkEnd) (j : ℕ) → router_at v q ≡ Some t → (inward_edge t).decaying ≡ Some d →
-        g.begun q ≡ Some j → (inward_edge t).length_from ≡ known_from 4 (h.bypass j).stage (g.bypass j).taken_at
-    pub inner_to : (q : Key) (t : Router) (d : LinkEnd) (p : Key) (j : ℕ) → router_at v q ≡ Some t → t.outward.decaying ≡ Some d →
-        d.link ≡ inner_link p → (g.peripheral p).by ≡ Some j → t.outward.length_to ≡ Some (g.bypass j).taken_at
-    pub inner_from : (q : Key) (t : Router) (d : LinkEnd) (p : Key) (j : ℕ) → router_at v q ≡ Some t → t.outward.decaying ≡ Some d →
-        d.link ≡ inner_link p → (g.peripheral p).by ≡ Some j → t.outward.length_from ≡ known_from 5 (h.bypass j).stage
-        (g.bypass j).accepted_at
-    pub own_to : (q : Key) (t : Router) (d : LinkEnd) (j : ℕ) → router_at v q ≡ Some t → t.outward.decaying ≡ Some d →
-        d.link ≡ Central j →
-        d.side ≡ proxy_side g j → t.outward.length_to ≡ known_from 4 (h.bypass j).stage (g.bypass j).taken_at
-    pub own_from : (q : Key) (t : Router) (d : LinkEnd) (j : ℕ) → router_at v q ≡ Some t → t.outward.decaying ≡ Some d →
-        d.link ≡ Central j → d.side ≡ proxy_side g j → t.outward.length_from ≡ known_from 4 (h.bypass j).stage (g.bypass j).accepted_at
-    pub across_to : (q : Key) (t : Router) (d : LinkEnd) (j : ℕ) → router_at v q ≡ Some t → t.outward.decaying ≡ Some d →
-        d.link ≡ Central j → d.side ≡ across_side g j → t.outward.length_to ≡ Some (g.bypass j).accepted_at
-    pub across_from : (q : Key) (t : Router) (d : LinkEnd) (j : ℕ) → router_at v q ≡ Some t → t.outward.decaying ≡ Some d →
-        d.link ≡ Central j → d.side ≡ across_side g j → t.outward.length_from ≡ Some (g.bypass j).taken_at
-
-  pub positions-further : LengthsOwe → Positions v h
-  positions-further owes = record {
-    each = λ q t e. record {
-      inward_primary = λ d p. let z : Was law c like linked carried at late early q t =
-          was_router law c like linked carried at late early q t e in
-          bypass_of-agree g h (agree law c like linked carried at late early) d.link ∙
-          ((positions_of law).each q z.router z.here_before).inward_primary d
-          (sym z.linked_alike.inward_primary ∙ p);
-      inward_decaying = λ d p. let z : Was law c like linked carried at late early q t =
-          was_router law c like linked carried at late early q t e in
-          bypass_of-agree g h (agree law c like linked carried at late early) d.link ∙
-          ((positions_of law).each q z.router z.here_before).inward_decaying d
-          (sym z.linked_alike.inward_decaying ∙ p);
-      inward_to = λ d j p n. owes.inward_to q t d j e p n ∙
-          ap (known_from 4 (h.bypass j).stage) (sym (accepted_same law c like linked carried at late early j));
-      inward_from = λ d j p n. owes.inward_from q t d j e p n ∙
-          ap (known_from 4 (h.bypass j).stage) (sym (taken_same law c like linked carried at late early j));
-      primary_old = λ d j p l n. let z : Was law c like linked carried at late early q t =
-          was_router law c like linked carried at late early q t e in
-          grind (
-            arith,
-            at_o law c like linked carried at late early j,
-            at,
-            late,
-            ((positions_of law).each q z.router z.here_before).primary_old d j (sym z.linked_alike.primary ∙ p) l
-                (sym ((agree law c like linked carried at late early).is_begun j) ∙ n),
-          );
-      primary_across = λ d j p l n. let z : Was law c like linked carried at late early q t =
-          was_router law c like linked carried at late early q t e in
-          ((positions_of law).each q z.router z.here_before).primary_across d j (sym z.linked_alike.primary ∙ p) l
-          (sym ((agree law c like linked carried at late early).is_begun j) ∙ n)
-          ∙ sym
-          (across_side_same law c like linked carried at late early j);
-      primary_inner = λ d p j m l n. let z : Was law c like linked carried at late early q t =
-          was_router law c like linked carried at late early q t e in
-          grind (
-            arith,
-            at_o law c like linked carried at late early j,
-            at,
-            late,
-            ((positions_of law).each q z.router z.here_before).primary_inner d p j (sym z.linked_alike.primary ∙ m) l
-                n,
-          );
-      decaying = λ d p. let z : Was law c like linked carried at late early q t =
-          was_router law c like linked carried at late early q t e in
-          ap is_some (bypass_of-agree g h (agree law c like linked carried at late early) d.link) ∙
-          ((positions_of law).each q z.router z.here_before).decaying d
-          (sym z.linked_alike.decaying ∙ p);
-      inner_stage = λ d p j m l n. let z : Was law c like linked carried at late early q t =
-          was_router law c like linked carried at late early q t e in
-          grind (
-            arith,
-            at_o law c like linked carried at late early j,
-            at,
-            late,
-            ((positions_of law).each q z.router z.here_before).inner_stage d p j (sym z.linked_alike.decaying ∙ m) l
-                n,
-          );
-      inner_to = λ d p j m l n. owes.inner_to q t d p j e m l n ∙ ap Some (sym (taken_same law c like linked carried at late early j));
-      inner_from = λ d p j m l n. owes.inner_from q t d p j e m l n ∙
-          ap (known_from 5 (h.bypass j).stage) (sym (accepted_same law c like linked carried at late early j));
-      inner_fresh = λ d p j m l n. let z : Was law c like linked carried at late early q t =
-          was_router law c like linked carried at late early q t e in
-          ap link_in z.linked_alike.primary ∙ ((positions_of law).each q z.router z.here_before).inner_fresh d p j
-          (sym z.linked_alike.decaying ∙ m)
-          l n ∙ ap (λ i. Some (Central i)) (sym ((agree law c like linked carried at late early).fresh j));
-      own_proxy = λ d j m l n. let z : Was law c like linked carried at late early q t =
-          was_router law c like linked carried at late early q t e in
-          (agree law c like linked carried at late early).proxy j ∙
-          ((positions_of law).each q z.router z.here_before).own_proxy d j (sym z.linked_alike.decaying ∙ m) l
-          (n ∙ proxy_side_same law c like linked carried at late early j);
-      own_alone = λ d j m l n. let z : Was law c like linked carried at late early q t =
-          was_router law c like linked carried at late early q t e in
-          z.linked_alike.primary ∙ ((positions_of law).each q z.router z.here_before).own_alone d j (sym z.linked_alike.decaying ∙ m) l
-          (n ∙ proxy_side_same law c like linked carried at late early j);
-      own_to = λ d j m l n. owes.own_to q t d j e m l (n ∙ proxy_side_same law c like linked carried at late early j) ∙
-          ap (known_from 4 (h.bypass j).stage)
-          (sym (taken_same law c like linked carried at late early j));
-      own_from = λ d j m l n. owes.own_from q t d j e m l (n ∙ proxy_side_same law c like linked carried at late early j) ∙
-          ap (known_from 4 (h.bypass j).stage)
-          (sym (accepted_same law c like linked carried at late early j));
-      across_stage = λ d j m l n. let z : Was law c like linked carried at late early q t =
-          was_router law c like linked carried at late early q t e in
-          grind (
-            arith,
-            at_o law c like linked carried at late early j,
-            at,
-            late,
-            ((positions_of law).each q z.router z.here_before).across_stage d j (sym z.linked_alike.decaying ∙ m) l
-                (n ∙ across_side_same law c like linked carried at late early j),
-          );
-      across_to = λ d j m l n. owes.across_to q t d j e m l (n ∙ across_side_same law c like linked carried at late early j) ∙
-          ap Some (sym (accepted_same law c like linked carried at late early j));
-      across_from = λ d j m l n. owes.across_from q t d j e m l (n ∙ across_side_same law c like linked carried at late early j) ∙
-          ap Some (sym (taken_same law c like linked carried at late early j));
-      across_fresh = λ d j m l n. let z : Was law c like linked carried at late early q t =
-          was_router law c like linked carried at late early q t e in
-          ap link_in z.linked_alike.primary ∙ ((positions_of law).each q z.router z.here_before).across_fresh d j
-          (sym z.linked_alike.decaying ∙ m) l
-          (n ∙ across_side_same law c like linked carried at late early j) ∙
-          ap (λ i. Some (Central i)) (sym ((agree law c like linked carried at late early).fresh j));
-      begun = λ n. let z : Was law c like linked carried at late early q t = was_router law c like linked carried at late early q t e in
-          ((positions_of law).each q z.router z.here_before).begun
-          (sym (begun_like z.router t z.alike z.linked_alike) ∙ n);
-    };
-    begun_proxy = λ q j n. (agree law c like linked carried at late early).proxy j ∙ (positions_of law).begun_proxy q j n;
-    begun_stage = λ q j n. (agree law c like linked carried at late early).is_begun j ∙ (positions_of law).begun_stage q j n;
-    proxy_begun = λ j n. ap g.begun ((agree law c like linked carried at late early).proxy j) ∙
-        (positions_of law).proxy_begun j (sym ((agree law c like linked carried at late early).is_begun j) ∙ n);
-  }
+      -- what the lengths owe that a router has for its decaying links

@@ -1,4 +1,5 @@
 -- No message but a Flush finds its router gone, from the invariant.
+use Rattle.ipcz_world.proofs.frames.RolesTell.{links-in}
 use Rattle.ipcz_world.proofs.frames.Sources.{accept_source}
 use Rattle.ipcz_world.proofs.frames.OfRecords.{some_found}
 use Rattle.std.specs.Prelude.{◌≡◌, ◌⊎◌, ℕ, Bool, true, false, cond, if◌then◌else◌, Option, Some, None, is_none, List, [], ◌∷◌, refl}
@@ -59,7 +60,7 @@ module _ (w : World) (b : Books) (g : Records) (law : Inv w b g) where
       go Awaited e = inr (made (rw e refl))
       go (Waiting d) e = inr (made (rw e refl))
       go Gone e = absurd (grind (arith, e, there))
-      go (Standing r) e = let st : IsStanding w g link s r = standing_known w g link s r law.links e in
+      go (Standing r) e = let st : IsStanding w g link s r = standing_known w g link s r (links-in law) e in
           inl (named_by w st.key r link s to st.here (sym (at ∙ node_of_router g link s st.key st.router))
           (has_attached link s r st.attached))
 

@@ -1,11 +1,11 @@
 -- One router changes in what its links, its spare and its lock don't show: what is said of those is kept.
-use Rattle.ipcz_world.proofs.Vocabulary.{HasPositions, HasShape, A, B, LinkId, Central, Peripheral, LinkEnd, Router, World, Key, same_key, node_at}
+use Rattle.ipcz_world.proofs.frames.Roles.{Roles}
+use Rattle.ipcz_world.proofs.frames.RolesKept.{role-in, role-alike}
+use Rattle.ipcz_world.proofs.Vocabulary.{HasShape, A, B, LinkId, Central, Peripheral, Router, World, Key, same_key, node_at}
 use Rattle.ipcz_world.proofs.Vocabulary.{word_at, mail_at, way, router_at, hand_message, Records, is_recorded, inner_link, side_router, across_side}
-use Rattle.ipcz_world.proofs.Vocabulary.{Counts, Shape, Links, IsRecorded, Positions, Stands, Words, Spares, BypassRecords, Stages, inner_of}
+use Rattle.ipcz_world.proofs.Vocabulary.{Counts, Shape, Stands, Words, Spares, BypassRecords, Stages, inner_of}
 use Rattle.ipcz_world.proofs.Vocabulary.{Terminals, inward_edge, HasTerminal, spare_of, fresh_of, is_sink, is_proxy, is_done}
 use Rattle.ipcz_world.proofs.frames.EachKept.{each-by}
-use Rattle.ipcz_world.proofs.frames.LinksKept.{links-kept}
-use Rattle.ipcz_world.proofs.frames.LinksKept.{KeepsLinks}
 use Rattle.ipcz_world.proofs.frames.EachKept.{each-one}
 use Rattle.std.proofs.Common.{ap}
 use Rattle.ipcz_world.proofs.frames.Sourcing.{sourced-by, had-one, inward-same}
@@ -56,14 +56,6 @@ fit-alike r y same h = elim (either (is_proxy r) (is_done r) h) [
   | inr d ↦ or_right _ _ (same.done d)
 ]
 
-keeps-alike : (r y : Router) → IsAlike r y → KeepsLinks r y
-keeps-alike r y same = record {
-  primary = λ e p. grind (arith, same.outward, p);
-  decaying = λ e p. grind (arith, same.outward, p);
-  inward_primary = λ e p. grind (arith, same.inward, p);
-  inward_decaying = λ e p. grind (arith, same.inward, p);
-}
-
 shape-alike : (r y : Router) → IsAlike r y → HasShape r → HasShape y
 shape-alike r y same law = record {
   role = rw (same.outward, same.inward) law.role;
@@ -76,31 +68,6 @@ shape-alike r y same law = record {
   sent_proxy = λ m. same.sent m law.sent_proxy;
   spare_proxy = λ i e. ap is_some same.inward ∙ law.spare_proxy i (sym same.spare ∙ e);
   spare_central = λ i e. rw (same.outward) (law.spare_central i (sym same.spare ∙ e));
-}
-
-positions-alike : (g : Records) (k : Key) (r y : Router) → IsAlike r y → HasPositions g k r → HasPositions g k y
-positions-alike g k r y same law = record {
-  inward_primary = λ e p. grind (arith, same.inward, law.inward_primary e);
-  inward_decaying = λ e p. grind (arith, same.inward, law.inward_decaying e);
-  inward_to = λ e o p b. grind (arith, same.inward, law.inward_to e o);
-  inward_from = λ e o p b. grind (arith, same.inward, law.inward_from e o);
-  primary_old = λ e o p l b. grind (arith, same.outward, law.primary_old e o);
-  primary_across = λ e o p l b. grind (arith, same.outward, law.primary_across e o);
-  primary_inner = λ e p o q l b. grind (arith, same.outward, law.primary_inner e p o);
-  decaying = λ e p. grind (arith, same.outward, law.decaying e);
-  inner_stage = λ e p o q l b. grind (arith, same.outward, law.inner_stage e p o);
-  inner_to = λ e p o q l b. grind (arith, same.outward, law.inner_to e p o);
-  inner_from = λ e p o q l b. grind (arith, same.outward, law.inner_from e p o);
-  inner_fresh = λ e p o q l b. grind (arith, same.outward, law.inner_fresh e p o);
-  own_proxy = λ e o p l s. grind (arith, same.outward, law.own_proxy e o);
-  own_alone = λ e o p l s. grind (arith, same.outward, law.own_alone e o);
-  own_to = λ e o p l s. grind (arith, same.outward, law.own_to e o);
-  own_from = λ e o p l s. grind (arith, same.outward, law.own_from e o);
-  across_stage = λ e o p l s. grind (arith, same.outward, law.across_stage e o);
-  across_to = λ e o p l s. grind (arith, same.outward, law.across_to e o);
-  across_from = λ e o p l s. grind (arith, same.outward, law.across_from e o);
-  across_fresh = λ e o p l s. grind (arith, same.outward, law.across_fresh e o);
-  begun = λ h. grind (arith, same.inward, law.begun, h);
 }
 
 -- one router changes in its queues: the words are as they were, while messages and hands may move on
@@ -167,25 +134,9 @@ module _ (w v : World) (k : Key) (r y : Router) (g : Records) (t : IsTouched w v
   pub shape-touched : Shape w → Shape v
   shape-touched law = each-one w v k y HasShape t.router law (shape-alike r y a (law k r t.here))
 
-  is_recorded-touched : (q : Key) (z x : Router) (e : LinkEnd) → IsAlike z x → IsRecorded w g q z e → IsRecorded v g q x e
-  is_recorded-touched q z x e same is = record {
-    recorded = recorded_same w v k r y g t e.link ∙ is.recorded;
-    other = is.other;
-    router = is.router;
-    end = same.end ∙ is.end;
-  }
-
-  pub links-touched : Links w g → Links v g
-  links-touched law q x at = let z = before q x at in
-      links-kept (keeps-alike z.0 x z.2) (λ e. is_recorded-touched q z.0 x e z.2) (law q z.0 z.1)
-
-  pub positions-touched : Positions w g → Positions v g
-  positions-touched law = record {
-    each = each-by w v k y (HasPositions g) (HasPositions g) t.router (λ q z is. is) law.each (positions-alike g k r y a (law.each k r t.here));
-    begun_proxy = law.begun_proxy;
-    begun_stage = law.begun_stage;
-    proxy_begun = law.proxy_begun;
-  }
+  pub roles-touched : Roles w g → Roles v g
+  roles-touched law q x at = let z = before q x at in
+      role-in (recorded_same w v k r y g t) (role-alike z.2.end z.2.outward z.2.inward (law q z.0 z.1))
 
   pub stands-touched : Stands w g → Stands v g
   stands-touched law = record {

@@ -1,4 +1,5 @@
 -- Where an open terminal stands on a central link with nothing decaying, each proxy of its end has begun its bypass, and that is over.
+use Rattle.ipcz_world.proofs.frames.RolesTell.{links-in, positions-in}
 use Rattle.std.specs.Prelude.{◌≡◌, ◌≤◌, ◌<◌, ℕ, zero, suc, ◌+◌, Bool, true, false, ◌||◌, nat_le, nat_lt, Option, Some, None, is_some, unwrap_or, if◌then◌else◌, not, option_map, refl}
 use Rattle.std.proofs.Common.{arith, ap, subst, ◌∙◌, sym, inl, inr}
 use Rattle.std.proofs.lemmas.Bool.Decides.{nat_tests}
@@ -140,8 +141,8 @@ module _ (w : World) (b : Books) (g : Records) (law : Inv w b g) (ranked : IsRan
   inner q r e at end on = go e.link e.side refl refl
     where
       go : (l : LinkId) (s : Side) → e.link ≡ l → e.side ≡ s → HasInner q
-      go (Central i) s l f = absurd (grind (arith, (law.links q r at).inward_primary_inward e on, l))
-      go (Peripheral n x) B l f = absurd (grind (arith, (law.links q r at).inward_primary_inward e on, l, f))
+      go (Central i) s l f = absurd (grind (arith, ((links-in law) q r at).inward_primary_inward e on, l))
+      go (Peripheral n x) B l f = absurd (grind (arith, ((links-in law) q r at).inward_primary_inward e on, l, f))
       go (Peripheral n x) A l f = record {
         key = next.0;
         router = stands.0;
@@ -159,7 +160,7 @@ module _ (w : World) (b : Books) (g : Records) (law : Inv w b g) (ranked : IsRan
           p = record { node = n; serial = x }
 
           rec : IsRecorded w g q r e
-          rec = (law.links q r at).inward_primary e on
+          rec = ((links-in law) q r at).inward_primary e on
 
           recorded : is_recorded w g (Peripheral n x) ≡ true
           recorded = subst (λ z. is_recorded w g z ≡ true) l rec.recorded
@@ -168,7 +169,7 @@ module _ (w : World) (b : Books) (g : Records) (law : Inv w b g) (ranked : IsRan
           link_end = sym (rec.end ∙ ap (λ z. side_end g z e.side) l) ∙ end
 
           live : (g.peripheral p).by ≡ None
-          live = sym (bypass_of-inner g p) ∙ ap (bypass_of g) (sym l) ∙ (law.positions.each q r at).inward_primary e on
+          live = sym (bypass_of-inner g p) ∙ ap (bypass_of g) (sym l) ∙ ((positions-in law).each q r at).inward_primary e on
 
           next : (m : Key) × (side_router g (Peripheral n x) B ≡ Some m)
           next = known n x recorded link_end
@@ -181,7 +182,7 @@ module _ (w : World) (b : Books) (g : Records) (law : Inv w b g) (ranked : IsRan
           d = has_link-tells stands.0.outward.primary (Peripheral n x) B stands.2
 
           far_end : stands.0.end ≡ t.end
-          far_end = ((law.links next.0 stands.0 stands.1).primary d.end d.there).end ∙ ap (λ z. side_end g z d.end.side) d.on_link ∙ link_end
+          far_end = (((links-in law) next.0 stands.0 stands.1).primary d.end d.there).end ∙ ap (λ z. side_end g z d.end.side) d.on_link ∙ link_end
 
           deeper : (m : LinkEnd) × ((inward_edge stands.0).primary ≡ Some m)
           deeper = some_is (inward_edge stands.0).primary (role stands.0 d.end ((law.shape next.0 stands.0 stands.1).role) d.there
@@ -248,12 +249,12 @@ module _ (w : World) (b : Books) (g : Records) (law : Inv w b g) (ranked : IsRan
           d = has_link-tells s.router.outward.decaying (inner_of g o) B s.passed
 
           far_end : s.router.end ≡ t.end
-          far_end = ((law.links s.key s.router s.here).decaying d.end d.there).end ∙ ap (λ z. side_end g z d.end.side) d.on_link ∙
+          far_end = (((links-in law) s.key s.router s.here).decaying d.end d.there).end ∙ ap (λ z. side_end g z d.end.side) d.on_link ∙
               ap (side_end g (inner_of g o)) d.at_side ∙ end
 
           primed : is_some s.router.outward.primary ≡ true
           primed = some
-              ((law.positions.each s.key s.router s.here).inner_fresh d.end p o d.there d.on_link ((law.bypasses o).inner_by begun))
+              (((positions-in law).each s.key s.router s.here).inner_fresh d.end p o d.there d.on_link ((law.bypasses o).inner_by begun))
             where
               some : link_in s.router.outward.primary ≡ Some (Central (g.bypass o).fresh) → is_some s.router.outward.primary ≡ true
               some h = grind (arith, h)
@@ -273,7 +274,7 @@ module _ (w : World) (b : Books) (g : Records) (law : Inv w b g) (ranked : IsRan
           d = has_link-tells s.0.outward.primary (inner_of g o) B s.2
 
           far_end : s.0.end ≡ t.end
-          far_end = ((law.links known_inner.0 s.0 s.1).primary d.end d.there).end ∙ ap (λ z. side_end g z d.end.side) d.on_link ∙
+          far_end = (((links-in law) known_inner.0 s.0 s.1).primary d.end d.there).end ∙ ap (λ z. side_end g z d.end.side) d.on_link ∙
               ap (side_end g (inner_of g o)) d.at_side ∙ end
 
       go : (c : Bool) → nat_le 5 (g.bypass o).stage ≡ c → 5 ≤ (g.bypass o).stage
@@ -313,16 +314,16 @@ module _ (w : World) (b : Books) (g : Records) (law : Inv w b g) (ranked : IsRan
           shut r h none = grind (arith, h, none)
 
       bypass : (o : ℕ) × (g.begun q ≡ Some o)
-      bypass = some_is (g.begun q) ((law.positions.each q r at).begun begun_router)
+      bypass = some_is (g.begun q) (((positions-in law).each q r at).begun begun_router)
 
       o : ℕ
       o = bypass.0
 
       begun : is_begun (g.bypass o) ≡ true
-      begun = law.positions.begun_stage q o bypass.1
+      begun = law.begun.begun_stage q o bypass.1
 
       is : IsBypassed w g o q r
-      is = record { begun = begun; proxy = law.positions.begun_proxy q o bypass.1; here = at }
+      is = record { begun = begun; proxy = law.begun.begun_proxy q o bypass.1; here = at }
 
       told : 4 ≤ (g.bypass o).stage
       told = let l : 5 ≤ (g.bypass o).stage = over o begun inner_end in omega (arith, l)
@@ -331,18 +332,18 @@ module _ (w : World) (b : Books) (g : Records) (law : Inv w b g) (ranked : IsRan
           inner_end = sym ((law.stages o).proxy_end r begun (ap (router_at w) is.proxy ∙ at)) ∙ end
 
       own_to : (d : LinkEnd) → r.outward.decaying ≡ Some d → r.outward.length_to ≡ Some (g.bypass o).taken_at
-      own_to d on = let n = proxy-outward law is d on in (law.positions.each q r at).own_to d o on n.link n.side ∙
+      own_to d on = let n = proxy-outward law is d on in ((positions-in law).each q r at).own_to d o on n.link n.side ∙
           known_from-yes 4 (g.bypass o).stage (g.bypass o).taken_at told
 
       own_from : (d : LinkEnd) → r.outward.decaying ≡ Some d → r.outward.length_from ≡ Some (g.bypass o).accepted_at
-      own_from d on = let n = proxy-outward law is d on in (law.positions.each q r at).own_from d o on n.link n.side ∙
+      own_from d on = let n = proxy-outward law is d on in ((positions-in law).each q r at).own_from d o on n.link n.side ∙
           known_from-yes 4 (g.bypass o).stage (g.bypass o).accepted_at told
 
       inner_to : (d : LinkEnd) → (inward_edge r).decaying ≡ Some d → (inward_edge r).length_to ≡ Some (g.bypass o).accepted_at
-      inner_to d on = (law.positions.each q r at).inward_to d o on bypass.1 ∙ known_from-yes 4 (g.bypass o).stage (g.bypass o).accepted_at told
+      inner_to d on = ((positions-in law).each q r at).inward_to d o on bypass.1 ∙ known_from-yes 4 (g.bypass o).stage (g.bypass o).accepted_at told
 
       inner_from : (d : LinkEnd) → (inward_edge r).decaying ≡ Some d → (inward_edge r).length_from ≡ Some (g.bypass o).taken_at
-      inner_from d on = (law.positions.each q r at).inward_from d o on bypass.1 ∙ known_from-yes 4 (g.bypass o).stage (g.bypass o).taken_at told
+      inner_from d on = ((positions-in law).each q r at).inward_from d o on bypass.1 ∙ known_from-yes 4 (g.bypass o).stage (g.bypass o).taken_at told
 
 -- the terminal of an end that has arrived, and what there is of it
 record HasArrived (n : Node) (e : End) : Type 0 where

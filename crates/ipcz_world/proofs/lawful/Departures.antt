@@ -1,5 +1,6 @@
 -- Whoever leaves by retiring or with Gone stands on no link whose word is unheld: a sink that retires holds the word of its link, and if the
 -- peer's sink has retired it holds that word for good.
+use Rattle.ipcz_world.proofs.frames.RolesTell.{links-in, positions-in}
 use Rattle.std.specs.Prelude.{◌≡◌, ◌⊎◌, ◌≤◌, ℕ, Bool, true, false, ◌&&◌, ◌||◌, not, Option, Some, None, is_some, refl}
 use Rattle.std.proofs.Common.{arith, ap, sym, ◌∙◌, inl, inr}
 use Rattle.std.proofs.lemmas.Bool.Decides.{nat_tests}
@@ -27,7 +28,7 @@ module _ (w : World) (b : Books) (g : Records) (law : Inv w b g) (k : Key) (r : 
   at = on_tells w b g k r i s law here on
 
   rec : IsRecorded w g k r at.end
-  rec = (law.links k r here).primary at.end at.is
+  rec = ((links-in law) k r here).primary at.end at.is
 
   own : r.end ≡ end_at (g.central i).pair s
   unfolding side_end
@@ -39,7 +40,7 @@ module _ (w : World) (b : Books) (g : Records) (law : Inv w b g) (k : Key) (r : 
       go : (c : Bool) → is_begun (g.bypass i) ≡ c → is_begun (g.bypass i) ≡ false
       go false e = e
       go true e =
-          let early : (g.bypass i).stage ≤ 2 = (law.positions.each k r here).primary_old at.end i at.is at.link e in
+          let early : (g.bypass i).stage ≤ 2 = ((positions-in law).each k r here).primary_old at.end i at.is at.link e in
           let late : 1 ≤ (g.bypass i).stage = grind (arith, e, nat_tests) in
           absurd (not_both (is_retired b (opposite_end r.end)) peer
           (ap (is_retired b) (ap opposite_end own) ∙ law.retired_ends.no_bypass i (opposite s) late (omega (arith, early))))

@@ -1,4 +1,5 @@
 -- The law of lengths, from the invariant.
+use Rattle.ipcz_world.proofs.frames.RolesTell.{links-in, positions-in}
 use Rattle.std.specs.Prelude.{◌≡◌, ◌⊎◌, ◌<◌, ◌≤◌, ℕ, Bool, true, false, cond, nat_eq, nat_le, Option, Some, None, is_some, List, refl}
 use Rattle.std.proofs.Common.{arith, ap, subst, ◌∙◌, sym, inl, inr}
 use Rattle.std.proofs.lemmas.Bool.Decides.{nat_tests}
@@ -91,7 +92,7 @@ module _ (w : World) (b : Books) (g : Records) (law : Inv w b g) where
       ((o : ℕ) × (e.link ≡ Central o) × (is_begun (g.bypass o) ≡ true) × ((e.side ≡ proxy_side g o) ⊎ (e.side ≡ across_side g o))) ⊎
       ((p : Key) × (o : ℕ) × (e.link ≡ inner_link p) × (e.side ≡ B) × ((g.peripheral p).by ≡ Some o))
   unfolding is_outward
-  outward_case k r e here dec = go (link_is e.link) ((law.positions.each k r here).decaying e dec)
+  outward_case k r e here dec = go (link_is e.link) (((positions-in law).each k r here).decaying e dec)
     where
       go : ((i : ℕ) × (e.link ≡ Central i)) ⊎ ((p : Key) × (e.link ≡ inner_link p)) → is_some (bypass_of g e.link) ≡ true →
           ((o : ℕ) × (e.link ≡ Central o) × (is_begun (g.bypass o) ≡ true) × ((e.side ≡ proxy_side g o) ⊎ (e.side ≡ across_side g o))) ⊎
@@ -118,7 +119,7 @@ module _ (w : World) (b : Books) (g : Records) (law : Inv w b g) where
             p.0,
             o,
             p.1,
-            same_side-tells e.side B (rw (p.1) at ((law.links k r here).decaying_outward e dec)),
+            same_side-tells e.side B (rw (p.1) at (((links-in law) k r here).decaying_outward e dec)),
             sym (bypass_of-inner g p.0) ∙ ap (bypass_of g) (sym p.1) ∙ h,
           )
 
@@ -133,7 +134,7 @@ module _ (w : World) (b : Books) (g : Records) (law : Inv w b g) where
 
   pub inward_case : (k : Key) (r : Router) (e : LinkEnd) → router_at w k ≡ Some r → (inward_edge r).decaying ≡ Some e → IsInward k e
   unfolding is_outward
-  inward_case k r e here dec = go (link_is e.link) ((law.links k r here).inward_decaying_inward e dec)
+  inward_case k r e here dec = go (link_is e.link) (((links-in law) k r here).inward_decaying_inward e dec)
     where
       unprimed : (c : Option LinkEnd) → (inward_edge r).primary ≡ c → c ≡ None
       unprimed None h = refl
@@ -151,14 +152,14 @@ module _ (w : World) (b : Books) (g : Records) (law : Inv w b g) where
       on_side B h = cc
 
       at : (p : Key) → e.link ≡ inner_link p → e.side ≡ A → (o : Option ℕ) → g.begun k ≡ o → IsInward k e
-      at p on side None h = absurd (grind (arith, (law.positions.each k r here).begun proxied, h))
+      at p on side None h = absurd (grind (arith, ((positions-in law).each k r here).begun proxied, h))
       at p on side (Some o) h = record {
         link = p;
         bypass = o;
         on = on;
         side = side;
         by =
-            sym (bypass_of-inner g p) ∙ ap (bypass_of g) (sym on) ∙ (law.positions.each k r here).inward_decaying e dec ∙ h;
+            sym (bypass_of-inner g p) ∙ ap (bypass_of g) (sym on) ∙ ((positions-in law).each k r here).inward_decaying e dec ∙ h;
         begun = h;
       }
 
@@ -178,10 +179,10 @@ module _ (w : World) (b : Books) (g : Records) (law : Inv w b g) where
   stopped_inner from to i old side in_length out_length k r e u here has dec =
       let at : IsStop g from to old side in_length out_length = stop_told w g from to i old side in_length out_length law.told u in
       let begun : is_begun (g.bypass old) ≡ true = grind (arith, at.stage, nat_tests) in
-      let mine : HasAt w g k r (Central old) side = has_at w g k r (Central old) side law.links here has in
+      let mine : HasAt w g k r (Central old) side = has_at w g k r (Central old) side (links-in law) here has in
       let proxy : (g.bypass old).proxy ≡ k = same_Some _ k (sym ((law.bypasses old).proxy_old begun) ∙ rw (at.at_side) at mine.router) in
       let is : IsInward k e = inward_case k r e here dec in
-      let same : is.bypass ≡ old = same_Some is.bypass old (sym is.begun ∙ ap g.begun (sym proxy) ∙ law.positions.proxy_begun old begun) in
+      let same : is.bypass ≡ old = same_Some is.bypass old (sym is.begun ∙ ap g.begun (sym proxy) ∙ law.begun.proxy_begun old begun) in
       (is.link, is.on, is.side, is.by ∙ ap Some same, at)
 
   accepting : (link : LinkId) (s : Side) (n from to old : ℕ) (side : Side) (fresh : ℕ) → IsAccept g from to old side fresh n →
@@ -200,43 +201,43 @@ module _ (w : World) (b : Books) (g : Records) (law : Inv w b g) where
   knows link s n (OutwardTo k r e here dec len on at) = elim (outward_case k r e here dec) [
     | inl c ↦ elim c.3 [
       | inl own ↦ let m = known_some 4 (g.bypass c.0).stage (g.bypass c.0).taken_at n r.outward.length_to
-          ((law.positions.each k r here).own_to e c.0 dec c.1 own) len in
+          (((positions-in law).each k r here).own_to e c.0 dec c.1 own) len in
           at_link g link (Central c.0) s (proxy_side g c.0) n (g.bypass c.0).taken_at (sym on ∙ c.1) (sym at ∙ own) m.is
           (len_old_proxy g c.0 c.2 (omega (arith, m.since)))
       | inr far ↦ at_link g link (Central c.0) s (across_side g c.0) n (g.bypass c.0).accepted_at (sym on ∙ c.1) (sym at ∙ far)
-          (same_Some _ _ (sym len ∙ (law.positions.each k r here).across_to e c.0 dec c.1 far))
-          (len_old_across g c.0 c.2 ((law.positions.each k r here).across_stage e c.0 dec c.1 far))
+          (same_Some _ _ (sym len ∙ ((positions-in law).each k r here).across_to e c.0 dec c.1 far))
+          (len_old_across g c.0 c.2 (((positions-in law).each k r here).across_stage e c.0 dec c.1 far))
     ]
     | inr c ↦ at_link g link (inner_link c.0) s B n (g.bypass c.1).taken_at (sym on ∙ c.2) (sym at ∙ c.3)
-        (same_Some _ _ (sym len ∙ (law.positions.each k r here).inner_to e c.0 c.1 dec c.2 c.4))
-        (len_inner_out g c.0 c.1 c.4 ((law.positions.each k r here).inner_stage e c.0 c.1 dec c.2 c.4))
+        (same_Some _ _ (sym len ∙ ((positions-in law).each k r here).inner_to e c.0 c.1 dec c.2 c.4))
+        (len_inner_out g c.0 c.1 c.4 (((positions-in law).each k r here).inner_stage e c.0 c.1 dec c.2 c.4))
   ]
   knows link s n (OutwardFrom k r e here dec len on at) = elim (outward_case k r e here dec) [
     | inl c ↦ elim c.3 [
       | inl own ↦ let m = known_some 4 (g.bypass c.0).stage (g.bypass c.0).accepted_at n r.outward.length_from
-          ((law.positions.each k r here).own_from e c.0 dec c.1 own) len in
+          (((positions-in law).each k r here).own_from e c.0 dec c.1 own) len in
           at_link g link (Central c.0) s (across_side g c.0) n (g.bypass c.0).accepted_at (sym on ∙ c.1) (sym at ∙ ap opposite own) m.is
           (len_old_across g c.0 c.2 (omega (arith, m.since)))
       | inr far ↦ at_link g link (Central c.0) s (proxy_side g c.0) n (g.bypass c.0).taken_at (sym on ∙ c.1)
           (sym at ∙ ap opposite far ∙ opposite-twice (proxy_side g c.0))
-          (same_Some _ _ (sym len ∙ (law.positions.each k r here).across_from e c.0 dec c.1 far))
-          (len_old_proxy g c.0 c.2 ((law.positions.each k r here).across_stage e c.0 dec c.1 far))
+          (same_Some _ _ (sym len ∙ ((positions-in law).each k r here).across_from e c.0 dec c.1 far))
+          (len_old_proxy g c.0 c.2 (((positions-in law).each k r here).across_stage e c.0 dec c.1 far))
     ]
     | inr c ↦ let m = known_some 5 (g.bypass c.1).stage (g.bypass c.1).accepted_at n r.outward.length_from
-        ((law.positions.each k r here).inner_from e c.0 c.1 dec c.2 c.4) len in
+        (((positions-in law).each k r here).inner_from e c.0 c.1 dec c.2 c.4) len in
         at_link g link (inner_link c.0) s A n (g.bypass c.1).accepted_at (sym on ∙ c.2) (sym at ∙ ap opposite c.3) m.is
         (len_inner_in g c.0 c.1 c.4 (omega (arith, m.since)))
   ]
   knows link s n (InwardTo k r e here dec len on at) =
       let c = inward_case k r e here dec in
       let m = known_some 4 (g.bypass c.bypass).stage (g.bypass c.bypass).accepted_at n (inward_edge r).length_to
-      ((law.positions.each k r here).inward_to e c.bypass dec c.begun) len in
+      (((positions-in law).each k r here).inward_to e c.bypass dec c.begun) len in
       at_link g link (inner_link c.link) s A n (g.bypass c.bypass).accepted_at (sym on ∙ c.on) (sym at ∙ c.side) m.is
       (len_inner_in g c.link c.bypass c.by (omega (arith, m.since)))
   knows link s n (InwardFrom k r e here dec len on at) =
       let c = inward_case k r e here dec in
       let m = known_some 4 (g.bypass c.bypass).stage (g.bypass c.bypass).taken_at n (inward_edge r).length_from
-      ((law.positions.each k r here).inward_from e c.bypass dec c.begun) len in
+      (((positions-in law).each k r here).inward_from e c.bypass dec c.begun) len in
       at_link g link (inner_link c.link) s B n (g.bypass c.bypass).taken_at (sym on ∙ c.on) (sym at ∙ ap opposite c.side) m.is
       (len_inner_out g c.link c.bypass c.by (omega (arith, m.since)))
   knows link s n (Accepting from to i old side fresh u on at) =
@@ -277,7 +278,7 @@ module _ (w : World) (b : Books) (g : Records) (law : Inv w b g) where
       (side_router g link s ≡ Some k) × (view w g link s ≡ Standing r) × (is_recorded w g link ≡ true)
   unfolding view_by router_view
   attached_view link s k r here on =
-      let e = attached_recorded w g k r link s law.links here on in
+      let e = attached_recorded w g k r link s (links-in law) here on in
       let known : side_router g link s ≡ Some k = rw (e.1, e.2) at e.3.router in
       (known, rw (known, here, on) refl, rw (e.1) at e.3.recorded)
 
@@ -401,10 +402,10 @@ module _ (w : World) (b : Books) (g : Records) (law : Inv w b g) where
           Knows w (Central i) (proxy_side g i) (g.bypass i).taken_at
       go true e =
           let d : HasEnd q.outward.primary (Central i) (across_side g i) = has_link-tells _ _ _ e in
-          absurd (omega (arith, late, (law.positions.each j q at).primary_old d.end i d.there d.on_link begun))
+          absurd (omega (arith, late, ((positions-in law).each j q at).primary_old d.end i d.there d.on_link begun))
       go false e =
           let d : HasEnd q.outward.decaying (Central i) (across_side g i) = has_link-tells _ _ _ (grind (arith, e, on)) in
-          OutwardFrom j q d.end at d.there ((law.positions.each j q at).across_from d.end i d.there d.on_link d.at_side) d.on_link
+          OutwardFrom j q d.end at d.there (((positions-in law).each j q at).across_from d.end i d.there d.on_link d.at_side) d.on_link
           (ap opposite d.at_side ∙ opposite-twice (proxy_side g i))
 
   -- the inward link of a proxy that is being bypassed decays
@@ -417,7 +418,7 @@ module _ (w : World) (b : Books) (g : Records) (law : Inv w b g) where
           (e : LinkEnd) × ((inward_edge r).decaying ≡ Some e) × (e.link ≡ inner_link p) × (e.side ≡ A)
       go true e =
           let d : HasEnd (inward_edge r).primary (inner_link p) A = has_link-tells _ _ _ e in
-          let none = sym ((law.positions.each k r here).inward_primary d.end d.there) in
+          let none = sym (((positions-in law).each k r here).inward_primary d.end d.there) in
           absurd (none-some o (none ∙ ap (bypass_of g) d.on_link ∙ bypass_of-inner g p ∙ by))
       go false e = let d : HasEnd (inward_edge r).decaying (inner_link p) A = has_link-tells _ _ _ (grind (arith, e, on)) in
           (d.end, d.there, d.on_link, d.at_side)
@@ -481,8 +482,8 @@ module _ (w : World) (b : Books) (g : Records) (law : Inv w b g) where
       go : (e : LinkEnd) × ((inward_edge r).decaying ≡ Some e) × (e.link ≡ inner_link p) × (e.side ≡ A) → (c : Bool) →
           nat_le 4 (g.bypass o).stage ≡ c → Knows w (inner_link p) A (g.bypass o).accepted_at
       go e true h =
-          let owns : g.begun k ≡ Some o = ap g.begun (sym proxy) ∙ law.positions.proxy_begun o begun in
-          InwardTo k r e.0 here e.1 ((law.positions.each k r here).inward_to e.0 o e.1 owns ∙ known_from-yes 4 _ _ (grind (arith, h, nat_tests)))
+          let owns : g.begun k ≡ Some o = ap g.begun (sym proxy) ∙ law.begun.proxy_begun o begun in
+          InwardTo k r e.0 here e.1 (((positions-in law).each k r here).inward_to e.0 o e.1 owns ∙ known_from-yes 4 _ _ (grind (arith, h, nat_tests)))
           e.2 e.3
       go e false h =
           let st : (g.bypass o).stage ≡ 3 = grind (arith, h, late, nat_tests) in

@@ -1,4 +1,5 @@
 -- Ends of words that were let go are held by nobody, and never again.
+use Rattle.ipcz_world.proofs.frames.RolesTell.{links-in, positions-in}
 use Rattle.std.specs.Prelude.{◌≡◌, ◌≢◌, ◌⊎◌, ◌≤◌, ◌<◌, ℕ, zero, suc, ◌+◌, Bool, true, false, cond, nat_eq, nat_lt, Option, Some, None, is_some, unwrap_or, List, [], ◌∷◌, ◌++◌, length, replicate, slice_get, refl}
 use Rattle.std.proofs.Common.{arith, sym, ◌∙◌, ap, subst, inl, inr}
 use Rattle.std.proofs.lemmas.Bool.{or_cases, or_left, or_right}
@@ -384,7 +385,7 @@ module _ (w : World) (b : Books) (g : Routes) (law : Lawful w b g) where
         two o c d = cc
 
         go : Held → ⊥
-        go (inl a) = two _ awaited (has_at w rec k r (Central i) s law.inv.links here a).router
+        go (inl a) = two _ awaited (has_at w rec k r (Central i) s (links-in law.inv) here a).router
         go (inr a) = apart_owners _ k (law.word_law.named from to place (messages.AcceptBypass old side fresh len) i u
             (or_right (nat_eq old i) (nat_eq fresh i) (and_first (nat_eq fresh i) (same_side side s) h))) (spare_one a)
     sole_told mine from to place (messages.StopProxying side old in_length out_length) u h = cc
@@ -480,7 +481,7 @@ module _ (w : World) (b : Books) (g : Routes) (law : Lawful w b g) (n serial : �
       p = has_link-tells r.outward.primary (Central i) s kept
 
       by : is_some (bypass_of law.records (Central i)) ≡ true
-      by = subst (λ l. is_some (bypass_of law.records l) ≡ true) d.on_link ((law.inv.positions.each k r here).decaying d.end d.there)
+      by = subst (λ l. is_some (bypass_of law.records l) ≡ true) d.on_link (((positions-in law.inv).each k r here).decaying d.end d.there)
 
       begun : is_begun (law.records.bypass i) ≡ true
       begun = some_if (is_begun (law.records.bypass i)) by
@@ -493,10 +494,10 @@ module _ (w : World) (b : Books) (g : Routes) (law : Lawful w b g) (n serial : �
       none_some o e c f = cc
 
       go : (s ≡ proxy_side law.records i) ⊎ (s ≡ opposite (proxy_side law.records i)) → ⊥
-      go (inl e) = none_some _ p.end ((law.inv.positions.each k r here).own_alone d.end i d.there d.on_link (d.at_side ∙ e)) p.there
+      go (inl e) = none_some _ p.end (((positions-in law.inv).each k r here).own_alone d.end i d.there d.on_link (d.at_side ∙ e)) p.there
       go (inr e) =
-          let far : 3 ≤ (law.records.bypass i).stage = (law.inv.positions.each k r here).across_stage d.end i d.there d.on_link (d.at_side ∙ e) in
-          let near : (law.records.bypass i).stage ≤ 2 = (law.inv.positions.each k r here).primary_old p.end i p.there p.on_link begun in
+          let far : 3 ≤ (law.records.bypass i).stage = ((positions-in law.inv).each k r here).across_stage d.end i d.there d.on_link (d.at_side ∙ e) in
+          let near : (law.records.bypass i).stage ≤ 2 = ((positions-in law.inv).each k r here).primary_old p.end i p.there p.on_link begun in
           omega (arith, far, near)
 
   -- after a router has given up its decaying link it has not the end
@@ -514,7 +515,7 @@ module _ (w : World) (b : Books) (g : Routes) (law : Lawful w b g) (n serial : �
       had = or_left _ _ (or_right _ _ gone)
 
       links : HasLinks w law.records k r
-      links = law.inv.links k r here
+      links = (links-in law.inv) k r here
 
       inner : (has_link (inward_edge r).primary (Central i) s ≡ true) ⊎ (has_link (inward_edge r).decaying (Central i) s ≡ true) → ⊥
       inner (inl h) = let e : HasEnd (inward_edge r).primary (Central i) s = has_link-tells (inward_edge r).primary (Central i) s h in

@@ -1,4 +1,5 @@
 -- The laws of links and of bypasses, from the invariant.
+use Rattle.ipcz_world.proofs.frames.RolesTell.{links-in, positions-in}
 use Rattle.std.specs.Prelude.{◌&&◌}
 use Rattle.ipcz_world.proofs.frames.Touching.{either}
 use Rattle.std.proofs.lemmas.Bool.{and_parts}
@@ -34,7 +35,7 @@ pub on_tells : (w : World) (b : Books) (g : Records) (k : Key) (r : Router) (i :
     has_primary (Central i) s r ≡ true → IsOn w g k r i s
 on_tells w b g k r i s law here on =
     let e : HasEnd r.outward.primary (Central i) s = has_link-tells r.outward.primary (Central i) s on in
-    let rec : IsRecorded w g k r e.end = (law.links k r here).primary e.end e.there in
+    let rec : IsRecorded w g k r e.end = ((links-in law) k r here).primary e.end e.there in
     record {
       end = e.end;
       is = e.there;
@@ -48,8 +49,8 @@ on_tells w b g k r i s law here on =
 across_there : (w : World) (b : Books) (g : Records) (k : Key) (r : Router) (i : ℕ) (s : Side) → Inv w b g → router_at w k ≡ Some r →
     IsOn w g k r i s → is_begun (g.bypass i) ≡ true → (s ≡ across_side g i) × (r.marked ≡ true) × (r.holds ≡ false)
 across_there w b g k r i s law here on begun =
-    let side : s ≡ across_side g i = sym on.side ∙ (law.positions.each k r here).primary_across on.end i on.is on.link begun in
-    let early : (g.bypass i).stage ≤ 2 = (law.positions.each k r here).primary_old on.end i on.is on.link begun in
+    let side : s ≡ across_side g i = sym on.side ∙ ((positions-in law).each k r here).primary_across on.end i on.is on.link begun in
+    let early : (g.bypass i).stage ≤ 2 = ((positions-in law).each k r here).primary_old on.end i on.is on.link begun in
     let known : side_router g (Central i) (across_side g i) ≡ Some k = rw side at on.router in
     let marked : r.marked ≡ true = sym (passes-at w _ k r (λ x. x.marked) known here) ∙ (law.stages i).across_marked begun early in
     let unheld : not r.holds ≡ true = sym (passes-at w _ k r (λ x. not x.holds) known here) ∙ (law.stages i).across_free begun early in
@@ -161,7 +162,7 @@ begun_bypassed w b g i law begun = record {
         c ≡ false
     inward k r here true e =
         let t : HasEnd (inward_edge r).primary (Central i) (proxy_side g i) = has_link-tells _ _ _ e in
-        absurd (not_inward t.end ((law.links k r here).inward_primary_inward t.end t.there) t.on_link)
+        absurd (not_inward t.end (((links-in law) k r here).inward_primary_inward t.end t.there) t.on_link)
     inward k r here false e = refl
 
     apart : (s : Side) → s ≡ opposite s → ⊥
@@ -176,8 +177,8 @@ begun_bypassed w b g i law begun = record {
 pub bypass_law : (w : World) (b : Books) (g : Records) → Inv w b g → BypassLaw w
 unfolding is_outward
 bypass_law w b g law = record {
-  outward = λ k r e i here off on. begun_bypassed w b g i law (begun i (rw on at ((law.positions.each k r here).decaying e off)));
-  inward = λ k r e i here off on. absurd (grind (arith, (law.links k r here).inward_decaying_inward e off, on));
+  outward = λ k r e i here off on. begun_bypassed w b g i law (begun i (rw on at (((positions-in law).each k r here).decaying e off)));
+  inward = λ k r e i here off on. absurd (grind (arith, ((links-in law) k r here).inward_decaying_inward e off, on));
   message = λ from to i m o u names. begun_bypassed w b g o law (old_begun w g from to i m o law.told u names);
   source = law.words.source;
   begun_source = λ from to i link s old target fresh u. let at = peer_told w g from to i old link s target fresh law.told u in

@@ -1,4 +1,5 @@
 -- On one node no terminal moves, so no peripheral link is ever made and no bypass begins: each open pair is direct.
+use Rattle.ipcz_world.proofs.frames.RolesTell.{links-in, positions-in}
 use Rattle.std.specs.Prelude.{◌≡◌, ◌⊎◌, ◌<◌, ◌≤◌, is_some, ℕ, zero, suc, ◌+◌, Bool, true, false, cond, ◌&&◌, nat_eq, if◌then◌else◌, Option, Some, None}
 use Rattle.std.specs.Prelude.{List, [], ◌∷◌, ◌++◌, refl}
 use Rattle.std.proofs.Common.{arith, sym, ◌∙◌, ap, subst, inl, inr}
@@ -209,15 +210,15 @@ router-serial w b g n s act a law ln is = go (router_in (node_at w n) s) refl
         (way_out r ≡ Some link) ⊎ ((way_in r ≡ Some link) ⊎ (r.outward.primary ≡ Some link)) → link.other < w.count
     stays r here link h = elim h [
       | inl e ↦ elim (choose-in r.outward r.out_queue.current link e) [
-        | inl d ↦ at ((law.links (record { node = n; serial = s }) r here).decaying link d)
-        | inr d ↦ at ((law.links (record { node = n; serial = s }) r here).primary link d)
+        | inl d ↦ at (((links-in law) (record { node = n; serial = s }) r here).decaying link d)
+        | inr d ↦ at (((links-in law) (record { node = n; serial = s }) r here).primary link d)
       ]
       | inr f ↦ elim f [
         | inl e ↦ elim (choose-in (inward_edge r) r.in_queue.current link e) [
-          | inl d ↦ at ((law.links (record { node = n; serial = s }) r here).inward_decaying link d)
-          | inr d ↦ at ((law.links (record { node = n; serial = s }) r here).inward_primary link d)
+          | inl d ↦ at (((links-in law) (record { node = n; serial = s }) r here).inward_decaying link d)
+          | inr d ↦ at (((links-in law) (record { node = n; serial = s }) r here).inward_primary link d)
         ]
-        | inr d ↦ at ((law.links (record { node = n; serial = s }) r here).primary link d)
+        | inr d ↦ at (((links-in law) (record { node = n; serial = s }) r here).primary link d)
       ]
     ]
       where
@@ -317,13 +318,13 @@ module _ (w : World) (b : Books) (g : Records) (law : Inv w b g) (alone : IsAlon
   terminal k r here = go (is_terminal r) refl
     where
       primary : (o : Option LinkEnd) → (inward_edge r).primary ≡ o → is_terminal r ≡ false → ⊥
-      primary None q e = let t = some_is (g.begun k) ((law.positions.each k r here).begun (grind (arith, e, q))) in
-          never t.0 (law.positions.begun_stage k t.0 t.1)
+      primary None q e = let t = some_is (g.begun k) (((positions-in law).each k r here).begun (grind (arith, e, q))) in
+          never t.0 (law.begun.begun_stage k t.0 t.1)
       primary (Some x) q e = at x.link refl
         where
           at : (l : LinkId) → x.link ≡ l → ⊥
-          at (Central i) z = grind (arith, (law.links k r here).inward_primary_inward x q, z)
-          at (Peripheral n y) z = not_recorded n y (ap (is_recorded w g) (sym z) ∙ ((law.links k r here).inward_primary x q).recorded)
+          at (Central i) z = grind (arith, ((links-in law) k r here).inward_primary_inward x q, z)
+          at (Peripheral n y) z = not_recorded n y (ap (is_recorded w g) (sym z) ∙ (((links-in law) k r here).inward_primary x q).recorded)
 
       go : (c : Bool) → is_terminal r ≡ c → is_terminal r ≡ true
       go true e = e
@@ -336,8 +337,8 @@ module _ (w : World) (b : Books) (g : Records) (law : Inv w b g) (alone : IsAlon
   still k r here (Some d) q = absurd (at d.link refl)
     where
       at : (l : LinkId) → d.link ≡ l → ⊥
-      at (Central i) z = grind (arith, (law.positions.each k r here).decaying d q, z, not_begun i)
-      at (Peripheral n y) z = not_recorded n y (ap (is_recorded w g) (sym z) ∙ ((law.links k r here).decaying d q).recorded)
+      at (Central i) z = grind (arith, ((positions-in law).each k r here).decaying d q, z, not_begun i)
+      at (Peripheral n y) z = not_recorded n y (ap (is_recorded w g) (sym z) ∙ (((links-in law) k r here).decaying d q).recorded)
 
   module _ (pair : ℕ) (linked : is_linked (g.owner pair) ≡ true) (own : (g.central pair).pair ≡ pair) (t : Side)
       (open_ : is_closed b (end_at pair t) ≡ false) where
@@ -407,7 +408,7 @@ module _ (w : World) (b : Books) (g : Records) (law : Inv w b g) (alone : IsAlon
             primed r h e = grind (arith, h, e)
 
         at : IsRecorded w g k q.0 p.0
-        at = (law.links k q.0 q.1).primary p.0 p.1
+        at = ((links-in law) k q.0 q.1).primary p.0 p.1
 
         go : (l : LinkId) → p.0.link ≡ l → IsTerminalOn w pair pair s
         go (Peripheral n x) e = absurd (not_recorded n x (ap (is_recorded w g) (sym e) ∙ at.recorded))

@@ -1,4 +1,5 @@
 -- An unknown length of a decaying link belongs to a bypass that has a message under way.
+use Rattle.ipcz_world.proofs.frames.RolesTell.{positions-in}
 use Rattle.std.specs.Prelude.{◌≡◌, ◌⊎◌, ◌≤◌, ◌<◌, ℕ, Bool, true, false, cond, nat_eq, nat_le, Option, Some, None, refl}
 use Rattle.std.proofs.Common.{arith, ap, subst, ◌∙◌, sym, inl, inr}
 use Rattle.std.proofs.lemmas.Bool.Decides.{nat_tests}
@@ -115,23 +116,23 @@ module _ (w : World) (b : Books) (g : Records) (law : Inv w b g) where
       IsBypassing w d.link
   outward_to k r d here dec unknown = elim (outward_case w b g law k r d here dec) [
     | inl c ↦ elim c.3 [
-      | inl own ↦ let l = not_known 4 _ _ _ ((law.positions.each k r here).own_to d c.0 dec c.1 own) unknown in
+      | inl own ↦ let l = not_known 4 _ _ _ (((positions-in law).each k r here).own_to d c.0 dec c.1 own) unknown in
           bypassing d.link c.0 c.2 (omega (arith, l)) (inl (c.1, omega (arith, l)))
-      | inr far ↦ absurd (none-some _ (sym unknown ∙ (law.positions.each k r here).across_to d c.0 dec c.1 far))
+      | inr far ↦ absurd (none-some _ (sym unknown ∙ ((positions-in law).each k r here).across_to d c.0 dec c.1 far))
     ]
-    | inr c ↦ absurd (none-some _ (sym unknown ∙ (law.positions.each k r here).inner_to d c.0 c.1 dec c.2 c.4))
+    | inr c ↦ absurd (none-some _ (sym unknown ∙ ((positions-in law).each k r here).inner_to d c.0 c.1 dec c.2 c.4))
   ]
 
   outward_from : (k : Key) (r : Router) (d : LinkEnd) → router_at w k ≡ Some r → r.outward.decaying ≡ Some d →
       r.outward.length_from ≡ None → IsBypassing w d.link
   outward_from k r d here dec unknown = elim (outward_case w b g law k r d here dec) [
     | inl c ↦ elim c.3 [
-      | inl own ↦ let l = not_known 4 _ _ _ ((law.positions.each k r here).own_from d c.0 dec c.1 own) unknown in
+      | inl own ↦ let l = not_known 4 _ _ _ (((positions-in law).each k r here).own_from d c.0 dec c.1 own) unknown in
           bypassing d.link c.0 c.2 (omega (arith, l)) (inl (c.1, omega (arith, l)))
-      | inr far ↦ absurd (none-some _ (sym unknown ∙ (law.positions.each k r here).across_from d c.0 dec c.1 far))
+      | inr far ↦ absurd (none-some _ (sym unknown ∙ ((positions-in law).each k r here).across_from d c.0 dec c.1 far))
     ]
     | inr c ↦ bypassing d.link c.1 (law.stands.by_begun c.0 c.1 c.4)
-        (omega (arith, not_known 5 _ _ _ ((law.positions.each k r here).inner_from d c.0 c.1 dec c.2 c.4) unknown))
+        (omega (arith, not_known 5 _ _ _ (((positions-in law).each k r here).inner_from d c.0 c.1 dec c.2 c.4) unknown))
         (inner_is d.link c.0 c.1 c.2 c.4)
   ]
 
@@ -139,14 +140,14 @@ module _ (w : World) (b : Books) (g : Records) (law : Inv w b g) where
       (inward_edge r).length_to ≡ None → IsBypassing w d.link
   inward_to k r d here dec unknown = let c = inward_case w b g law k r d here dec in
       bypassing d.link c.bypass (law.stands.by_begun c.link c.bypass c.by)
-      (omega (arith, not_known 4 _ _ _ ((law.positions.each k r here).inward_to d c.bypass dec c.begun) unknown))
+      (omega (arith, not_known 4 _ _ _ (((positions-in law).each k r here).inward_to d c.bypass dec c.begun) unknown))
       (inner_is d.link c.link c.bypass c.on c.by)
 
   inward_from : (k : Key) (r : Router) (d : LinkEnd) → router_at w k ≡ Some r → (inward_edge r).decaying ≡ Some d →
       (inward_edge r).length_from ≡ None → IsBypassing w d.link
   inward_from k r d here dec unknown = let c = inward_case w b g law k r d here dec in
       bypassing d.link c.bypass (law.stands.by_begun c.link c.bypass c.by)
-      (omega (arith, not_known 4 _ _ _ ((law.positions.each k r here).inward_from d c.bypass dec c.begun) unknown))
+      (omega (arith, not_known 4 _ _ _ (((positions-in law).each k r here).inward_from d c.bypass dec c.begun) unknown))
       (inner_is d.link c.link c.bypass c.on c.by)
 
   edge_is : (r : Router) (e : Edge) → r.inward ≡ Some e → inward_edge r ≡ e

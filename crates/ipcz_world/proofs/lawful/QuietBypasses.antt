@@ -1,4 +1,5 @@
 -- In a quiet world no bypass is on its way, no side of a link is awaited, and no primary link is being bypassed.
+use Rattle.ipcz_world.proofs.frames.RolesTell.{positions-in}
 use Rattle.std.specs.Prelude.{◌≡◌, ◌≤◌, ℕ, Bool, true, false, nat_le, Option, Some, None}
 use Rattle.std.specs.Prelude.{[], refl}
 use Rattle.std.proofs.Common.{arith, ap, subst, ◌∙◌}
@@ -53,7 +54,7 @@ module _ (w : World) (b : Books) (g : Records) (law : Inv w b g) (quiet : IsQuie
         where
           at : (c : Bool) → is_begun (g.bypass i) ≡ c → bypass_of g (Central i) ≡ None
           at false f = rw f refl
-          at true f = absurd (omega (arith, settled i f, (law.positions.each k r here).primary_old e i on q f))
+          at true f = absurd (omega (arith, settled i f, ((positions-in law).each k r here).primary_old e i on q f))
       go (Peripheral n x) q = ap (bypass_of g) q ∙ at (g.peripheral (record { node = n; serial = x })).by refl
         where
           at : (o : Option ℕ) → (g.peripheral (record { node = n; serial = x })).by ≡ o → bypass_of g (Peripheral n x) ≡ None
@@ -61,5 +62,5 @@ module _ (w : World) (b : Books) (g : Records) (law : Inv w b g) (quiet : IsQuie
           at (Some o) f = absurd (omega (
             arith,
             settled o (law.stands.by_begun (record { node = n; serial = x }) o f),
-            (law.positions.each k r here).primary_inner e (record { node = n; serial = x }) o on q f,
+            ((positions-in law).each k r here).primary_inner e (record { node = n; serial = x }) o on q f,
           ))

@@ -1,4 +1,5 @@
 -- In a quiet world all is delivered, no link decays, routers on central links are marked, and nobody holds a lock.
+use Rattle.ipcz_world.proofs.frames.RolesTell.{positions-in}
 use Rattle.std.specs.Prelude.{◌≡◌, ◌⊎◌, ◌≤◌, ◌<◌, ℕ, zero, suc, ◌+◌, Bool, true, false, cond, not, ◌&&◌, ◌||◌, nat_eq, nat_le, nat_lt, Option, Some}
 use Rattle.std.specs.Prelude.{None}
 use Rattle.std.specs.Prelude.{is_some, [], length, slice_get, refl}
@@ -215,7 +216,7 @@ module _ (w : World) (b : Books) (g : Records) (law : Inv w b g) (quiet : IsQuie
                   way is l (Some d) a =
                       let named = bypassed.proxy-outward law is.by d a in
                       choose-decaying y.outward y.out_queue.current (g.bypass is.old).taken_at (ap is_some a)
-                      ((law.positions.each q y at).own_to d is.old a named.link named.side
+                      (((positions-in law).each q y at).own_to d is.old a named.link named.side
                       ∙ known_from-yes 4 (g.bypass is.old).stage (g.bypass is.old).taken_at (omega (arith, is.stage))) l
 
       inns : (q : Key) (y : Router) → router_at w q ≡ Some y → opposite_end y.end ≡ opposite_end e → item_at y.in_queue n ≡ None
@@ -270,7 +271,7 @@ module _ (w : World) (b : Books) (g : Records) (law : Inv w b g) (quiet : IsQuie
                   ))
                   way is l (Some d) a =
                       choose-decaying (inward_edge y) y.in_queue.current (g.bypass is.old).accepted_at (ap is_some a)
-                      ((law.positions.each q y at).inward_to d is.old a (bypassed.proxy-begun law is.by)
+                      (((positions-in law).each q y at).inward_to d is.old a (bypassed.proxy-begun law is.by)
                       ∙ known_from-yes 4 (g.bypass is.old).stage (g.bypass is.old).accepted_at (omega (arith, is.stage))) l
 
       go : (o : Option Item) → slice_get (b.put (opposite_end e)) n ≡ o → ⊥
@@ -430,22 +431,22 @@ module _ (w : World) (b : Books) (g : Records) (law : Inv w b g) (quiet : IsQuie
       go None e = e
       go (Some d) e = absurd (elim (outward_case w b g law k r d here e) [
         | inl c ↦ elim c.3 [
-          | inl own ↦ none-some p.0 (sym ((law.positions.each k r here).own_alone d c.0 e c.1 own) ∙ p.1)
+          | inl own ↦ none-some p.0 (sym (((positions-in law).each k r here).own_alone d c.0 e c.1 own) ∙ p.1)
           | inr far ↦ ends d (g.bypass c.0).accepted_at (g.bypass c.0).taken_at (g.bypass c.0).fresh e
-              ((law.positions.each k r here).across_to d c.0 e c.1 far) ((law.positions.each k r here).across_from d c.0 e c.1 far)
+              (((positions-in law).each k r here).across_to d c.0 e c.1 far) (((positions-in law).each k r here).across_from d c.0 e c.1 far)
               (ap (λ l. side_length g l (opposite d.side)) c.1 ∙ ap (λ s. side_length g (Central c.0) (opposite s)) far
               ∙ ap (side_length g (Central c.0)) (opposite-twice (proxy_side g c.0))
               ∙ length-proxy g c.0 (omega (arith, settled w b g law quiet c.0 c.2)))
-              ((law.positions.each k r here).across_fresh d c.0 e c.1 far)
+              (((positions-in law).each k r here).across_fresh d c.0 e c.1 far)
         ]
         | inr c ↦ let stage = settled w b g law quiet c.1 (law.stands.by_begun c.0 c.1 c.4) in
             ends d (g.bypass c.1).taken_at (g.bypass c.1).accepted_at (g.bypass c.1).fresh e
-            ((law.positions.each k r here).inner_to d c.0 c.1 e c.2 c.4)
-            ((law.positions.each k r here).inner_from d c.0 c.1 e c.2 c.4
+            (((positions-in law).each k r here).inner_to d c.0 c.1 e c.2 c.4)
+            (((positions-in law).each k r here).inner_from d c.0 c.1 e c.2 c.4
             ∙ known_from-yes 5 (g.bypass c.1).stage (g.bypass c.1).accepted_at (omega (arith, stage)))
             (ap (λ l. side_length g l (opposite d.side)) c.2 ∙ ap (λ s. side_length g (inner_link c.0) (opposite s)) c.3
             ∙ length-inward g c.0 c.1 c.4 (omega (arith, stage)))
-            ((law.positions.each k r here).inner_fresh d c.0 c.1 e c.2 c.4)
+            (((positions-in law).each k r here).inner_fresh d c.0 c.1 e c.2 c.4)
       ])
 
   -- no proxy has begun a bypass: it could finish, or leave
@@ -488,18 +489,18 @@ module _ (w : World) (b : Books) (g : Records) (law : Inv w b g) (quiet : IsQuie
                   let named = bypassed.proxy-outward law is.by d p in
                   not_both (can_finish r.outward r.out_queue.current (reach r.in_queue))
                   (finishes r.outward d (g.bypass is.old).taken_at (g.bypass is.old).accepted_at r.out_queue.current (reach r.in_queue) p
-                  ((law.positions.each k r here).own_to d is.old p named.link named.side
+                  (((positions-in law).each k r here).own_to d is.old p named.link named.side
                   ∙ known_from-yes 4 (g.bypass is.old).stage (g.bypass is.old).taken_at (omega (arith, is.stage)))
-                  ((law.positions.each k r here).own_from d is.old p named.link named.side
+                  (((positions-in law).each k r here).own_from d is.old p named.link named.side
                   ∙ known_from-yes 4 (g.bypass is.old).stage (g.bypass is.old).accepted_at (omega (arith, is.stage)))
                   taken (omega (arith, accepted, (is_reach r.in_queue).from))) (idle k r acts.FinishOut here)
               links None (Some d) p q =
                   not_both (can_finish (inward_edge r) r.in_queue.current (reach r.out_queue))
                   (finishes (inward_edge r) d (g.bypass is.old).accepted_at (g.bypass is.old).taken_at r.in_queue.current
                   (reach r.out_queue) q
-                  ((law.positions.each k r here).inward_to d is.old q (bypassed.proxy-begun law is.by)
+                  (((positions-in law).each k r here).inward_to d is.old q (bypassed.proxy-begun law is.by)
                   ∙ known_from-yes 4 (g.bypass is.old).stage (g.bypass is.old).accepted_at (omega (arith, is.stage)))
-                  ((law.positions.each k r here).inward_from d is.old q (bypassed.proxy-begun law is.by)
+                  (((positions-in law).each k r here).inward_from d is.old q (bypassed.proxy-begun law is.by)
                   ∙ known_from-yes 4 (g.bypass is.old).stage (g.bypass is.old).taken_at (omega (arith, is.stage)))
                   accepted (omega (arith, taken, (is_reach r.out_queue).from))) (idle k r acts.FinishIn here)
               links None None p q = left (idle k r acts.Leave here) (bypassed.proxy-alone law is.by) (bypassed.proxy-unprimed law is.by)

@@ -1,4 +1,5 @@
 -- In a quiet world what is lacking in a queue is lacking all the way to the terminal that the queue leads to.
+use Rattle.ipcz_world.proofs.frames.RolesTell.{links-in, positions-in}
 use Rattle.std.specs.Prelude.{◌≡◌, ◌⊎◌, ◌≤◌, ◌<◌, ℕ, zero, suc, ◌+◌, Bool, true, false, ◌||◌, nat_le, Option, Some, None}
 use Rattle.std.specs.Prelude.{is_some, length, refl}
 use Rattle.std.proofs.Common.{arith, ap, subst, ◌∙◌, sym, inl, inr}
@@ -142,13 +143,13 @@ module _ (w : World) (b : Books) (g : Records) (law : Inv w b g) (quiet : IsQuie
   outer_router k r e here on = go e.link e.side refl refl
     where
       rec : IsRecorded w g k r e
-      rec = (law.links k r here).primary e on
+      rec = ((links-in law) k r here).primary e on
 
       left : (l : LinkId) (s : Side) → e.link ≡ l → e.side ≡ s → is_left g l (opposite s) ≡ true → is_retired b (opposite_end r.end) ≡ true
       left l s p q h = law.gones.left_primary k r e here on (ap (λ z. is_left g z (opposite e.side)) p ∙ ap (λ z. is_left g l (opposite z)) q ∙ h)
 
       go : (l : LinkId) (s : Side) → e.link ≡ l → e.side ≡ s → HasOuter k r ⊎ (HasAcross k r ⊎ (is_retired b (opposite_end r.end) ≡ true))
-      go (Peripheral n x) A l t = absurd (grind (arith, (law.links k r here).primary_outward e on, l, t))
+      go (Peripheral n x) A l t = absurd (grind (arith, ((links-in law) k r here).primary_outward e on, l, t))
       go (Peripheral n x) B l t = by (is_left g (Peripheral n x) A) refl
         where
           p : Key
@@ -190,7 +191,7 @@ module _ (w : World) (b : Books) (g : Records) (law : Inv w b g) (quiet : IsQuie
               d = has_link-tells (inward_edge proxy.router).primary (Peripheral n x) A proxy.passed
 
               far : IsRecorded w g proxy.key proxy.router d.end
-              far = (law.links proxy.key proxy.router proxy.here).inward_primary d.end d.there
+              far = ((links-in law) proxy.key proxy.router proxy.here).inward_primary d.end d.there
       go (Central i) s l t = by (is_left g (Central i) (opposite s)) refl
         where
           own : has_primary (Central i) s r ≡ true
@@ -207,7 +208,7 @@ module _ (w : World) (b : Books) (g : Records) (law : Inv w b g) (quiet : IsQuie
 
           unbegun : (c : Bool) → is_begun (g.bypass i) ≡ c → is_begun (g.bypass i) ≡ false
           unbegun false f = f
-          unbegun true f = absurd (omega (arith, settled w b g law quiet i f, (law.positions.each k r here).primary_old e i on l f))
+          unbegun true f = absurd (omega (arith, settled w b g law quiet i f, ((positions-in law).each k r here).primary_old e i on l f))
 
           across : (q : Key) × (side_router g (Central i) (opposite s) ≡ Some q)
           across = known_side w b g law quiet (Central i) (opposite s) recorded
@@ -238,7 +239,7 @@ module _ (w : World) (b : Books) (g : Records) (law : Inv w b g) (quiet : IsQuie
               d = has_link-tells stands.0.outward.primary (Central i) (opposite s) stands.2
 
               far : IsRecorded w g across.0 stands.0 d.end
-              far = (law.links across.0 stands.0 stands.1).primary d.end d.there
+              far = ((links-in law) across.0 stands.0 stands.1).primary d.end d.there
 
   whole_inward : (k : Key) (z : Router) (l : LinkId) → router_at w k ≡ Some z → has_inward_primary l A z ≡ true →
       (is_begun_router z ≡ false) × (is_some z.outward.primary ≡ true)
@@ -286,8 +287,8 @@ module _ (w : World) (b : Books) (g : Records) (law : Inv w b g) (quiet : IsQuie
   inner_router k r e here on = go e.link e.side refl refl
     where
       go : (l : LinkId) (s : Side) → e.link ≡ l → e.side ≡ s → HasInner k r
-      go (Central i) s l t = absurd (grind (arith, (law.links k r here).inward_primary_inward e on, l))
-      go (Peripheral n x) B l t = absurd (grind (arith, (law.links k r here).inward_primary_inward e on, l, t))
+      go (Central i) s l t = absurd (grind (arith, ((links-in law) k r here).inward_primary_inward e on, l))
+      go (Peripheral n x) B l t = absurd (grind (arith, ((links-in law) k r here).inward_primary_inward e on, l, t))
       go (Peripheral n x) A l t = record {
         node = n;
         serial = x;
@@ -309,7 +310,7 @@ module _ (w : World) (b : Books) (g : Records) (law : Inv w b g) (quiet : IsQuie
           p = record { node = n; serial = x }
 
           rec : IsRecorded w g k r e
-          rec = (law.links k r here).inward_primary e on
+          rec = ((links-in law) k r here).inward_primary e on
 
           own : has_inward_primary (Peripheral n x) A r ≡ true
           own = ap (λ o. has_link o (Peripheral n x) A) on ∙ has_link-some e (Peripheral n x) A l t
@@ -318,7 +319,7 @@ module _ (w : World) (b : Books) (g : Records) (law : Inv w b g) (quiet : IsQuie
           recorded = subst (λ z. is_recorded w g z ≡ true) l rec.recorded
 
           live : (g.peripheral p).by ≡ None
-          live = sym (bypass_of-inner g p) ∙ ap (bypass_of g) (sym l) ∙ (law.positions.each k r here).inward_primary e on
+          live = sym (bypass_of-inner g p) ∙ ap (bypass_of g) (sym l) ∙ ((positions-in law).each k r here).inward_primary e on
 
           stays : is_left g (Peripheral n x) B ≡ false
           stays = by (is_left g (Peripheral n x) B) refl
@@ -358,7 +359,7 @@ module _ (w : World) (b : Books) (g : Records) (law : Inv w b g) (quiet : IsQuie
           d = has_link-tells stands.0.outward.primary (Peripheral n x) B stands.2
 
           far : IsRecorded w g inner.0 stands.0 d.end
-          far = (law.links inner.0 stands.0 stands.1).primary d.end d.there
+          far = ((links-in law) inner.0 stands.0 stands.1).primary d.end d.there
 
   -- a router with an outward primary link hasn't begun a bypass
   pub not_begun : (k : Key) (r : Router) (l : LinkId) (s : Side) → router_at w k ≡ Some r → has_primary l s r ≡ true →
@@ -501,9 +502,9 @@ module _ (w : World) (b : Books) (g : Records) (law : Inv w b g) (quiet : IsQuie
 
   pub begun_tells : (k : Key) (r : Router) → router_at w k ≡ Some r → is_begun_router r ≡ true → HasBegun k r
   begun_tells k r here begun =
-      let t = some_is (g.begun k) ((law.positions.each k r here).begun begun) in
-      let is = law.positions.begun_stage k t.0 t.1 in
-      let proxy = law.positions.begun_proxy k t.0 t.1 in
+      let t = some_is (g.begun k) (((positions-in law).each k r here).begun begun) in
+      let is = law.begun.begun_stage k t.0 t.1 in
+      let proxy = law.begun.begun_proxy k t.0 t.1 in
       record {
         old = t.0;
         by = record { begun = is; proxy = proxy; here = here };
@@ -563,7 +564,7 @@ module _ (w : World) (b : Books) (g : Records) (law : Inv w b g) (quiet : IsQuie
             go true e =
                 let d : HasEnd z.outward.primary (Central o) (across_side g o) = has_link-tells z.outward.primary (Central o)
                 (across_side g o) e in
-                absurd (omega (arith, is.stage, (law.positions.each q z at).primary_old d.end o d.there d.on_link is.by.begun))
+                absurd (omega (arith, is.stage, ((positions-in law).each q z at).primary_old d.end o d.there d.on_link is.by.begun))
             go false e =
                 let h : has_decaying (Central o) (across_side g o) z ≡ true = or_second _ _ on e in
                 let d : HasEnd z.outward.decaying (Central o) (across_side g o) = has_link-tells z.outward.decaying (Central o)
@@ -577,7 +578,7 @@ module _ (w : World) (b : Books) (g : Records) (law : Inv w b g) (quiet : IsQuie
                   on_link = d.on_link;
                   at_side = d.at_side;
                   primary = some (link_in z.outward.primary) z.outward.primary
-                      ((law.positions.each q z at).across_fresh d.end o d.there d.on_link d.at_side) refl;
+                      (((positions-in law).each q z at).across_fresh d.end o d.there d.on_link d.at_side) refl;
                   attached = on;
                 }
               where
@@ -604,7 +605,7 @@ module _ (w : World) (b : Books) (g : Records) (law : Inv w b g) (quiet : IsQuie
             go : (c : Bool) → has_primary (inner_of g o) B z ≡ c → StandsOver (inner_of g o) B
             go true e =
                 let d : HasEnd z.outward.primary (inner_of g o) B = has_link-tells z.outward.primary (inner_of g o) B e in
-                absurd (omega (arith, is.stage, (law.positions.each q z at).primary_inner d.end (g.bypass o).inner o d.there d.on_link by))
+                absurd (omega (arith, is.stage, ((positions-in law).each q z at).primary_inner d.end (g.bypass o).inner o d.there d.on_link by))
             go false e =
                 let h : has_decaying (inner_of g o) B z ≡ true = or_second _ _ on e in
                 let d : HasEnd z.outward.decaying (inner_of g o) B = has_link-tells z.outward.decaying (inner_of g o) B h in
@@ -617,7 +618,7 @@ module _ (w : World) (b : Books) (g : Records) (law : Inv w b g) (quiet : IsQuie
                   on_link = d.on_link;
                   at_side = d.at_side;
                   primary = some (link_in z.outward.primary) z.outward.primary
-                      ((law.positions.each q z at).inner_fresh d.end (g.bypass o).inner o d.there d.on_link by) refl;
+                      (((positions-in law).each q z at).inner_fresh d.end (g.bypass o).inner o d.there d.on_link by) refl;
                   attached = on;
                 }
               where
@@ -641,7 +642,7 @@ module _ (w : World) (b : Books) (g : Records) (law : Inv w b g) (quiet : IsQuie
         go x None e = absurd (omega (arith, lacks.current, below, law.proxy_numbers.out_finished o r at_proxy (omega (arith, is.stage)) e))
         go x (Some d) e =
             let n = bypassed.proxy-outward law is.by d e in
-            let rec = (law.links x.key x.router x.here).decaying x.end x.decaying in
+            let rec = ((links-in law) x.key x.router x.here).decaying x.end x.decaying in
             let far : x.router.end ≡ end_at (g.central o).pair (across_side g o) =
             rec.end ∙ ap (λ z. side_end g z x.end.side) x.on_link ∙ ap (λ z. side_end g (Central o) z) x.at_side in
             subst (λ d. IsLacked w d m) (far ∙ ap (λ p. end_at p (across_side g o)) (sym ((law.bypasses o).pair is.by.begun)) ∙ sym
@@ -671,7 +672,7 @@ module _ (w : World) (b : Books) (g : Records) (law : Inv w b g) (quiet : IsQuie
         go x None e = absurd (omega (arith, lacks.current, below, law.proxy_numbers.in_finished o r at_proxy (omega (arith, is.stage)) e))
         go x (Some d) e =
             let n = bypassed.proxy-inward law is.by d e in
-            let rec = (law.links x.key x.router x.here).decaying x.end x.decaying in
+            let rec = ((links-in law) x.key x.router x.here).decaying x.end x.decaying in
             let far : x.router.end ≡ side_end g (inner_of g o) B =
             rec.end ∙ ap (λ z. side_end g z x.end.side) x.on_link in
             subst (λ d. IsLacked w d m) (far ∙ sym is.end)

@@ -1,4 +1,5 @@
 -- Each act of a router leaves a waker to who has tried, and keeps ranks.
+use Rattle.ipcz_world.proofs.frames.RolesTell.{links-in}
 use Rattle.std.specs.Prelude.{◌≡◌, ◌<◌, ℕ, suc, ◌+◌, Bool, true, false, cond, nat_eq, if◌then◌else◌}
 use Rattle.std.specs.Prelude.{Option, Some, None, List, [], ◌∷◌, ◌++◌, slice_get, refl}
 use Rattle.std.proofs.Common.{arith, ap, sym, ◌∙◌, subst, inl, inr}
@@ -348,7 +349,7 @@ module _ (w : World) (b : Books) (g : Records) (law : Inv w b g) (flags : FlagsA
           u = set_word (set_router w at (wake_other r)) i (woken (word_at w i) r.end.side)
 
           rec : IsRecorded w g at r e
-          rec = (law.links at r here).primary e q
+          rec = ((links-in law) at r here).primary e q
 
           count_is : u.count ≡ w.count
           count_is = count-set_word (set_router w at (wake_other r)) i _ ∙ count-set_node w n _

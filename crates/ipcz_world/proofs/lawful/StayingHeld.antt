@@ -1,4 +1,5 @@
 -- An end of a word that is held stays held, until an act of its router lets it go.
+use Rattle.ipcz_world.proofs.frames.RolesTell.{links-in}
 use Rattle.std.specs.Prelude.{◌≡◌, ◌⊎◌, ◌<◌, ℕ, zero, suc, ◌+◌, Bool, true, false, cond, not, ◌&&◌, nat_eq, nat_lt, if◌then◌else◌, Option, Some, None, List, [], ◌∷◌, slice_get, refl}
 use Rattle.std.proofs.Common.{sym, ◌∙◌, ap, subst, inl, inr}
 use Rattle.std.proofs.lemmas.Bool.{or_cases, or_left, or_right}
@@ -103,9 +104,9 @@ module _ (w : World) (b : Books) (g : Routes) (law : Lawful w b g) (i : ℕ) (s 
     where
       inner : (has_link (inward_edge r).primary (Central i) s ≡ true) ⊎ (has_link (inward_edge r).decaying (Central i) s ≡ true) → ⊥
       inner (inl q) = let e : HasEnd (inward_edge r).primary (Central i) s = has_link-tells (inward_edge r).primary (Central i) s q in
-          not_inward e.end.link e.end.side e.on_link ((law.inv.links k r here).inward_primary_inward e.end e.there)
+          not_inward e.end.link e.end.side e.on_link (((links-in law.inv) k r here).inward_primary_inward e.end e.there)
       inner (inr q) = let e : HasEnd (inward_edge r).decaying (Central i) s = has_link-tells (inward_edge r).decaying (Central i) s q in
-          not_inward e.end.link e.end.side e.on_link ((law.inv.links k r here).inward_decaying_inward e.end e.there)
+          not_inward e.end.link e.end.side e.on_link (((links-in law.inv) k r here).inward_decaying_inward e.end e.there)
 
       linked : (outward_has r (Central i) s ≡ true) ⊎ (inward_has r (Central i) s ≡ true) → outer_holds i s r ≡ true
       linked (inl t) = or_left _ _ t

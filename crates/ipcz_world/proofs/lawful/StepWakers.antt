@@ -1,4 +1,5 @@
 -- Each step leaves a waker to who has tried for a lock, and keeps the ranks of routers.
+use Rattle.ipcz_world.proofs.frames.RolesTell.{links-in}
 use Rattle.std.specs.Prelude.{◌≡◌, ◌<◌, ℕ, ◌+◌, Bool, true, false, ◌&&◌, cond, nat_eq, nat_lt, if◌then◌else◌, length}
 use Rattle.std.specs.Prelude.{Option, Some, None, is_some, List, [], ◌∷◌, refl}
 use Rattle.std.proofs.Common.{arith, ap, sym, ◌∙◌, subst, inl, inr}
@@ -227,8 +228,8 @@ module _ (w : World) (b : Books) (g : Records) (law : Inv w b g) (flags : FlagsA
         t = found_tells (node_at w k.node) (λ r. router_has r (Central i) s) f.0 f.1
 
         key : k ≡ record { node = k.node; serial = f.0.serial }
-        key = same_Some k _ (sym ((has_at w g k y (Central i) s law.links here has_it).router) ∙
-            (has_at w g (record { node = k.node; serial = f.0.serial }) f.0.router (Central i) s law.links t.0 t.1).router)
+        key = same_Some k _ (sym ((has_at w g k y (Central i) s (links-in law) here has_it).router) ∙
+            (has_at w g (record { node = k.node; serial = f.0.serial }) f.0.router (Central i) s (links-in law) t.0 t.1).router)
 
         serial : k.serial ≡ f.0.serial
         serial = ap (λ a. a.serial) key

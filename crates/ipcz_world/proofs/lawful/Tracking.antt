@@ -1,4 +1,5 @@
 -- A world's routers follow those of the world before: so a router that has tried is still has a waker, and ranks still rise.
+use Rattle.ipcz_world.proofs.frames.RolesTell.{links-in}
 use Rattle.std.specs.Prelude.{◌≡◌, ◌⊎◌, ◌≤◌, ◌<◌, ℕ, ◌+◌, Bool, true, false, cond, nat_eq, nat_lt, Some}
 use Rattle.std.specs.Prelude.{refl}
 use Rattle.std.proofs.Common.{arith, ap, sym, ◌∙◌, subst, inl, inr}
@@ -217,8 +218,8 @@ ranked-tracked w v b g i held law tracks ranked = record {
             go : (c : Bool) → has_link y.outward.primary (Peripheral n x) B ≡ c → ⊥
             go true e =
                 let d : HasEnd y.outward.primary (Peripheral n x) B = has_link-tells y.outward.primary (Peripheral n x) B e in
-                recorded d.end d.on_link ((law.links k y at).primary d.end d.there).recorded
+                recorded d.end d.on_link (((links-in law) k y at).primary d.end d.there).recorded
             go false e =
                 let f : has_link y.outward.decaying (Peripheral n x) B ≡ true = or_second _ _ has_it e in
                 let d : HasEnd y.outward.decaying (Peripheral n x) B = has_link-tells y.outward.decaying (Peripheral n x) B f in
-                recorded d.end d.on_link ((law.links k y at).decaying d.end d.there).recorded
+                recorded d.end d.on_link (((links-in law) k y at).decaying d.end d.there).recorded

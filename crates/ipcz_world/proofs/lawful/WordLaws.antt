@@ -1,4 +1,5 @@
 -- The law of words, from the invariant.
+use Rattle.ipcz_world.proofs.frames.RolesTell.{links-in}
 use Rattle.ipcz_world.proofs.Vocabulary.{Records, Owner, Spare, Opening, Fresh, Linked, is_linked, is_begun, is_recorded, side_router, side_end}
 use Rattle.ipcz_world.proofs.Vocabulary.{across_side, Side, A, B, LinkId, Central, Peripheral, Message, has, same_link, World, Key, word_at, flow}
 use Rattle.ipcz_world.proofs.Vocabulary.{Books, IsUnderWay, under_way, has_primary, of_bypass, control_weight, Inv, is_left, Lost, routes_of}
@@ -171,11 +172,11 @@ module _ (w : World) (b : Books) (g : Records) (law : Inv w b g) where
     fresh = λ from to j link s old target i u. let at = peer_told w g from to j old link s target i law.told u in
         ap g.owner at.onto ∙ (law.bypasses old).fresh at.stage;
     fresh_back = fresh_once;
-    linked = λ k r i s here has. linked_of i (has_at w g k r (Central i) s law.links here has).recorded;
+    linked = λ k r i s here has. linked_of i (has_at w g k r (Central i) s (links-in law) here has).recorded;
     linked_back = used;
     named = named;
     moving = law.moves.peripheral;
-    of_pair = λ k r i s here has. ap (λ e. e.pair) (has_at w g k r (Central i) s law.links here has).end;
-    one_each = λ j k q r i s at here on_q on_r. same_Some j k (sym (has_at w g j q (Central i) s law.links at on_q).router ∙
-        (has_at w g k r (Central i) s law.links here on_r).router);
+    of_pair = λ k r i s here has. ap (λ e. e.pair) (has_at w g k r (Central i) s (links-in law) here has).end;
+    one_each = λ j k q r i s at here on_q on_r. same_Some j k (sym (has_at w g j q (Central i) s (links-in law) at on_q).router ∙
+        (has_at w g k r (Central i) s (links-in law) here on_r).router);
   }

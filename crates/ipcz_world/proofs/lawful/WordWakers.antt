@@ -1,4 +1,5 @@
 -- Acts on a word leave a waker to who has tried on its link: mark, lock, unlock and wake.
+use Rattle.ipcz_world.proofs.frames.RolesTell.{links-in}
 use Rattle.std.specs.Prelude.{◌≡◌, ◌⊎◌, ◌&&◌, ℕ, Bool, true, false, ◌||◌, not, cond, if◌then◌else◌, Option, Some, None, is_some, refl}
 use Rattle.std.proofs.Common.{arith, ap, sym, ◌∙◌, subst, inl, inr}
 use Rattle.std.proofs.lemmas.Option.{same_Some, none-some}
@@ -88,7 +89,7 @@ module _ (w v : World) (b : Books) (g : Records) (law : Inv w b g) (flags : Flag
   own_side : own_link.0.side ≡ t
   unfolding side_end
   own_side =
-      let rec : IsRecorded w g k r own_link.0 = (law.links k r is.here).primary own_link.0 own_link.1 in
+      let rec : IsRecorded w g k r own_link.0 = ((links-in law) k r is.here).primary own_link.0 own_link.1 in
       sym (ap (λ e. e.side) (rec.end ∙ ap (λ l. side_end g l own_link.0.side) own_link.2))
 
   own_on : has_primary (Central i) t r ≡ true
@@ -348,7 +349,7 @@ module _ (w v : World) (b : Books) (g : Records) (law : Inv w b g) (flags : Flag
 
           at_other : q.node ≡ own_link.0.other
           at_other =
-              let rec : IsRecorded w g k r own_link.0 = (law.links k r is.here).primary own_link.0 own_link.1 in
+              let rec : IsRecorded w g k r own_link.0 = ((links-in law) k r is.here).primary own_link.0 own_link.1 in
               node_of q ((g.central i).router (opposite t)) ((g.central i).node (opposite t)) known
               ∙ sym (rec.other ∙ ap (λ l. side_node g l (opposite own_link.0.side)) own_link.2
               ∙ ap (λ s. side_node g (Central i) (opposite s)) own_side)

@@ -1,10 +1,11 @@
 -- A world without routers, words, messages and books is lawful.
+use Rattle.ipcz_world.proofs.frames.Roles.{Roles, BegunRecords}
 use Rattle.std.specs.Prelude.{false}
 use Rattle.ipcz_world.proofs.Vocabulary.{Weight, in_router, at_end, names_end, times, Side, End, LinkId, Central, Peripheral, Descriptor, Message}
 use Rattle.ipcz_world.proofs.Vocabulary.{opposite_end, has_end, has, place_at, total, total_list, Router, Word, empty_word, outbox, Empty, World, Key}
 use Rattle.ipcz_world.proofs.Vocabulary.{node_at, word_at, mail_at, router_at, way, flow, messages_in, hand_message, Records, Owner, Spare, Opening}
 use Rattle.ipcz_world.proofs.Vocabulary.{Fresh, Terminal, At, is_linked, is_unclaimed, is_recorded, inner_link, is_nowhere, IsUnderWay, under_way}
-use Rattle.ipcz_world.proofs.Vocabulary.{of_end, moves_of, Counts, Ordered, Shape, Links, Positions, Stands, Words, Spares, BypassRecords, Stages}
+use Rattle.ipcz_world.proofs.Vocabulary.{of_end, moves_of, Counts, Ordered, Shape, Stands, Words, Spares, BypassRecords, Stages}
 use Rattle.ipcz_world.proofs.Vocabulary.{Told, of_bypass, control_weight, Terminals, EndPlaces, BooksKept, Conserved, HeldOnce, times_held, Items}
 use Rattle.ipcz_world.proofs.Vocabulary.{Order, ProxyNumbers, FreshNumbers, Inv, RetiredEnds, Gones, LiveLinks, no_books, Unclaimed, Nowhere, Retired}
 use Rattle.ipcz_world.proofs.Vocabulary.{is_left, Moves, move_weight}
@@ -170,12 +171,11 @@ module _ (w : World) (g : Records) (world : IsBare w) (noted : IsUnnoted g) wher
   shape-bare : Shape w
   shape-bare k r at = absurd (no_router k r at)
 
-  links-bare : Links w g
-  links-bare k r at = absurd (no_router k r at)
+  roles-bare : Roles w g
+  roles-bare k r at = absurd (no_router k r at)
 
-  positions-bare : Positions w g
-  positions-bare = record {
-    each = λ k r at. absurd (no_router k r at);
+  begun-bare : BegunRecords g
+  begun-bare = record {
     begun_proxy = λ k o h1. absurd (none-some o (sym (noted.begun k) ∙ h1));
     begun_stage = λ k o h1. absurd (none-some o (sym (noted.begun k) ∙ h1));
     proxy_begun = λ o h1. absurd (not_begun (g.bypass o).stage (noted.stage o) h1);
@@ -421,8 +421,8 @@ module _ (w : World) (g : Records) (world : IsBare w) (noted : IsUnnoted g) wher
     counts = counts-bare;
     ordered = ordered-bare;
     shape = shape-bare;
-    links = links-bare;
-    positions = positions-bare;
+    roles = roles-bare;
+    begun = begun-bare;
     stands = stands-bare;
     words = words-bare;
     spares = spares-bare;

@@ -1,4 +1,5 @@
 -- Nothing comes to lie beyond the world's nodes: each step keeps a world bounded.
+use Rattle.ipcz_world.proofs.frames.RolesTell.{links-in}
 use Rattle.ipcz_world.proofs.Vocabulary.{Side, LinkId, Central, LinkEnd, Descriptor, Item, Message, place_at, word_of, opposite, current_item, Router}
 use Rattle.ipcz_world.proofs.Vocabulary.{inward_edge, router_has, from_descriptor, bypass_peer, output_of, RouterAct, Node, Found, outbox}
 use Rattle.ipcz_world.proofs.Vocabulary.{with_router, World, Key, node_at, router_at, Records, Books, IsRecorded, Inv, leaves_by, next_number}
@@ -127,10 +128,10 @@ module _ (w : World) (b : Books) (g : Records) (law : Inv w b g) where
 
   are_below : (k : Key) (r : Router) → router_at w k ≡ Some r → AreBelow w.count r
   are_below k r here = record {
-    primary = λ e h. link_below k r e ((law.links k r here).primary e h);
-    decaying = λ e h. link_below k r e ((law.links k r here).decaying e h);
-    inner_primary = λ e h. link_below k r e ((law.links k r here).inward_primary e h);
-    inner_decaying = λ e h. link_below k r e ((law.links k r here).inward_decaying e h);
+    primary = λ e h. link_below k r e (((links-in law) k r here).primary e h);
+    decaying = λ e h. link_below k r e (((links-in law) k r here).decaying e h);
+    inner_primary = λ e h. link_below k r e (((links-in law) k r here).inward_primary e h);
+    inner_decaying = λ e h. link_below k r e (((links-in law) k r here).inward_decaying e h);
   }
 
   -- an act of a router that stands there

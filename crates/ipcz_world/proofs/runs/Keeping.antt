@@ -1,4 +1,5 @@
 -- The case analysis: each step, whichever possible act a turn takes, keeps the invariant, with the books and the routes after it.
+use Rattle.ipcz_world.proofs.frames.RolesTell.{links-in}
 use Rattle.ipcz_world.proofs.acts.Retiring as retiring
 use Rattle.ipcz_router.specs.ActTable.{can_begin, can_retire}
 use Rattle.ipcz_world.proofs.frames.Touching.{either}
@@ -330,7 +331,7 @@ module _ (w : World) (b : Books) (g : Records) (law : Inv w b g) where
       let unfit : is_unfit (node_at w n) from m (source_for w m) ≡ false = rw (fits, a.is_found) refl in
       let free : is_linked (g.owner fresh) ≡ false = ap is_linked (ap g.owner at.onto ∙ (law.bypasses o).fresh at.stage) in
       let unlost : is_lost_owner (g.owner fresh) ≡ false = ap is_lost_owner (ap g.owner at.onto ∙ (law.bypasses o).fresh at.stage) in
-      let own : HasAt w g k a.found.router link side = has_at w g k a.found.router link side law.links a.can.here a.has in
+      let own : HasAt w g k a.found.router link side = has_at w g k a.found.router link side (links-in law) a.can.here a.has in
       let pair : a.found.router.end.pair ≡ (g.central o).pair = ap (λ e. e.pair) own.end ∙ ap (λ l. (side_end g l side).pair) at.on_link ∙
       (law.bypasses o).pair (grind (arith, at.stage, nat_tests)) in
       kept_to _ _ b b _ (add_link (routes_of g) fresh (g.central o).pair) (taken_records g k a.found.router o fresh target)

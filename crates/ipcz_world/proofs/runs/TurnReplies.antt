@@ -1,4 +1,5 @@
 -- What turns answer: each answer is one that the machine over the books alone allows, and a bypass begins only under the lock.
+use Rattle.ipcz_world.proofs.frames.RolesTell.{links-in}
 use Rattle.std.specs.Prelude.{◌≡◌, ◌⊎◌, ◌<◌, ℕ, true, Option, Some, None, length, refl}
 use Rattle.std.proofs.Common.{arith, ap, subst, ◌∙◌, sym, inl, inr}
 use Rattle.std.proofs.lemmas.Bool.Decides.{nat_tests}
@@ -204,7 +205,7 @@ module _ (w : World) (b : Books) (g : Records) (law : Inv w b g) where
       go (Some e) q l =
           let on : has_primary (Central i) e.side r ≡ true = has_link-is r.outward.primary e (Central i) e.side q l refl in
           let is : IsOn w g k r i e.side = on_tells w b g k r i e.side law here on in
-          let rec : IsRecorded w g k r e = (law.links k r here).primary e q in
+          let rec : IsRecorded w g k r e = ((links-in law) k r here).primary e q in
           let side : r.end.side ≡ e.side = ap (λ x. x.side) rec.end ∙ ap (λ x. (side_end g x e.side).side) l in
           ap (λ s. has (word_at w i).holder s) side ∙ sym (holder_is w b g k r i e.side law here is) ∙ holds
 
