@@ -415,13 +415,13 @@ TURNS = {
 # stays when the side is woken is never read again
 HARMLESS = {"a_wake_stays_in_the_word"}
 
-# what a lemma of the law comes to: the groups of the invariant, what an act of a bypass owes to Positions and what Told weighs, and the
+# what a lemma of the law comes to: the groups of the invariant, what keeps a role and what Told weighs, and the
 # facts that are kept beside the invariant
 GROUPS = """
-Inv OpenInv Counts Ordered IsOrdered Shape HasShape Links HasLinks Positions HasPositions Stands Words HasWord Spares BypassRecords
+Inv OpenInv Counts Ordered IsOrdered Shape HasShape Roles HasRole BegunRecords Links HasLinks Positions HasPositions Stands Words HasWord Spares BypassRecords
 IsBypassRecorded LiveLinks Stages HasStage Told Moves Terminals HasTerminal EndPlaces HasEndsHere BooksKept RetiredEnds Gones Items Order
 ProxyNumbers FreshNumbers HasFreshNumbers Conserved HeldOnce HasNoStrays AreFlagged IsAwake AreAwake IsAgreed AreAgreed FlagsAgree
-LengthsOwe ProxyOwes control_weight AreSourced Begins HasWaker HaveWakers HaveWakersOn IsRanked IsOwing IsBounded
+Knows Keeps ProxyOwes control_weight AreSourced Begins HasWaker HaveWakers HaveWakersOn IsRanked IsOwing IsBounded
 """.split()
 # and the folder in which each lemma is one
 FOLDERS = ("lawful/",)
