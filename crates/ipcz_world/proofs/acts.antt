@@ -4,7 +4,6 @@ pub mod AcceptBypassAround
 pub mod AcceptBypassLinks
 pub mod AcceptBypassNumbers
 pub mod AcceptBypassRecords
-pub mod AcceptBypassRoles
 pub mod AcceptBypassStages
 pub mod AcceptBypassViews
 pub mod ActedWords
@@ -15,7 +14,6 @@ pub mod BegunLinks
 pub mod BegunMessages
 pub mod BegunNumbers
 pub mod BegunRecords
-pub mod BegunRoles
 pub mod BegunStages
 pub mod BegunWorld
 pub mod BypassAsked
@@ -25,7 +23,6 @@ pub mod BypassPeerLinks
 pub mod BypassPeerMessages
 pub mod BypassPeerNumbers
 pub mod BypassPeerRecords
-pub mod BypassPeerRoles
 pub mod BypassPeerStages
 pub mod CallReplies
 pub mod CallSteps

@@ -15,8 +15,7 @@ use Rattle.ipcz_world.proofs.frames.Sealing.{conserved_of, held_once_of, no_stra
 use Rattle.ipcz_world.proofs.acts.AcceptBypassAround.{CanAccept, here, on, is}
 use Rattle.ipcz_world.proofs.acts.AcceptBypassViews.{at_o, like, changed, agree, carried, places}
 use Rattle.ipcz_world.proofs.acts.AcceptBypassNumbers.{items-accept, order-accept, proxy_numbers-accept, fresh_numbers-accept}
-use Rattle.ipcz_world.proofs.acts.AcceptBypassLinks.{counts-accept}
-use Rattle.ipcz_world.proofs.acts.AcceptBypassRoles.{bypasses, roles-accept, begun-accept}
+use Rattle.ipcz_world.proofs.acts.AcceptBypassLinks.{counts-accept, bypasses, roles-accept, begun-accept}
 use Rattle.ipcz_world.proofs.acts.AcceptBypassStages.{retired-accept, gones-accept, stands-accept, words-accept, stages-accept, told-accept, descriptors}
 use Rattle.ipcz_world.proofs.facts.Updates.{tells_stop}
 

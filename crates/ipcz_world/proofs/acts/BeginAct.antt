@@ -16,8 +16,7 @@ use Rattle.ipcz_world.proofs.facts.Updates.{CanAct, begin_act}
 use Rattle.ipcz_world.proofs.acts.Beginning.{CanBegin, Begins, begins-of}
 use Rattle.ipcz_world.proofs.acts.BegunWorld.{Sends, sends-push}
 use Rattle.ipcz_world.proofs.acts.BegunAround.{IsBegunFrom, begun-from}
-use Rattle.ipcz_world.proofs.acts.BegunLinks.{counts-begun, shape-begun}
-use Rattle.ipcz_world.proofs.acts.BegunRoles.{roles-begun, begun-begun}
+use Rattle.ipcz_world.proofs.acts.BegunLinks.{counts-begun, shape-begun, roles-begun, begun-begun}
 use Rattle.ipcz_world.proofs.acts.BegunStages.{stands-begun, words-begun, spares-begun, bypasses-begun, stages-begun}
 use Rattle.ipcz_world.proofs.acts.BegunNumbers.{begin_message, ordered-begun, moves-begun, terminals-begun, end_places-begun, books-begun}
 use Rattle.ipcz_world.proofs.acts.BegunNumbers.{items-begun, order-begun, proxy_numbers-begun, fresh_numbers-begun, conserved-begun}

@@ -15,8 +15,7 @@ use Rattle.ipcz_world.proofs.frames.Sealing.{ordered_of, moves_of as moves_law, 
 use Rattle.ipcz_world.proofs.frames.Sealing.{held_once_of, no_strays_of, Sealed, Closed}
 use Rattle.ipcz_world.proofs.acts.BypassPeerAround.{CanPeer, like, changed}
 use Rattle.ipcz_world.proofs.acts.BypassPeerRecords.{bypasses-peer, counts-peer}
-use Rattle.ipcz_world.proofs.acts.BypassPeerLinks.{shape-peer}
-use Rattle.ipcz_world.proofs.acts.BypassPeerRoles.{roles-peer, begun-peer}
+use Rattle.ipcz_world.proofs.acts.BypassPeerLinks.{shape-peer, roles-peer, begun-peer}
 use Rattle.ipcz_world.proofs.acts.BypassPeerStages.{stands-peer, words-peer, spares-peer, stages-peer, terminals-peer}
 use Rattle.ipcz_world.proofs.acts.BypassPeerNumbers.{carried, items-peer, order-peer, proxy_numbers-peer, fresh_numbers-peer}
 use Rattle.ipcz_world.proofs.acts.BypassPeerMessages.{refl-agree, places, descriptors, told-peer, moves-peer, places_g}
