@@ -23,12 +23,17 @@ impl Case {
     }
 }
 
+/// The cases. (Each function that names the list itself is dear to prove, since its texts stand in the proof.)
+pub fn cases() -> &'static [Case] {
+    &CASES
+}
+
 /// What a list gives has to be this. (A test that asserts this itself is several times as dear to prove.)
 pub fn gives(rt: &impl Abort, got: Option<usize>, want: Option<usize>) {
     assert_eq!(rt; got, want);
 }
 
-pub static CASES: [Case; 28] = [
+static CASES: [Case; 28] = [
     Case {
         shows: "two parcels on one pair",
         script: r#"{"nodes":1,"words":1,"commands":[["open",0,"x","y"],["put","x","a"],["put","x","b"],["get","y"],["settle",100],["get","y"],["get","y"],["get","y"]]}"#,

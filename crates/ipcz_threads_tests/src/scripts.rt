@@ -1,6 +1,6 @@
 //! Scripts on one thread.
 
-use crate::cases::{CASES, gives};
+use crate::cases::{cases, gives};
 use ipcz_device::Device;
 use ipcz_script::{Outcome, RunFault, ScriptFault, run_script};
 use std::alloc::Global;
@@ -21,7 +21,7 @@ fn ends(alloc: Global, script: &[u8], want: Outcome, text: &str) -> bool {
 
 // The first case that ends or writes otherwise.
 fn first_other_case(alloc: Global) -> Option<usize> {
-    for (i, case) in CASES.iter().enumerate() {
+    for (i, case) in cases().iter().enumerate() {
         if !ends(
             alloc,
             case.script.as_bytes(),

@@ -2,7 +2,7 @@
 
 ghost use Rattle.std.specs.Prelude.{◌≡◌, length};
 
-use crate::cases::{CASES, gives};
+use crate::cases::{cases, gives};
 use ipcz_device::Device;
 use ipcz_fabric::Gate;
 use ipcz_script::{Outcome, RunFault};
@@ -55,7 +55,7 @@ fn ends<R: Threads + Sync>(
 
 // The first case that is for threads and ends or writes otherwise.
 fn first_other<R: Threads + Sync>(rt: &R, alloc: Global) -> Option<usize> {
-    for (i, case) in CASES.iter().enumerate() {
+    for (i, case) in cases().iter().enumerate() {
         let (script, text) = (case.script.as_bytes(), case.transcript.as_bytes());
         if case.on_threads && !ends(rt, alloc, script, case.outcome(), text) {
             return Some(i);
