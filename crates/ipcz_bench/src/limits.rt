@@ -3,7 +3,7 @@ use crate::fault::Fault;
 use crate::trial::Portal;
 use ipcz_base::{Bytes, End, Ends, Refusal, Side};
 use ipcz_world::{Reply, Settled, Step, World};
-use std::alloc::Global;
+use std::alloc::{AllocError, Global};
 
 /// How many link words a world has, and of how many pairs its calls are.
 const WORDS: u32 = 64;
@@ -58,6 +58,24 @@ struct Drawn {
     carried: u64,
 }
 
+// The lists of a parcel, with a portal or none.
+fn lists(alloc: Global, carried: Option<End>) -> Result<(Bytes, Ends), AllocError> {
+    let bytes = Bytes::from_slice(alloc, b"xxxx")?;
+    let ends = match carried {
+        Some(end) => Vec::from_slice(alloc, &[end])?,
+        None => Vec::new(alloc),
+    };
+    Ok((bytes, Ends::from_vec(ends)))
+}
+
+// Whether a parcel was got that has portals.
+fn brings_portals(reply: &Reply) -> bool {
+    match reply {
+        Reply::Got(_, parcel) => parcel.ends.as_slice().len() > 0,
+        _ => false,
+    }
+}
+
 impl Drawn {
     // A world of one to four nodes with nothing in it.
     fn new(alloc: Global, draw: &mut Draw, moves: bool) -> Result<Self, Refusal> {
@@ -76,13 +94,9 @@ impl Drawn {
 
     // Puts a parcel, with a portal or none; a put that is refused does nothing.
     fn put(&mut self, alloc: Global, at: Portal, carried: Option<End>) -> Result<(), Fault> {
-        let bytes = Bytes::from_slice(alloc, b"xxxx")?;
-        let mut ends = Vec::new(alloc);
-        if let Some(end) = carried {
-            ends.push(end)?;
-        }
-        let put = self.world.put(at.node, at.end, bytes, Ends::from_vec(ends));
-        if carried.is_some() && put.is_ok() {
+        let (bytes, ends) = lists(alloc, carried)?;
+        let is_put = self.world.put(at.node, at.end, bytes, ends).is_ok();
+        if carried.is_some() && is_put {
             self.carried = self.carried.saturating_add(1);
         }
         Ok(())
@@ -94,10 +108,8 @@ impl Drawn {
             node: at.node,
             at: at.end,
         });
-        if let Reply::Got(_, parcel) = got {
-            if parcel.ends.as_slice().len() > 0 {
-                self.carried = self.carried.saturating_sub(1);
-            }
+        if brings_portals(&got) {
+            self.carried = self.carried.saturating_sub(1);
         }
     }
 

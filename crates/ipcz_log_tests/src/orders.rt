@@ -1,52 +1,56 @@
 //! What is said of several logs, of which only the order within each is known.
 
+use crate::verdicts::gives;
 use ipcz_base::{Bytes, Profile, Refusal, Sequence};
 use ipcz_script::Text;
 use ipcz_verdict::{Entry, Found, Line, Logs};
 use std::alloc::{AllocError, Global};
 
-// A parcel without portals that is put, or got, at a first pair's portal.
-#[derive(Drop)]
-struct Parcel {
-    node: u8,
-    at: &'static str,
-    bytes: &'static str,
-    number: u64,
-}
-
-// What stands in a log.
-#[derive(Drop)]
+// What stands in a log: parcels without portals go from node 1 to node 0, by the portals of the first pair.
+#[derive(Clone, Copy)]
 enum Call {
-    Put(Parcel),
-    Got(Parcel),
+    // Node 1 puts a parcel of these bytes, which gets this number.
+    Put(&'static str, u64),
+    // Node 0 gets it.
+    Got(&'static str, u64),
     // The portal of a first pair at node 0 is closed, where nothing was put at it.
     Closed(&'static str),
     // A get at such a portal finds that its peer is closed.
     IsOver(&'static str),
 }
 
-fn line_of(alloc: Global, call: &Call) -> Result<Line, AllocError> {
+use Call::{Closed, Got, IsOver, Put};
+
+fn put_line(alloc: Global, bytes: &str, number: u64) -> Result<Line, AllocError> {
+    Ok(Line::Put {
+        node: 1,
+        at: Text::copy_of(alloc, "1>0")?,
+        bytes: Bytes::from_slice(alloc, bytes.as_bytes())?,
+        portals: Sequence::from_vec(Vec::new(alloc)),
+        number,
+    })
+}
+
+fn got_line(alloc: Global, bytes: &str, number: u64) -> Result<Line, AllocError> {
+    Ok(Line::Got {
+        node: 0,
+        at: Text::copy_of(alloc, "0>1")?,
+        bytes: Bytes::from_slice(alloc, bytes.as_bytes())?,
+        portals: Sequence::from_vec(Vec::new(alloc)),
+        number,
+    })
+}
+
+fn line_of(alloc: Global, call: Call) -> Result<Line, AllocError> {
     match call {
-        Call::Put(parcel) => Ok(Line::Put {
-            node: parcel.node,
-            at: Text::copy_of(alloc, parcel.at)?,
-            bytes: Bytes::from_slice(alloc, parcel.bytes.as_bytes())?,
-            portals: Sequence::from_vec(Vec::new(alloc)),
-            number: parcel.number,
-        }),
-        Call::Got(parcel) => Ok(Line::Got {
-            node: parcel.node,
-            at: Text::copy_of(alloc, parcel.at)?,
-            bytes: Bytes::from_slice(alloc, parcel.bytes.as_bytes())?,
-            portals: Sequence::from_vec(Vec::new(alloc)),
-            number: parcel.number,
-        }),
-        Call::Closed(at) => Ok(Line::Closed {
+        Put(bytes, number) => put_line(alloc, bytes, number),
+        Got(bytes, number) => got_line(alloc, bytes, number),
+        Closed(at) => Ok(Line::Closed {
             node: 0,
             at: Text::copy_of(alloc, at)?,
             number: 0,
         }),
-        Call::IsOver(at) => Ok(Line::GetRefused {
+        IsOver(at) => Ok(Line::GetRefused {
             node: 0,
             at: Text::copy_of(alloc, at)?,
             why: Refusal::PeerClosed,
@@ -54,139 +58,125 @@ fn line_of(alloc: Global, call: &Call) -> Result<Line, AllocError> {
     }
 }
 
-// What is found of these lines of logs on three nodes, which are numbered from 1 on, in so many steps.
-fn found(alloc: Global, calls: &[(u8, Call)], steps: u64) -> Result<Found, AllocError> {
+// Logs with these lines, which are numbered from 1 on.
+fn logs_of(alloc: Global, calls: &[(u8, Call)]) -> Result<Logs, AllocError> {
     let mut logs = Logs::new(alloc)?;
     for (i, (log, call)) in calls.iter().enumerate() {
         if *log < 64 {
             logs.push(Entry {
                 log: *log,
                 number: (i as u64).saturating_add(1),
-                line: line_of(alloc, call)?,
+                line: line_of(alloc, *call)?,
             })?;
         }
     }
+    Ok(logs)
+}
+
+// What is found of these lines of logs on three nodes, in so many steps.
+fn found(alloc: Global, calls: &[(u8, Call)], steps: u64) -> Result<Found, AllocError> {
+    let mut logs = logs_of(alloc, calls)?;
     logs.find_order(alloc, 3, Profile::Wide, steps)
 }
 
-fn put(bytes: &'static str, number: u64) -> Call {
-    Call::Put(Parcel {
-        node: 1,
-        at: "1>0",
-        bytes,
-        number,
-    })
+// The lines of logs, how many steps may be taken, and what is to be found.
+type Row = (&'static [(u8, Call)], u64, Found);
+
+// The first row of which something else is found.
+fn first_other(alloc: Global, rows: &[Row]) -> Option<usize> {
+    for (i, (calls, steps, want)) in rows.iter().enumerate() {
+        if found(alloc, *calls, *steps) != Ok(*want) {
+            return Some(i);
+        }
+    }
+    None
 }
 
-fn got(bytes: &'static str, number: u64) -> Call {
-    Call::Got(Parcel {
-        node: 0,
-        at: "0>1",
-        bytes,
-        number,
-    })
-}
+static ORDERS: [Row; 2] = [
+    // what is got stands before what is put
+    (&[(0, Got("a", 0)), (1, Put("a", 0))], 1000, Found::Order),
+    // two threads put at one portal, in the order that the numbers tell
+    (
+        &[
+            (0, Put("b", 1)),
+            (0, Put("c", 2)),
+            (63, Put("a", 0)),
+            (63, Put("d", 3)),
+            (7, Got("a", 0)),
+            (7, Got("b", 1)),
+        ],
+        1000,
+        Found::Order,
+    ),
+];
 
 #[test]
 fn finds_an_order_that_no_log_has(rt: HostRuntime) {
-    // what is got stands before what is put
-    assert_eq!(rt;
-        found(rt.alloc(), &[(0, got("a", 0)), (1, put("a", 0))], 1000),
-        Ok(Found::Order)
-    );
-    // two threads put at one portal, in the order that the numbers tell
-    assert_eq!(rt;
-        found(
-            rt.alloc(),
-            &[
-                (0, put("b", 1)),
-                (0, put("c", 2)),
-                (63, put("a", 0)),
-                (63, put("d", 3)),
-                (7, got("a", 0)),
-                (7, got("b", 1))
-            ],
-            1000
-        ),
-        Ok(Found::Order)
-    );
+    gives(&rt, first_other(rt.alloc(), &ORDERS), None);
 }
+
+// Of the two closes the one that is tried first must come last: after it nothing can be got at its portal.
+static CLOSES: [Row; 1] = [(
+    &[
+        (0, Closed("0>1")),
+        (1, Closed("0>2")),
+        (1, Put("a", 0)),
+        (2, Got("a", 0)),
+    ],
+    1000,
+    Found::Order,
+)];
 
 #[test]
 fn takes_a_close_back(rt: HostRuntime) {
-    // of the two closes the one that is tried first must come last: after it nothing can be got at its portal
-    assert_eq!(rt;
-        found(
-            rt.alloc(),
-            &[
-                (0, Call::Closed("0>1")),
-                (1, Call::Closed("0>2")),
-                (1, put("a", 0)),
-                (2, got("a", 0))
-            ],
-            1000
-        ),
-        Ok(Found::Order)
-    );
+    gives(&rt, first_other(rt.alloc(), &CLOSES), None);
 }
+
+static NO_ORDERS: [Row; 5] = [
+    (
+        &[(0, Put("a", 0)), (1, Got("b", 0))],
+        1000,
+        Found::NoOrder(2),
+    ),
+    // each log's own order is kept
+    (
+        &[
+            (0, Put("a", 0)),
+            (0, Put("b", 1)),
+            (1, Got("b", 1)),
+            (1, Got("a", 0)),
+        ],
+        1000,
+        Found::NoOrder(3),
+    ),
+    (
+        &[(0, IsOver("0>1")), (1, Put("a", 0))],
+        1000,
+        Found::NoOrder(1),
+    ),
+    // no line may be passed over, and none taken twice
+    (&[(0, Put("a", 1))], 1000, Found::NoOrder(1)),
+    (
+        &[(0, Put("a", 0)), (1, Got("a", 0)), (2, Got("a", 0))],
+        1000,
+        Found::NoOrder(3),
+    ),
+];
 
 #[test]
 fn refuses_what_no_order_allows(rt: HostRuntime) {
-    assert_eq!(rt;
-        found(rt.alloc(), &[(0, put("a", 0)), (1, got("b", 0))], 1000),
-        Ok(Found::NoOrder(2))
-    );
-    // each log's own order is kept
-    assert_eq!(rt;
-        found(
-            rt.alloc(),
-            &[
-                (0, put("a", 0)),
-                (0, put("b", 1)),
-                (1, got("b", 1)),
-                (1, got("a", 0))
-            ],
-            1000
-        ),
-        Ok(Found::NoOrder(3))
-    );
-    assert_eq!(rt;
-        found(
-            rt.alloc(),
-            &[(0, Call::IsOver("0>1")), (1, put("a", 0))],
-            1000
-        ),
-        Ok(Found::NoOrder(1))
-    );
-    // no line may be passed over, and none taken twice
-    assert_eq!(rt;
-        found(rt.alloc(), &[(0, put("a", 1))], 1000),
-        Ok(Found::NoOrder(1))
-    );
-    assert_eq!(rt;
-        found(
-            rt.alloc(),
-            &[(0, put("a", 0)), (1, got("a", 0)), (2, got("a", 0))],
-            1000
-        ),
-        Ok(Found::NoOrder(3))
-    );
+    gives(&rt, first_other(rt.alloc(), &NO_ORDERS), None);
 }
+
+static STEPS: [Row; 5] = [
+    (&[], 0, Found::Untold),
+    (&[], 1, Found::Order),
+    (&[(0, Got("a", 0)), (1, Put("a", 0))], 2, Found::Untold),
+    (&[(0, Got("a", 0)), (1, Put("a", 0))], 3, Found::Order),
+    (&[(0, Put("a", 0)), (1, Got("b", 0))], 1, Found::Untold),
+];
 
 #[test]
 fn tells_nothing_without_steps(rt: HostRuntime) {
-    assert_eq!(rt; found(rt.alloc(), &[], 0), Ok(Found::Untold));
-    assert_eq!(rt; found(rt.alloc(), &[], 1), Ok(Found::Order));
-    assert_eq!(rt;
-        found(rt.alloc(), &[(0, got("a", 0)), (1, put("a", 0))], 2),
-        Ok(Found::Untold)
-    );
-    assert_eq!(rt;
-        found(rt.alloc(), &[(0, got("a", 0)), (1, put("a", 0))], 3),
-        Ok(Found::Order)
-    );
-    assert_eq!(rt;
-        found(rt.alloc(), &[(0, put("a", 0)), (1, got("b", 0))], 1),
-        Ok(Found::Untold)
-    );
+    gives(&rt, first_other(rt.alloc(), &STEPS), None);
 }

@@ -1,5 +1,6 @@
 //! Logs that come in pieces.
 
+use crate::verdicts::gives;
 use ipcz_device::slow::SlowReader;
 use ipcz_device::{Device, Fault};
 use ipcz_log::program::{Asked, run_program};
@@ -32,38 +33,34 @@ fn first_other(alloc: Global, text: &str, want: Verdict) -> Option<usize> {
     None
 }
 
+// Texts, and what is said of them in pieces of any size.
+static TEXTS: [(&str, Verdict); 8] = [
+    (REFUSED, Verdict::Refused(3)),
+    ("{\"nodes\":2}", Verdict::Allowed),
+    ("{\"nodes\":2}\n", Verdict::Allowed),
+    ("{\"nodes\":2}\n\n", Verdict::NoLog(2)),
+    ("{\"nodes\":2}\n{}", Verdict::NoLog(2)),
+    ("\n{\"nodes\":2}\n", Verdict::NoLog(1)),
+    ("", Verdict::NoLog(1)),
+    (
+        "{\"nodes\":2,\"logs\":2}\n{\"log\":1,\"node\":1,\"op\":\"get\",\"at\":\"1>0\",\"bytes\":\"a\",\"n\":0}\n{\"log\":0,\"node\":0,\"op\":\"put\",\"at\":\"0>1\",\"bytes\":\"a\",\"n\":0}",
+        Verdict::Allowed,
+    ),
+];
+
+// The first text of which something else is said in pieces of some size.
+fn first_other_text(alloc: Global) -> Option<usize> {
+    for (i, (text, want)) in TEXTS.iter().enumerate() {
+        if first_other(alloc, *text, *want).is_some() {
+            return Some(i);
+        }
+    }
+    None
+}
+
 #[test]
 fn says_the_same_of_any_pieces(rt: HostRuntime) {
-    assert_eq!(rt; first_other(rt.alloc(), REFUSED, Verdict::Refused(3)), None);
-    assert_eq!(rt;
-        first_other(rt.alloc(), "{\"nodes\":2}", Verdict::Allowed),
-        None
-    );
-    assert_eq!(rt;
-        first_other(rt.alloc(), "{\"nodes\":2}\n", Verdict::Allowed),
-        None
-    );
-    assert_eq!(rt;
-        first_other(rt.alloc(), "{\"nodes\":2}\n\n", Verdict::NoLog(2)),
-        None
-    );
-    assert_eq!(rt;
-        first_other(rt.alloc(), "{\"nodes\":2}\n{}", Verdict::NoLog(2)),
-        None
-    );
-    assert_eq!(rt;
-        first_other(rt.alloc(), "\n{\"nodes\":2}\n", Verdict::NoLog(1)),
-        None
-    );
-    assert_eq!(rt; first_other(rt.alloc(), "", Verdict::NoLog(1)), None);
-    assert_eq!(rt;
-        first_other(
-            rt.alloc(),
-            "{\"nodes\":2,\"logs\":2}\n{\"log\":1,\"node\":1,\"op\":\"get\",\"at\":\"1>0\",\"bytes\":\"a\",\"n\":0}\n{\"log\":0,\"node\":0,\"op\":\"put\",\"at\":\"0>1\",\"bytes\":\"a\",\"n\":0}",
-            Verdict::Allowed
-        ),
-        None
-    );
+    gives(&rt, first_other_text(rt.alloc()), None);
 }
 
 // A log of one put of so many bytes, which is got with one of them less or not.
@@ -89,53 +86,60 @@ fn long_verdict(alloc: Global, put: usize, got: usize) -> Result<Verdict, Fault>
     judge_log(alloc, &mut Device::new(log.as_bytes()))
 }
 
+// How many bytes are put and got, and what is said of that.
+static LONG_LINES: [(usize, usize, Verdict); 4] = [
+    (20_000, 20_000, Verdict::Allowed),
+    (20_000, 19_999, Verdict::Refused(3)),
+    (65_536, 65_536, Verdict::Allowed),
+    (65_537, 65_537, Verdict::Refused(2)),
+];
+
+// The first of these of which something else is said.
+fn first_other_length(alloc: Global) -> Option<usize> {
+    for (i, (put, got, want)) in LONG_LINES.iter().enumerate() {
+        if long_verdict(alloc, *put, *got) != Ok(*want) {
+            return Some(i);
+        }
+    }
+    None
+}
+
 #[test]
 fn joins_lines_that_are_longer_than_pieces(rt: HostRuntime) {
-    assert_eq!(rt;
-        long_verdict(rt.alloc(), 20_000, 20_000),
-        Ok(Verdict::Allowed)
-    );
-    assert_eq!(rt;
-        long_verdict(rt.alloc(), 20_000, 19_999),
-        Ok(Verdict::Refused(3))
-    );
-    assert_eq!(rt;
-        long_verdict(rt.alloc(), 65_536, 65_536),
-        Ok(Verdict::Allowed)
-    );
-    assert_eq!(rt;
-        long_verdict(rt.alloc(), 65_537, 65_537),
-        Ok(Verdict::Refused(2))
-    );
+    gives(&rt, first_other_length(rt.alloc()), None);
+}
+
+// Texts that are read byte by byte, how many reads may be made before one fails, and what is said.
+static READS: [(&str, usize, Result<Verdict, Fault>); 7] = [
+    // the third line ends in the 114th byte: one read more would fail
+    (REFUSED, 113, Err(Fault::Read)),
+    (REFUSED, 114, Ok(Verdict::Refused(3))),
+    // of several logs, too, the first that is none
+    (
+        "{\"nodes\":1,\"logs\":1}\n7\n8\n",
+        23,
+        Ok(Verdict::NoLog(2)),
+    ),
+    ("7\n8\n", 2, Ok(Verdict::NoLog(1))),
+    // else all is read, and that nothing comes behind it
+    ("{\"nodes\":1}\n", 12, Err(Fault::Read)),
+    ("{\"nodes\":1}\n", 13, Ok(Verdict::Allowed)),
+    ("{\"nodes\":1}", 12, Ok(Verdict::Allowed)),
+];
+
+// The first of these texts of which something else is said.
+fn first_other_read(alloc: Global) -> Option<usize> {
+    for (i, (text, reads, want)) in READS.iter().enumerate() {
+        if judged(alloc, *text, 1, *reads) != *want {
+            return Some(i);
+        }
+    }
+    None
 }
 
 #[test]
 fn reads_up_to_the_line_that_decides(rt: HostRuntime) {
-    // the third line ends in the 114th byte: one read more would fail
-    assert_eq!(rt; judged(rt.alloc(), REFUSED, 1, 113), Err(Fault::Read));
-    assert_eq!(rt;
-        judged(rt.alloc(), REFUSED, 1, 114),
-        Ok(Verdict::Refused(3))
-    );
-    // of several logs, too, the first that is none
-    assert_eq!(rt;
-        judged(rt.alloc(), "{\"nodes\":1,\"logs\":1}\n7\n8\n", 1, 23),
-        Ok(Verdict::NoLog(2))
-    );
-    assert_eq!(rt; judged(rt.alloc(), "7\n8\n", 1, 2), Ok(Verdict::NoLog(1)));
-    // else all is read, and that nothing comes behind it
-    assert_eq!(rt;
-        judged(rt.alloc(), "{\"nodes\":1}\n", 1, 12),
-        Err(Fault::Read)
-    );
-    assert_eq!(rt;
-        judged(rt.alloc(), "{\"nodes\":1}\n", 1, 13),
-        Ok(Verdict::Allowed)
-    );
-    assert_eq!(rt;
-        judged(rt.alloc(), "{\"nodes\":1}", 1, 12),
-        Ok(Verdict::Allowed)
-    );
+    gives(&rt, first_other_read(rt.alloc()), None);
 }
 
 // Whether a log that can't be read to the end of its second line gets status 1, and nothing is written.

@@ -1,5 +1,6 @@
 //! With which status the program ends, and what it writes.
 
+use crate::verdicts::gives;
 use ipcz_device::Device;
 use ipcz_device::slow::SlowReader;
 use ipcz_log::program::{Asked, run_program};
@@ -17,33 +18,35 @@ fn says(alloc: Global, log: &str, status: u8, text: &str) -> bool {
     ended == status && out.as_slice() == text.as_bytes()
 }
 
+// Logs, the status that each gets, and the text.
+static STATUSES: [(&str, u8, &str); 4] = [
+    ("{\"nodes\":1}\n", 0, "allowed\n"),
+    (
+        "{\"nodes\":1}\n{\"node\":0,\"op\":\"close\",\"at\":\"x\",\"n\":0}",
+        2,
+        "line 2: refused\n",
+    ),
+    ("{\"nodes\":1}\n7", 2, "line 2: no line of a log\n"),
+    (
+        "{\"nodes\":1,\"logs\":1}\n{\"log\":0,\"node\":0,\"op\":\"close\",\"at\":\"x\",\"n\":0}",
+        2,
+        "line 2: refused in every order\n",
+    ),
+];
+
+// The first log that gets another status or text.
+fn first_other(alloc: Global) -> Option<usize> {
+    for (i, (log, status, text)) in STATUSES.iter().enumerate() {
+        if !says(alloc, *log, *status, *text) {
+            return Some(i);
+        }
+    }
+    None
+}
+
 #[test]
 fn ends_with_the_status_of_the_verdict(rt: HostRuntime) {
-    assert!(rt; says(rt.alloc(), "{\"nodes\":1}\n", 0, "allowed\n"));
-    assert!(rt;
-        says(
-            rt.alloc(),
-            "{\"nodes\":1}\n{\"node\":0,\"op\":\"close\",\"at\":\"x\",\"n\":0}",
-            2,
-            "line 2: refused\n"
-        )
-    );
-    assert!(rt;
-        says(
-            rt.alloc(),
-            "{\"nodes\":1}\n7",
-            2,
-            "line 2: no line of a log\n"
-        )
-    );
-    assert!(rt;
-        says(
-            rt.alloc(),
-            "{\"nodes\":1,\"logs\":1}\n{\"log\":0,\"node\":0,\"op\":\"close\",\"at\":\"x\",\"n\":0}",
-            2,
-            "line 2: refused in every order\n"
-        )
-    );
+    gives(&rt, first_other(rt.alloc()), None);
 }
 
 // The status where a read fails.

@@ -3,8 +3,9 @@
 use ipcz_device::{Device, Fault};
 use ipcz_log::{Verdict, judge_log};
 use std::alloc::{AllocError, Global};
+use std::process::Abort;
 
-const ALLOWED: [&str; 8] = [
+static ALLOWED: [&str; 8] = [
     "{\"nodes\":1}",
     "{\"nodes\":8,\"profile\":\"printed\",\"of\":[1]}\n",
     // a parcel waits, and its number is told where it is got
@@ -25,7 +26,7 @@ const PUT: &str =
     "{\"nodes\":2}\n{\"node\":0,\"op\":\"put\",\"at\":\"0>1\",\"bytes\":\"a\",\"n\":0}\n{\"node\":0,\"op\":\"put\",\"at\":\"0>1\",\"bytes\":\"b\",\"n\":1}\n";
 
 // Behind these three lines each of these is refused.
-const REFUSED: [&str; 12] = [
+static REFUSED: [&str; 12] = [
     // lost, overtaken, changed, doubled
     "{\"node\":1,\"op\":\"get\",\"at\":\"1>0\",\"bytes\":\"b\",\"n\":1}",
     "{\"node\":1,\"op\":\"get\",\"at\":\"1>0\",\"bytes\":\"b\",\"n\":0}",
@@ -45,7 +46,7 @@ const REFUSED: [&str; 12] = [
 ];
 
 // Behind them each of these is no line.
-const NO_LINES: [&str; 12] = [
+static NO_LINES: [&str; 12] = [
     "",
     "{}",
     "[]",
@@ -91,33 +92,35 @@ fn first_other_behind(alloc: Global, lines: &[&str], want: Verdict) -> Option<us
     None
 }
 
+/// What a list of rows gives has to be this. (A test that asserts this itself is several times as dear to prove.)
+pub(crate) fn gives(rt: &impl Abort, got: Option<usize>, want: Option<usize>) {
+    assert_eq!(rt; got, want);
+}
+
 #[test]
 fn allows_what_the_promise_allows(rt: HostRuntime) {
-    assert_eq!(rt; first_other(rt.alloc(), &ALLOWED, Verdict::Allowed), None);
+    gives(
+        &rt,
+        first_other(rt.alloc(), &ALLOWED, Verdict::Allowed),
+        None,
+    );
 }
 
 #[test]
 fn refuses_what_it_does_not_allow(rt: HostRuntime) {
-    assert_eq!(rt;
-        first_other_behind(rt.alloc(), &REFUSED, Verdict::Refused(4)),
-        None
-    );
+    let first = first_other_behind(rt.alloc(), &REFUSED, Verdict::Refused(4));
+    gives(&rt, first, None);
 }
+
+// What no log begins with.
+static NO_HEADERS: [&str; 5] = ["", "{}", "{\"nodes\":0}", "{\"nodes\":9}", "2"];
 
 #[test]
 fn tells_what_is_no_line(rt: HostRuntime) {
-    assert_eq!(rt;
-        first_other_behind(rt.alloc(), &NO_LINES, Verdict::NoLog(4)),
-        None
-    );
-    assert_eq!(rt;
-        first_other(
-            rt.alloc(),
-            &["", "{}", "{\"nodes\":0}", "{\"nodes\":9}", "2"],
-            Verdict::NoLog(1)
-        ),
-        None
-    );
+    let first = first_other_behind(rt.alloc(), &NO_LINES, Verdict::NoLog(4));
+    gives(&rt, first, None);
+    let first_header = first_other(rt.alloc(), &NO_HEADERS, Verdict::NoLog(1));
+    gives(&rt, first_header, None);
 }
 
 // The lines of two logs: what the one gets the other puts.
@@ -130,62 +133,58 @@ fn together(alloc: Global, header: &str, line: &str) -> Result<Verdict, Fault> {
     judged(alloc, text.as_str())
 }
 
+// Headers, a line more, and what is said.
+type Together = (&'static str, &'static str, Verdict);
+
+// The first row of which something else is said.
+fn first_other_together(alloc: Global, rows: &[Together]) -> Option<usize> {
+    for (i, (header, line, want)) in rows.iter().enumerate() {
+        if together(alloc, *header, *line) != Ok(*want) {
+            return Some(i);
+        }
+    }
+    None
+}
+
+static TOGETHER: [Together; 6] = [
+    ("{\"nodes\":2,\"logs\":2}", "", Verdict::Allowed),
+    (
+        "{\"nodes\":2,\"logs\":2}",
+        "{\"log\":0,\"node\":1,\"op\":\"get\",\"at\":\"1>0\",\"bytes\":\"b\",\"n\":1}",
+        Verdict::Allowed,
+    ),
+    // what was put as number 1 is got as number 0
+    (
+        "{\"nodes\":2,\"logs\":2}",
+        "{\"log\":1,\"node\":1,\"op\":\"get\",\"at\":\"1>0\",\"bytes\":\"b\",\"n\":0}",
+        Verdict::NoOrder(6),
+    ),
+    // one log, in its one order, and no number of logs
+    ("{\"nodes\":2}", "", Verdict::Refused(2)),
+    ("{\"nodes\":2,\"logs\":\"two\"}", "", Verdict::Refused(2)),
+    ("{\"nodes\":2,\"logs\":1}", "", Verdict::NoLog(4)),
+];
+
 #[test]
 fn judges_logs_without_an_order_between_them(rt: HostRuntime) {
-    let two = "{\"nodes\":2,\"logs\":2}";
-    assert_eq!(rt; together(rt.alloc(), two, ""), Ok(Verdict::Allowed));
-    assert_eq!(rt;
-        together(
-            rt.alloc(),
-            two,
-            "{\"log\":0,\"node\":1,\"op\":\"get\",\"at\":\"1>0\",\"bytes\":\"b\",\"n\":1}"
-        ),
-        Ok(Verdict::Allowed)
-    );
-    // what was put as number 1 is got as number 0
-    assert_eq!(rt;
-        together(
-            rt.alloc(),
-            two,
-            "{\"log\":1,\"node\":1,\"op\":\"get\",\"at\":\"1>0\",\"bytes\":\"b\",\"n\":0}"
-        ),
-        Ok(Verdict::NoOrder(6))
-    );
-    // one log, in its one order, and no number of logs
-    assert_eq!(rt;
-        together(rt.alloc(), "{\"nodes\":2}", ""),
-        Ok(Verdict::Refused(2))
-    );
-    assert_eq!(rt;
-        together(rt.alloc(), "{\"nodes\":2,\"logs\":\"two\"}", ""),
-        Ok(Verdict::Refused(2))
-    );
-    assert_eq!(rt;
-        together(rt.alloc(), "{\"nodes\":2,\"logs\":1}", ""),
-        Ok(Verdict::NoLog(4))
-    );
+    gives(&rt, first_other_together(rt.alloc(), &TOGETHER), None);
 }
+
+static NO_LINES_TOGETHER: [Together; 4] = [
+    ("{\"nodes\":2,\"logs\":2}", "7", Verdict::NoLog(6)),
+    (
+        "{\"nodes\":2,\"logs\":2}",
+        "{\"node\":0,\"op\":\"open\",\"refused\":\"NoWord\"}",
+        Verdict::NoLog(6),
+    ),
+    ("{\"nodes\":2,\"logs\":0}", "", Verdict::NoLog(1)),
+    ("{\"nodes\":2,\"logs\":65}", "", Verdict::NoLog(1)),
+];
 
 #[test]
 fn tells_what_is_no_line_of_several_logs(rt: HostRuntime) {
-    let two = "{\"nodes\":2,\"logs\":2}";
-    assert_eq!(rt; together(rt.alloc(), two, "7"), Ok(Verdict::NoLog(6)));
-    assert_eq!(rt;
-        together(
-            rt.alloc(),
-            two,
-            "{\"node\":0,\"op\":\"open\",\"refused\":\"NoWord\"}"
-        ),
-        Ok(Verdict::NoLog(6))
-    );
-    assert_eq!(rt;
-        together(rt.alloc(), "{\"nodes\":2,\"logs\":0}", ""),
-        Ok(Verdict::NoLog(1))
-    );
-    assert_eq!(rt;
-        together(rt.alloc(), "{\"nodes\":2,\"logs\":65}", ""),
-        Ok(Verdict::NoLog(1))
-    );
+    let first = first_other_together(rt.alloc(), &NO_LINES_TOGETHER);
+    gives(&rt, first, None);
 }
 
 // A log of so many puts, each got at once.

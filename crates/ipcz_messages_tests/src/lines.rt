@@ -1,7 +1,8 @@
 //! Transcripts that are read, and bytes that aren't.
 
-use ipcz_lines::{Event, LONGEST, Line, Link, RouterEvent, Unread, Way, WordStep, read};
-use std::test::Fail;
+use crate::told::gives;
+use ipcz_lines::{Event, LONGEST, Line, Link, ReadLine, RouterEvent, Unread, Way, WordStep, read};
+use std::alloc::Global;
 
 // One line of each form, and of each alternative in it.
 const FORMS: &[u8] = b"open x y ok
@@ -55,7 +56,7 @@ refused BadShape 3
 ";
 
 // Lines of no form.
-const NO_FORMS: [&[u8]; 36] = [
+static NO_FORMS: [&[u8]; 36] = [
     b"",
     b" ",
     b"idle",
@@ -94,25 +95,36 @@ const NO_FORMS: [&[u8]; 36] = [
     b"refused BadShape",
 ];
 
-#[test]
-fn reads_each_form(rt: HostRuntime) -> Result<(), Fail> {
-    let lines = read(rt.alloc(), FORMS)?;
-    assert_eq!(rt; lines.len(), 48);
-    for line in &lines {
-        let one = [line.text, b"\n".as_slice()].concat(rt.alloc())?;
-        assert_eq!(rt; read(rt.alloc(), one.as_slice())?.len(), 1);
+// Whether a line is read by itself.
+fn is_a_line(alloc: Global, text: &[u8]) -> bool {
+    let Ok(one) = [text, b"\n".as_slice()].concat(alloc) else {
+        return false;
+    };
+    match read(alloc, one.as_slice()) {
+        Ok(lines) => lines.len() == 1,
+        Err(_) => false,
     }
-    Ok(())
+}
+
+// How many lines are read, if each is read by itself, too.
+fn lines_read(alloc: Global, text: &[u8]) -> Option<usize> {
+    let lines = read(alloc, text).ok()?;
+    for line in &lines {
+        if !is_a_line(alloc, line.text) {
+            return None;
+        }
+    }
+    Some(lines.len())
 }
 
 #[test]
-fn tells_the_parts_of_a_line(rt: HostRuntime) -> Result<(), Fail> {
-    let lines = read(
-        rt.alloc(),
-        b"n1: r12 send in 5 P3.4 moves 1A,2B\nget 1>0 7 [y,z] \"a\"b\"\nn2: r3 wait C9 10\n",
-    )?;
-    assert_eq!(rt; lines.len(), 3);
-    match lines[0].line {
+fn reads_each_form(rt: HostRuntime) {
+    gives(&rt, lines_read(rt.alloc(), FORMS), Some(48));
+}
+
+// Whether a line is a send.
+fn is_send(line: &Line) -> bool {
+    match line {
         Line::Turn {
             node: 1,
             event: Event::Router {
@@ -124,23 +136,30 @@ fn tells_the_parts_of_a_line(rt: HostRuntime) -> Result<(), Fail> {
                     moves,
                 },
             },
-        } => assert_eq!(rt; moves, b"1A,2B".as_slice()),
-        _ => panic!(rt; "a send"),
+        } => *moves == b"1A,2B".as_slice(),
+        _ => false,
     }
-    match lines[1].line {
+}
+
+// Whether a line is a get of a parcel.
+fn is_parcel(line: &Line) -> bool {
+    match line {
         Line::Got {
             name,
             number: 7,
             names,
             data,
         } => {
-            assert_eq!(rt; name, b"1>0".as_slice());
-            assert_eq!(rt; names, b"y,z".as_slice());
-            assert_eq!(rt; data, b"a\"b".as_slice());
+            *name == b"1>0".as_slice() && *names == b"y,z".as_slice() && *data == b"a\"b".as_slice()
         }
-        _ => panic!(rt; "a parcel"),
+        _ => false,
     }
-    match lines[2].line {
+}
+
+// Whether a line is a wait.
+fn is_wait(line: &Line) -> bool {
+    matches!(
+        line,
         Line::Turn {
             node: 2,
             event: Event::Router {
@@ -151,53 +170,103 @@ fn tells_the_parts_of_a_line(rt: HostRuntime) -> Result<(), Fail> {
                     after: 10,
                 },
             },
-        } => {}
-        _ => panic!(rt; "a wait"),
-    }
-    Ok(())
+        }
+    )
 }
 
-#[test]
-fn refuses_lines_of_no_form(rt: HostRuntime) -> Result<(), Fail> {
-    for text in &NO_FORMS {
-        let input = [b"settled\n".as_slice(), text, b"\nsettled\n"].concat(rt.alloc())?;
-        let Err(why) = read(rt.alloc(), input.as_slice()) else {
-            panic!(rt; "{text:?} was read");
-        };
-        assert_eq!(rt; why, Unread::Refused { line: 2 });
-    }
-    Ok(())
-}
-
-#[test]
-fn refuses_other_bytes(rt: HostRuntime) -> Result<(), Fail> {
-    for (input, line) in [
-        (b"settled".as_slice(), 1),
-        (b"settled\nn0: idle", 2),
-        (b"get x 0 [] \"\x7f\"\n", 1),
-        (b"settled\nget x 0 [] \"\t\"\n", 2),
-        (b"\n", 1),
-    ] {
-        let Err(why) = read(rt.alloc(), input) else {
-            panic!(rt; "{input:?} was read");
-        };
-        assert_eq!(rt; why, Unread::Refused { line });
-    }
-    assert_eq!(rt; read(rt.alloc(), b"")?.len(), 0);
-    Ok(())
-}
-
-#[test]
-fn refuses_too_many_bytes(rt: HostRuntime) -> Result<(), Fail> {
-    let most = vec![in rt.alloc(); 10u8; LONGEST]?;
-    let Err(why) = read(rt.alloc(), most.as_slice()) else {
-        panic!(rt; "an empty line was read");
+// The first of three lines whose parts are others, or how many lines there are.
+fn first_other_of(lines: &[ReadLine]) -> Option<usize> {
+    let [send, parcel, wait] = lines else {
+        return None;
     };
-    assert_eq!(rt; why, Unread::Refused { line: 1 });
-    let more = vec![in rt.alloc(); 10u8; LONGEST + 1]?;
-    let Err(why) = read(rt.alloc(), more.as_slice()) else {
-        panic!(rt; "too many bytes were read");
-    };
-    assert_eq!(rt; why, Unread::Refused { line: 0 });
-    Ok(())
+    if !is_send(&send.line) {
+        return Some(0);
+    }
+    if !is_parcel(&parcel.line) {
+        return Some(1);
+    }
+    if !is_wait(&wait.line) {
+        return Some(2);
+    }
+    Some(3)
+}
+
+// The same of the lines that are read.
+fn first_other_line(alloc: Global, text: &[u8]) -> Option<usize> {
+    let lines = read(alloc, text).ok()?;
+    first_other_of(&lines)
+}
+
+#[test]
+fn tells_the_parts_of_a_line(rt: HostRuntime) {
+    let text = b"n1: r12 send in 5 P3.4 moves 1A,2B\nget 1>0 7 [y,z] \"a\"b\"\nn2: r3 wait C9 10\n";
+    gives(&rt, first_other_line(rt.alloc(), text), Some(3));
+}
+
+// The line at which bytes are refused; none if they are read.
+fn refused_at(alloc: Global, input: &[u8]) -> Option<usize> {
+    match read(alloc, input) {
+        Err(Unread::Refused { line }) => Some(line),
+        _ => None,
+    }
+}
+
+// The line at which a text is refused as the second of three lines.
+fn refused_between(alloc: Global, text: &[u8]) -> Option<usize> {
+    let input = [b"settled\n".as_slice(), text, b"\nsettled\n"]
+        .concat(alloc)
+        .ok()?;
+    refused_at(alloc, input.as_slice())
+}
+
+// The first line of no form that isn't refused.
+fn first_with_form(alloc: Global) -> Option<usize> {
+    for (i, text) in NO_FORMS.iter().enumerate() {
+        if refused_between(alloc, *text) != Some(2) {
+            return Some(i);
+        }
+    }
+    None
+}
+
+#[test]
+fn refuses_lines_of_no_form(rt: HostRuntime) {
+    gives(&rt, first_with_form(rt.alloc()), None);
+}
+
+// Bytes, and the line at which they are refused.
+static OTHER_BYTES: [(&[u8], usize); 5] = [
+    (b"settled", 1),
+    (b"settled\nn0: idle", 2),
+    (b"get x 0 [] \"\x7f\"\n", 1),
+    (b"settled\nget x 0 [] \"\t\"\n", 2),
+    (b"\n", 1),
+];
+
+// The first of these bytes that aren't refused at their line.
+fn first_refused_elsewhere(alloc: Global) -> Option<usize> {
+    for (i, (input, line)) in OTHER_BYTES.iter().enumerate() {
+        if refused_at(alloc, *input) != Some(*line) {
+            return Some(i);
+        }
+    }
+    None
+}
+
+#[test]
+fn refuses_other_bytes(rt: HostRuntime) {
+    gives(&rt, first_refused_elsewhere(rt.alloc()), None);
+    gives(&rt, lines_read(rt.alloc(), b""), Some(0));
+}
+
+// The line at which so many empty lines are refused.
+fn empty_refused_at(alloc: Global, count: usize) -> Option<usize> {
+    let lines = vec![in alloc; 10u8; count].ok()?;
+    refused_at(alloc, lines.as_slice())
+}
+
+#[test]
+fn refuses_too_many_bytes(rt: HostRuntime) {
+    gives(&rt, empty_refused_at(rt.alloc(), LONGEST), Some(1));
+    gives(&rt, empty_refused_at(rt.alloc(), LONGEST + 1), Some(0));
 }

@@ -4,6 +4,7 @@ use ipcz_lines::{ReadLine, read};
 use ipcz_messages::messages::{Message, messages};
 use ipcz_messages::routers::{Router, routers};
 use std::alloc::Global;
+use std::process::Abort;
 
 pub const ONE_BYPASS: &[u8] = b"open x y ok
 put 0>1 0
@@ -159,4 +160,9 @@ pub fn told_by<'a>(alloc: Global, transcript: &'a [u8]) -> Option<Told<'a>> {
 pub fn name_of(routers: &[Router], index: Option<usize>) -> Option<(u8, u64)> {
     let router = routers.get(index?)?;
     Some((router.node, router.serial))
+}
+
+/// What a list of rows gives has to be this. (A test that asserts this itself is several times as dear to prove.)
+pub fn gives(rt: &impl Abort, got: Option<usize>, want: Option<usize>) {
+    assert_eq!(rt; got, want);
 }

@@ -1,7 +1,6 @@
 //! What refusals, ends and links are called, and sequences and bytes as lists.
 use ipcz_base::{Bytes, End, LinkId, Refusal, Sequence, Side};
 use std::alloc::{AllocError, Global};
-use std::test::Fail;
 
 static NAMES: [(Refusal, u8, &'static str); 14] = [
     (Refusal::OutOfMemory, 1, "OutOfMemory"),
@@ -50,19 +49,25 @@ fn link_prints(alloc: Global, link: LinkId, text: &str) -> Result<bool, AllocErr
     Ok(link.to_string(alloc)?.as_str() == text)
 }
 
-#[test]
-fn ends_and_links_print(rt: HostRuntime) -> Result<(), Fail> {
-    assert!(rt; end_prints(rt.alloc(), A0, "0A")?);
+// Whether ends of both sides, and links of both kinds, print as they should.
+fn all_print(alloc: Global) -> Result<bool, AllocError> {
     let end = End {
         pair: 3,
         side: Side::A.opposite(),
     };
-    assert!(rt; end_prints(rt.alloc(), end, "3B")?);
-    assert!(rt; end_prints(rt.alloc(), end.opposite(), "3A")?);
-    assert!(rt; link_prints(rt.alloc(), LinkId::Central(3), "C3")?);
     let link = LinkId::Peripheral { node: 0, serial: 1 };
-    assert!(rt; link_prints(rt.alloc(), link, "P0.1")?);
-    Ok(())
+    Ok(
+        end_prints(alloc, A0, "0A")?
+            && end_prints(alloc, end, "3B")?
+            && end_prints(alloc, end.opposite(), "3A")?
+            && link_prints(alloc, LinkId::Central(3), "C3")?
+            && link_prints(alloc, link, "P0.1")?,
+    )
+}
+
+#[test]
+fn ends_and_links_print(rt: HostRuntime) {
+    assert!(rt; all_print(rt.alloc()) == Ok(true));
 }
 
 // Whether a list of two bytes is a sequence of them, and is given back.
@@ -73,11 +78,15 @@ fn is_given_back(bytes: Vec<u8>) -> bool {
     is_hi && is_two && sequence.into_vec().as_slice() == b"hi".as_slice()
 }
 
+// Whether that is so of a list that is made, and an empty list is an empty sequence.
+fn are_given_back(alloc: Global) -> Result<bool, AllocError> {
+    let is_empty = Sequence::from_vec(Vec::<u8>::new(alloc)).is_empty();
+    Ok(is_given_back(Vec::from_slice(alloc, b"hi")?) && is_empty)
+}
+
 #[test]
-fn a_sequence_is_made_from_a_vec_and_given_back(rt: HostRuntime) -> Result<(), Fail> {
-    assert!(rt; Sequence::from_vec(Vec::<u8>::new(rt.alloc())).is_empty());
-    assert!(rt; is_given_back(Vec::from_slice(rt.alloc(), b"hi")?));
-    Ok(())
+fn a_sequence_is_made_from_a_vec_and_given_back(rt: HostRuntime) {
+    assert!(rt; are_given_back(rt.alloc()) == Ok(true));
 }
 
 // Whether a copy of bytes has them, and gives them back.
@@ -91,19 +100,30 @@ fn are_kept(alloc: Global, data: &[u8]) -> Result<bool, AllocError> {
     Ok(has_them && is_empty && Bytes::from_vec(list).as_slice() == data)
 }
 
-#[test]
-fn bytes_are_kept_in_the_value_and_beside_it(rt: HostRuntime) -> Result<(), Fail> {
-    let data = b"abcdefghijklmnopqr".as_slice();
+// Whether that is so of each front of some bytes, of these lengths.
+fn all_are_kept(alloc: Global, data: &[u8]) -> Result<bool, AllocError> {
     for count in [0, 1, 15, 16, 17, 18] {
-        assert!(rt; are_kept(rt.alloc(), &data[..count])?);
+        let (front, _) = data.split_at(count.min(data.len()));
+        if front.len() != count || !are_kept(alloc, front)? {
+            return Ok(false);
+        }
     }
-    assert!(rt; Bytes::new().is_empty());
-    Ok(())
+    Ok(Bytes::new().is_empty())
 }
 
 #[test]
-fn bytes_print_as_numbers(rt: HostRuntime) -> Result<(), Fail> {
-    let bytes = Bytes::from_slice(rt.alloc(), b"hi")?;
-    assert_eq!(rt; format!(in rt.alloc(); "{bytes:?}")?.as_str(), "[104, 105]");
-    Ok(())
+fn bytes_are_kept_in_the_value_and_beside_it(rt: HostRuntime) {
+    assert!(rt; all_are_kept(rt.alloc(), b"abcdefghijklmnopqr") == Ok(true));
+}
+
+// Whether bytes print so.
+fn bytes_print(alloc: Global, data: &[u8], text: &str) -> Result<bool, AllocError> {
+    let bytes = Bytes::from_slice(alloc, data)?;
+    let printed = format!(in alloc; "{bytes:?}")?;
+    Ok(printed.as_str() == text)
+}
+
+#[test]
+fn bytes_print_as_numbers(rt: HostRuntime) {
+    assert!(rt; bytes_print(rt.alloc(), b"hi", "[104, 105]") == Ok(true));
 }

@@ -1,5 +1,8 @@
 //! Scripts and their transcripts, each the other's by docs/PROTOCOL.md.
 
+use ipcz_script::Outcome;
+use std::process::Abort;
+
 /// What a script shows, the script, and its transcript; and whether that is the same, whatever the schedule, if its settles run on threads.
 pub struct Case {
     pub shows: &'static str,
@@ -9,7 +12,28 @@ pub struct Case {
     pub on_threads: bool,
 }
 
-pub const CASES: [Case; 28] = [
+impl Case {
+    /// How its run ends.
+    pub fn outcome(&self) -> Outcome {
+        if self.unsettled {
+            Outcome::Unsettled
+        } else {
+            Outcome::Done
+        }
+    }
+}
+
+/// The cases. (Each function that names the list itself is dear to prove, since its texts stand in the proof.)
+pub fn cases() -> &'static [Case] {
+    &CASES
+}
+
+/// What a list gives has to be this. (A test that asserts this itself is several times as dear to prove.)
+pub fn gives(rt: &impl Abort, got: Option<usize>, want: Option<usize>) {
+    assert_eq!(rt; got, want);
+}
+
+static CASES: [Case; 28] = [
     Case {
         shows: "two parcels on one pair",
         script: r#"{"nodes":1,"words":1,"commands":[["open",0,"x","y"],["put","x","a"],["put","x","b"],["get","y"],["settle",100],["get","y"],["get","y"],["get","y"]]}"#,

@@ -1,6 +1,7 @@
 //! What `ipcz_check` says of scripts, and with which status it ends.
 
 use crate::arguments::Arguments;
+use crate::cases::gives;
 use ipcz_device::Device;
 use ipcz_device::slow::{SlowReader, SlowWriter};
 use ipcz_report::program::{Asked, asked_for, run_program};
@@ -8,7 +9,7 @@ use std::alloc::{AllocError, Global};
 
 const NAME: &[u8] = b"ipcz_check";
 
-const ASKED: [(&[&[u8]], Asked); 8] = [
+static ASKED: [(&[&[u8]], Asked); 8] = [
     (&[], Asked::Script),
     (&[NAME], Asked::Script),
     (&[NAME, b"--help"], Asked::Help),
@@ -38,7 +39,7 @@ fn first_other_asked(alloc: Global) -> Option<usize> {
 
 #[test]
 fn asks_for_what_its_arguments_say(rt: HostRuntime) {
-    assert_eq!(rt; first_other_asked(rt.alloc()), None);
+    gives(&rt, first_other_asked(rt.alloc()), None);
 }
 
 // Writes what is said of a script behind what `out` holds, and gives the status.
@@ -68,7 +69,7 @@ fn first_other(alloc: Global, rows: &[(&str, &str)], status: u8) -> Option<usize
     None
 }
 
-const NO_JSON: [(&str, &str); 21] = [
+static NO_JSON: [(&str, &str); 21] = [
     (
         "",
         "line 1, column 1: the script is empty; expected an object with the members nodes, words and commands\n",
@@ -157,13 +158,13 @@ const NO_JSON: [(&str, &str); 21] = [
 
 #[test]
 fn tells_where_bytes_are_no_json(rt: HostRuntime) {
-    assert_eq!(rt; first_other(rt.alloc(), &NO_JSON, 2), None);
+    gives(&rt, first_other(rt.alloc(), &NO_JSON, 2), None);
     let no_character = b"[\"\xe9\"]";
     let words = "line 1, column 3: \\xe9 is no character in UTF-8; expected one\n";
     assert!(rt; says(rt.alloc(), no_character, 2, words));
 }
 
-const NO_HEAD: [(&str, &str); 9] = [
+static NO_HEAD: [(&str, &str); 9] = [
     (
         "[]",
         "line 1, column 1: the script is no object; expected one with the members nodes, words and commands\n",
@@ -204,10 +205,10 @@ const NO_HEAD: [(&str, &str); 9] = [
 
 #[test]
 fn tells_what_is_wrong_with_members(rt: HostRuntime) {
-    assert_eq!(rt; first_other(rt.alloc(), &NO_HEAD, 2), None);
+    gives(&rt, first_other(rt.alloc(), &NO_HEAD, 2), None);
 }
 
-const NO_COMMANDS: [(&str, &str); 11] = [
+static NO_COMMANDS: [(&str, &str); 11] = [
     (
         "{\"nodes\":2,\"words\":4,\"commands\":[[\"put\",\"x\"]]}",
         "line 1, column 34: command 1: 1 value stands behind put; expected 2 or 3, as in [\"put\", \"name\", \"data\"] or [\"put\", \"name\", \"data\", [\"name\", ..]]\n",
@@ -256,10 +257,10 @@ const NO_COMMANDS: [(&str, &str); 11] = [
 
 #[test]
 fn tells_what_is_wrong_with_commands(rt: HostRuntime) {
-    assert_eq!(rt; first_other(rt.alloc(), &NO_COMMANDS, 2), None);
+    gives(&rt, first_other(rt.alloc(), &NO_COMMANDS, 2), None);
 }
 
-const SCRIPTS: [(&str, &str); 6] = [
+static SCRIPTS: [(&str, &str); 6] = [
     (
         "{\"nodes\":2,\"words\":4,\"commands\":[[\"open\",0,\"left\",\"right\"],[\"put\",\"left\",\"hello\"],\n[\"put\",\"0>1\",\"\",[\"right\",\"x\"]],[\"settle\",100],[\"get\",\"1>0\"],[\"get\",\"nobody\"],[\"close\",\"0>2\"],[\"turn\",1,5],[\"show\"]]}",
         "line 1, column 34: command 1: opens the pair left and right on node 0\nline 1, column 60: command 2: puts a parcel of length 5 at left\nline 2, column 1: command 3: puts a parcel of length 0 at 0>1 with the portals right, x; no command before it opens x\nline 2, column 32: command 4: lets all nodes act until they rest, at most 100 times\nline 2, column 47: command 5: gets the next parcel at 1>0\nline 2, column 61: command 6: gets the next parcel at nobody; no command before it opens nobody\nline 2, column 78: command 7: closes 0>2; no command before it opens 0>2\nline 2, column 94: command 8: lets node 1 take turns, at most 5\nline 2, column 107: command 9: prints the link words\nvalid: nodes 2, words 4, commands 9\n",
@@ -288,7 +289,7 @@ const SCRIPTS: [(&str, &str); 6] = [
 
 #[test]
 fn tells_what_the_commands_of_a_script_do(rt: HostRuntime) {
-    assert_eq!(rt; first_other(rt.alloc(), &SCRIPTS, 0), None);
+    gives(&rt, first_other(rt.alloc(), &SCRIPTS, 0), None);
 }
 
 // How a run ends whose reader fails after so many reads, and what it has written.

@@ -1,5 +1,6 @@
 //! A script that is cut, or that has a command without a shape.
 
+use crate::cases::gives;
 use crate::one_bypass::{COMMANDS, TRANSCRIPT, script};
 use ipcz_device::Device;
 use ipcz_script::{Outcome, RunFault, ScriptFault, run_script};
@@ -45,7 +46,7 @@ fn a_script_that_is_cut_at_any_byte_is_no_json(rt: HostRuntime) -> Result<(), Fa
     Ok(())
 }
 
-const LINES: [&str; 15] = [
+static LINES: [&str; 15] = [
     "refused BadShape 1\n",
     "refused BadShape 2\n",
     "refused BadShape 3\n",
@@ -80,5 +81,5 @@ fn first_empty(alloc: Global) -> Option<usize> {
 #[test]
 fn an_empty_list_for_a_command_has_no_shape(rt: HostRuntime) {
     assert_eq!(rt; LINES.len(), COMMANDS.len());
-    assert_eq!(rt; first_empty(rt.alloc()), None);
+    gives(&rt, first_empty(rt.alloc()), None);
 }

@@ -1,6 +1,7 @@
 //! What `ipcz_draw` draws, and with which status it ends.
 
 use crate::arguments::Arguments;
+use crate::cases::gives;
 use ipcz_device::Device;
 use ipcz_device::slow::{SlowReader, SlowWriter};
 use ipcz_picture::bands::Bands;
@@ -27,7 +28,7 @@ const TO_THE_LAST: Asked = Asked::Picture(
     Bands::All,
 );
 
-const ASKED: [(&[&[u8]], Asked); 22] = [
+static ASKED: [(&[&[u8]], Asked); 22] = [
     (&[], Asked::Picture(None, Bands::All)),
     (&[NAME], Asked::Picture(None, Bands::All)),
     (&[NAME, b"5", b"20"], FIVE_TO_TWENTY),
@@ -71,7 +72,7 @@ fn first_other_asked(alloc: Global) -> Option<usize> {
 
 #[test]
 fn asks_for_what_its_arguments_say(rt: HostRuntime) {
-    assert_eq!(rt; first_other_asked(rt.alloc()), None);
+    gives(&rt, first_other_asked(rt.alloc()), None);
 }
 
 // Draws a part of a transcript, with what is written behind what `out` holds, and gives the status.
@@ -151,7 +152,7 @@ fn first_other(
     None
 }
 
-const TITLES: [&str; 5] = [
+static TITLES: [&str; 5] = [
     "<g id=\"l1\" data-last=\"1\" transform=\"translate(0 136)\"><title>line 1: open x y ok</title>",
     "<g id=\"l2\" data-last=\"2\" transform=\"translate(0 154)\"><title>line 2: put 0&gt;1 0</title>",
     "<g id=\"l3\" data-last=\"4\" transform=\"translate(0 172)\"><title>lines 3-4: idle x2</title>",
@@ -170,7 +171,7 @@ fn is_one_root(alloc: Global, transcript: &[u8]) -> bool {
 #[test]
 fn draws_a_row_for_each_line_and_one_for_idle_ones(rt: HostRuntime) {
     assert!(rt; is_one_root(rt.alloc(), TRANSCRIPT));
-    assert_eq!(rt; first_lacking(rt.alloc(), TRANSCRIPT, &TITLES), None);
+    gives(&rt, first_lacking(rt.alloc(), TRANSCRIPT, &TITLES), None);
 }
 
 // Two items that wait in one outbox, a flush that never arrives, and a name that stands again.
@@ -194,7 +195,7 @@ words
 words
 ";
 
-const MADE: [&str; 8] = [
+static MADE: [&str; 8] = [
     "<title>item 0 C0 from n0 r0 to n1; made line 1; posted line 3; looked line 4; handled line 6</title>",
     "<title>item 1 C0 from n0 r0 to n1; made line 2; posted line 5; looked line 7; handled line 8</title>",
     "<title>Flush C2 from n1 r0 to n0; made line 9; posted line 10; not seen handled</title>",
@@ -207,10 +208,10 @@ const MADE: [&str; 8] = [
 
 #[test]
 fn says_who_made_what_and_for_whom(rt: HostRuntime) {
-    assert_eq!(rt; first_lacking(rt.alloc(), WAITING, &MADE), None);
+    gives(&rt, first_lacking(rt.alloc(), WAITING, &MADE), None);
 }
 
-const WRONG: [(&[u8], &str); 6] = [
+static WRONG: [(&[u8], &str); 6] = [
     (b"n1: hand Flush C2 dropped\n", ">dropped</text>"),
     (b"n1: hand item 0 C2 stray\n", ">stray</text>"),
     (b"unsettled\n", "class=\"fn\""),
@@ -232,10 +233,10 @@ fn first_unshown(alloc: Global) -> Option<usize> {
 
 #[test]
 fn tells_what_is_wrong_in_the_transcripts_words(rt: HostRuntime) {
-    assert_eq!(rt; first_unshown(rt.alloc()), None);
+    gives(&rt, first_unshown(rt.alloc()), None);
 }
 
-const SOURCES: [(&[u8], Option<&str>); 6] = [
+static SOURCES: [(&[u8], Option<&str>); 6] = [
     (b"n0: r1 lock C1 547\n", Some(">1</text>")),
     (b"n0: r1 lock C1 4095\n", Some(">14</text>")),
     (b"words 3 547 3\n", Some(">1</text>")),
@@ -275,13 +276,13 @@ fn first_other_source(alloc: Global) -> Option<usize> {
 // The node that may answer stands behind a word's cells, if the word tells one.
 #[test]
 fn shows_the_node_that_may_answer(rt: HostRuntime) {
-    assert_eq!(rt; first_other_source(rt.alloc()), None);
+    gives(&rt, first_other_source(rt.alloc()), None);
 }
 
 const CALLS: &[u8] =
     b"open x y ok\nput 0>1 0\nclose 0>1 1\nn0: r0 send out 0 C0 moves 1B\nn0: post 1\nn1: look 0\nn1: hand item 0 C0\nn1: r0 rest\nn0: r2 claim 2\nn0: r2 finish in P0.0\nget y PeerClosed\n";
 
-const CALLED: [&str; 5] = [
+static CALLED: [&str; 5] = [
     "class=\"f-call\"/><text x=\"436\" y=\"167\" class=\"t9 f-call h halo\">put</text>",
     "class=\"f-call\"/><text x=\"436\" y=\"185\" class=\"t9 f-call h halo\">close</text>",
     ">0A 0&gt;1</text>",
@@ -292,10 +293,11 @@ const CALLED: [&str; 5] = [
 // A router of the first pair, with the end and the portal that it serves and the calls there, and the proxy of an opened portal.
 #[test]
 fn calls_stand_at_the_routers_of_their_portals(rt: HostRuntime) {
-    assert_eq!(rt; first_lacking(rt.alloc(), CALLS, &CALLED), None);
-    assert_eq!(rt;
+    gives(&rt, first_lacking(rt.alloc(), CALLS, &CALLED), None);
+    gives(
+        &rt,
         first_other(rt.alloc(), None, CALLS, &[(">get refused</text>", 0)]),
-        None
+        None,
     );
 }
 
@@ -303,7 +305,7 @@ const REFUSED_CALLS: &[u8] =
     b"open x y ok\nput x PeerClosed\nget x Empty\nget x PeerClosed\nclose x Stranger\nput x 0\nclose x 1\nget y 0 [] \"a\"\n";
 
 // The squares of the legend are two more.
-const REFUSED_MARKS: [(&str, usize); 9] = [
+static REFUSED_MARKS: [(&str, usize); 9] = [
     ("class=\"t9 f-bad h halo\">put refused</text>", 1),
     ("class=\"t9 f-bad h halo\">get: empty</text>", 1),
     ("class=\"t9 f-bad h halo\">get refused</text>", 1),
@@ -318,13 +320,14 @@ const REFUSED_MARKS: [(&str, usize); 9] = [
 // A call that was refused has a hollow square, and says so.
 #[test]
 fn a_refused_call_looks_unlike_one_that_was_done(rt: HostRuntime) {
-    assert_eq!(rt;
+    gives(
+        &rt,
         first_other(rt.alloc(), None, REFUSED_CALLS, &REFUSED_MARKS),
-        None
+        None,
     );
 }
 
-const GONE: [&str; 4] = [
+static GONE: [&str; 4] = [
     "<title>Gone item 1 C0 from n0 r0 to n1",
     ">Gone item 1</text>",
     ">leaves with Gone, item 1</text>",
@@ -336,7 +339,7 @@ const GONE: [&str; 4] = [
 fn gone_is_called_so(rt: HostRuntime) {
     let transcript =
         b"n0: r0 lock C0 19\nn0: r0 retire 1 C0\nn0: post 1\nn1: look 0\nn1: hand item 1 C0\nn1: r1 discard 0\nn1: r1 discard 1 leave\n";
-    assert_eq!(rt; first_lacking(rt.alloc(), transcript, &GONE), None);
+    gives(&rt, first_lacking(rt.alloc(), transcript, &GONE), None);
 }
 
 // The end of a portal moves, and its proxy passes on the close of its peer, and Gone behind that; its own close comes to the proxy.
@@ -374,7 +377,7 @@ words 3 1
 ";
 
 // The item that carries the end is the one whose label has its number alone.
-const PASSED_ON_NAMES: [(&str, usize); 7] = [
+static PASSED_ON_NAMES: [(&str, usize); 7] = [
     (">item 0 +1B</text>", 1),
     (">close 0</text>", 3),
     (">Gone item 1</text>", 2),
@@ -387,13 +390,14 @@ const PASSED_ON_NAMES: [(&str, usize); 7] = [
 // A close and Gone are told by name, also where a proxy passes them on.
 #[test]
 fn closes_and_gone_are_called_so_where_they_are_passed_on(rt: HostRuntime) {
-    assert_eq!(rt;
+    gives(
+        &rt,
         first_other(rt.alloc(), None, PASSED_ON, &PASSED_ON_NAMES),
-        None
+        None,
     );
 }
 
-const COLUMNS: [(&str, usize); 4] = [
+static COLUMNS: [(&str, usize); 4] = [
     (" class=\"t10 ink b e h halo\">0&gt;1</text>", 1),
     (
         "<text x=\"500\" y=\"193\" class=\"t10 ink b e h halo\">r0</text>",
@@ -410,10 +414,14 @@ const COLUMNS: [(&str, usize); 4] = [
 #[test]
 fn routers_stand_beside_portals(rt: HostRuntime) {
     let transcript = b"put 0>1 0\nsettled\nn0: r0 rest\nn0: r1 rest\n";
-    assert_eq!(rt; first_other(rt.alloc(), None, transcript, &COLUMNS), None);
+    gives(
+        &rt,
+        first_other(rt.alloc(), None, transcript, &COLUMNS),
+        None,
+    );
 }
 
-const GROUNDS: [(&str, usize); 2] = [
+static GROUNDS: [(&str, usize); 2] = [
     (
         "<rect x=\"8\" y=\"154\" width=\"1094\" height=\"18\" class=\"zb\"/>",
         1,
@@ -428,10 +436,14 @@ const GROUNDS: [(&str, usize); 2] = [
 #[test]
 fn a_line_of_words_has_a_ground_across_its_row(rt: HostRuntime) {
     let transcript = b"n0: idle\nwords 3 3\nwords 3 3 3 3 3 3 3\n";
-    assert_eq!(rt; first_other(rt.alloc(), None, transcript, &GROUNDS), None);
+    gives(
+        &rt,
+        first_other(rt.alloc(), None, transcript, &GROUNDS),
+        None,
+    );
 }
 
-const BARS: [&str; 3] = [
+static BARS: [&str; 3] = [
     "y=\"152\" width=\"1\" height=\"22\" class=\"f-word\"",
     "y=\"170\" width=\"1\" height=\"22\" class=\"f-word\"",
     "y=\"188\" width=\"1\" height=\"4\" class=\"f-word\"",
@@ -441,10 +453,10 @@ const BARS: [&str; 3] = [
 #[test]
 fn shows_how_long_a_word_stands(rt: HostRuntime) {
     let transcript = b"n0: r0 mark C1 1\nn0: r0 mark C2 1\nn0: r1 mark C7 1\nsettled\n";
-    assert_eq!(rt; first_lacking(rt.alloc(), transcript, &BARS), None);
+    gives(&rt, first_lacking(rt.alloc(), transcript, &BARS), None);
 }
 
-const KNOWN: [(&str, usize); 14] = [
+static KNOWN: [(&str, usize); 14] = [
     (">C0</text>", 4),
     ("class=\"t9 dim e\">C0</text>", 3),
     ("class=\"t9 dim e\">S</text>", 5),
@@ -467,10 +479,10 @@ const KNOWN: [(&str, usize); 14] = [
 fn words_that_are_as_they_were_known_stand_back(rt: HostRuntime) {
     let transcript =
         b"n0: r0 mark C0 1\nn0: r0 claim 1\nwords 1 0 35\nsettled\nwords 1 3 547\nwords 1 3 547\n";
-    assert_eq!(rt; first_other(rt.alloc(), None, transcript, &KNOWN), None);
+    gives(&rt, first_other(rt.alloc(), None, transcript, &KNOWN), None);
 }
 
-const ABOVE: [(&str, usize); 6] = [
+static ABOVE: [(&str, usize); 6] = [
     (">C0</text>", 1),
     (">C1<title>C1 2 -&gt; 3</title></text>", 1),
     (">C2</text>", 1),
@@ -484,7 +496,7 @@ const ABOVE: [(&str, usize); 6] = [
 fn what_is_known_of_words_is_of_all_lines_above(rt: HostRuntime) {
     let part = Some(Part { from: 3, to: 3 });
     let transcript = b"words 1 2 3\nwords 1\nwords 1 3 3\nwords 1 2 2\n";
-    assert_eq!(rt; first_other(rt.alloc(), part, transcript, &ABOVE), None);
+    gives(&rt, first_other(rt.alloc(), part, transcript, &ABOVE), None);
 }
 
 // A part in whose rows a bar and a word's value come in from above, a message is looked at that was posted above, and one is
@@ -505,7 +517,7 @@ n1: look 0
 n1: hand item 1 C0
 ";
 
-const PART: [(&str, usize); 25] = [
+static PART: [(&str, usize); 25] = [
     (">A run of ipcz in 14 lines: lines 5 to 10</title>", 1),
     (">A run of ipcz in 14 lines: lines 5 to 10</text>", 1),
     (
@@ -576,11 +588,11 @@ const PART: [(&str, usize); 25] = [
 #[test]
 fn a_part_begins_with_what_stands_there(rt: HostRuntime) {
     let part = Some(Part { from: 5, to: 10 });
-    assert_eq!(rt; first_other(rt.alloc(), part, LONG, &PART), None);
+    gives(&rt, first_other(rt.alloc(), part, LONG, &PART), None);
 }
 
 // A first and a last line, and how many lines of three are drawn then, with which caption.
-const PARTS: [(u64, u64, usize, &str); 6] = [
+static PARTS: [(u64, u64, usize, &str); 6] = [
     (1, 3, 3, ">A run of ipcz in 3 lines</title>"),
     (1, 9, 3, ">A run of ipcz in 3 lines</title>"),
     (2, 2, 1, ": lines 2 to 2</title>"),
@@ -612,7 +624,7 @@ fn first_other_part(alloc: Global) -> Option<usize> {
 // Parts of three lines: within them, over the end and behind it.
 #[test]
 fn a_part_has_the_lines_that_there_are(rt: HostRuntime) {
-    assert_eq!(rt; first_other_part(rt.alloc()), None);
+    gives(&rt, first_other_part(rt.alloc()), None);
 }
 
 // How often each node's name stands in the picture of three nodes, of which node 0 sends, node 1 is only idle, and node 2 looks.
@@ -633,14 +645,14 @@ fn band_names(alloc: Global, bands: Bands) -> [usize; 3] {
 
 #[test]
 fn a_node_that_is_only_idle_may_be_left_out(rt: HostRuntime) {
-    assert_eq!(rt; band_names(rt.alloc(), Bands::All), [1, 1, 1]);
-    assert_eq!(rt; band_names(rt.alloc(), Bands::Used), [1, 0, 1]);
+    assert!(rt; band_names(rt.alloc(), Bands::All) == [1, 1, 1]);
+    assert!(rt; band_names(rt.alloc(), Bands::Used) == [1, 0, 1]);
 }
 
 #[test]
 fn draws_no_rows_for_no_bytes(rt: HostRuntime) {
     assert!(rt; shows(rt.alloc(), b"", "A run of ipcz in 0 lines"));
-    assert_eq!(rt; first_other(rt.alloc(), None, b"", &[("<g", 0)]), None);
+    gives(&rt, first_other(rt.alloc(), None, b"", &[("<g", 0)]), None);
 }
 
 // Whether a transcript is refused with this line.

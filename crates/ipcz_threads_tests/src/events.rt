@@ -1,5 +1,6 @@
 //! Events of turns that no script shows, and how they print.
 
+use crate::cases::gives;
 use ipcz_base::{End, LinkId, Sequence, Side};
 use ipcz_node::{Handed, Happened};
 use ipcz_script::push_event;
@@ -58,7 +59,7 @@ fn prints_what_no_script_shows(rt: HostRuntime) {
         (unfit(Handed::Flush, OLD), "hand Flush C3 dropped"),
         (Happened::Unlock(4, OLD, 3), "r4 unlock C3 3"),
     ];
-    assert_eq!(rt; first_wrong(rt.alloc(), &rows), None);
+    gives(&rt, first_wrong(rt.alloc(), &rows), None);
 }
 
 // With the greatest number that Gone can have.
@@ -76,7 +77,7 @@ fn prints_how_a_pair_leaves(rt: HostRuntime) {
         (Happened::Discard(8, 2), "r8 discard 2"),
         (Happened::Leave(8), "r8 leave"),
     ];
-    assert_eq!(rt; first_wrong(rt.alloc(), &rows), None);
+    gives(&rt, first_wrong(rt.alloc(), &rows), None);
 }
 
 #[test]

@@ -5,7 +5,7 @@ use std::alloc::{AllocError, Global};
 const HEAD: &str = r#"{"nodes":2,"words":4,"commands":["#;
 
 /// Its commands.
-pub const COMMANDS: [&str; 15] = [
+pub static COMMANDS: [&str; 15] = [
     r#"["open",0,"x","y"]"#,
     r#"["put","0>1","m",["y"]]"#,
     r#"["turn",0,20]"#,

@@ -1,5 +1,6 @@
 //! What is a script, and which fault the first command has that is none.
 
+use crate::cases::gives;
 use ipcz_script::{ScriptFault, read_script};
 use std::alloc::{AllocError, Global};
 
@@ -71,11 +72,11 @@ fn first_script(alloc: Global) -> Option<usize> {
 
 #[test]
 fn refuses_what_is_no_script(rt: HostRuntime) {
-    assert_eq!(rt; first_script(rt.alloc()), None);
+    gives(&rt, first_script(rt.alloc()), None);
     let most_words = refusal_of(rt.alloc(), br#"{"nodes":1,"words":4096,"commands":[]}"#);
-    assert_eq!(rt; most_words, None);
+    assert!(rt; most_words.is_none());
     let most_nodes = refusal_of(rt.alloc(), br#"{"nodes":8,"words":28,"commands":[]}"#);
-    assert_eq!(rt; most_nodes, None);
+    assert!(rt; most_nodes.is_none());
 }
 
 // Commands, and the first of them that is bad.
@@ -163,8 +164,8 @@ fn refusal_of_padded(alloc: Global, count: usize) -> Result<Option<ScriptFault>,
 #[test]
 fn tests_the_length_first(rt: HostRuntime) {
     let most = refusal_of_blanks(rt.alloc(), 1_048_576);
-    assert_eq!(rt; most, Ok(Some(ScriptFault::NotJson)));
+    assert!(rt; most == Ok(Some(ScriptFault::NotJson)));
     let one_more = refusal_of_blanks(rt.alloc(), 1_048_577);
-    assert_eq!(rt; one_more, Ok(Some(ScriptFault::TooLong)));
-    assert_eq!(rt; refusal_of_padded(rt.alloc(), 1_048_576), Ok(None));
+    assert!(rt; one_more == Ok(Some(ScriptFault::TooLong)));
+    assert!(rt; refusal_of_padded(rt.alloc(), 1_048_576) == Ok(None));
 }

@@ -1,6 +1,7 @@
 //! What `ipcz_run` writes, and with which status it ends.
 
 use crate::arguments::Arguments;
+use crate::cases::gives;
 use ipcz_device::Device;
 use ipcz_device::slow::{SlowReader, SlowWriter};
 use ipcz_threads::program::{Asked, asked_for, run_program};
@@ -9,7 +10,7 @@ use std::thread::Threads;
 
 const NAME: &[u8] = b"ipcz_run";
 
-const ASKED: [(&[&[u8]], Asked); 13] = [
+static ASKED: [(&[&[u8]], Asked); 13] = [
     (&[], Asked::Script),
     (&[NAME], Asked::Script),
     (&[NAME, b"threads"], Asked::Threads),
@@ -44,7 +45,7 @@ fn first_other_asked(alloc: Global) -> Option<usize> {
 
 #[test]
 fn asks_for_what_its_arguments_say(rt: HostRuntime) {
-    assert_eq!(rt; first_other_asked(rt.alloc()), None);
+    gives(&rt, first_other_asked(rt.alloc()), None);
 }
 
 const SCRIPT: &str = r#"{"nodes":1,"words":1,"commands":[["open",0,"x","y"],["get","y"]]}"#;
@@ -53,7 +54,7 @@ const AT_ITS_LIMIT: &str =
     r#"{"nodes":1,"words":1,"commands":[["open",0,"x","y"],["put","x","a"],["settle",1]]}"#;
 
 // A script, the status that it ends with, and what it writes.
-const ENDINGS: [(&str, u8, &str); 3] = [
+static ENDINGS: [(&str, u8, &str); 3] = [
     (SCRIPT, 0, "open x y ok\nget y Empty\n"),
     ("[]", 2, "refused BadShape 0\n"),
     (AT_ITS_LIMIT, 4, "open x y ok\nput x 0\nunsettled\n"),
@@ -85,7 +86,7 @@ fn first_other<T: Threads + Sync>(rt: &T, alloc: Global) -> Option<usize> {
 
 #[test]
 fn ends_with_the_status_of_the_script(rt: HostRuntime) {
-    assert_eq!(rt; first_other(&rt, rt.alloc()), None);
+    gives(&rt, first_other(&rt, rt.alloc()), None);
 }
 
 // Whether the program ends with status 1 if its reader fails at its tenth read, and writes nothing.

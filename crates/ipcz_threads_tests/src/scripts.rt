@@ -1,10 +1,9 @@
 //! Scripts on one thread.
 
-use crate::cases::CASES;
+use crate::cases::{cases, gives};
 use ipcz_device::Device;
 use ipcz_script::{Outcome, RunFault, ScriptFault, run_script};
 use std::alloc::Global;
-use std::test::Fail;
 
 // Runs the script, with its transcript behind what `out` holds.
 fn run(alloc: Global, script: &[u8], out: &mut Vec<u8>) -> Result<Outcome, RunFault> {
@@ -13,57 +12,78 @@ fn run(alloc: Global, script: &[u8], out: &mut Vec<u8>) -> Result<Outcome, RunFa
     run_script(alloc, &mut reader, &mut writer)
 }
 
-#[test]
-fn writes_the_transcripts_of_worked_scripts(rt: HostRuntime) -> Result<(), Fail> {
-    for case in &CASES {
-        let mut out = Vec::new(rt.alloc());
-        let ending = run(rt.alloc(), case.script.as_bytes(), &mut out);
-        let shows = case.shows;
-        assert_eq!(rt; out.as_slice(), case.transcript.as_bytes(), "{shows}");
-        let want = if case.unsettled {
-            Outcome::Unsettled
-        } else {
-            Outcome::Done
-        };
-        assert_eq!(rt; ending, Ok(want), "{shows}");
+// Whether a script ends so, and writes this.
+fn ends(alloc: Global, script: &[u8], want: Outcome, text: &str) -> bool {
+    let mut out = Vec::new(alloc);
+    let ending = run(alloc, script, &mut out);
+    ending == Ok(want) && out.as_slice() == text.as_bytes()
+}
+
+// The first case that ends or writes otherwise.
+fn first_other_case(alloc: Global) -> Option<usize> {
+    for (i, case) in cases().iter().enumerate() {
+        if !ends(
+            alloc,
+            case.script.as_bytes(),
+            case.outcome(),
+            case.transcript,
+        ) {
+            return Some(i);
+        }
     }
-    Ok(())
+    None
 }
 
 #[test]
-fn says_why_bytes_are_no_script(rt: HostRuntime) -> Result<(), Fail> {
-    let spaces = vec![in rt.alloc(); b' '; 1_048_577]?;
-    let rows = [
-        (
-            br#"{"nodes":2,"#.as_slice(),
-            ScriptFault::NotJson,
-            "refused NotJson\n",
-        ),
-        (
-            br#"{"nodes":1,"words":0,"commands":[["fly"]]}"#.as_slice(),
-            ScriptFault::BadShape(1),
-            "refused BadShape 1\n",
-        ),
-        (
-            br#"{"nodes":1,"words":1,"commands":[["open",0,"x","y"],["fly"],["get"]]}"#.as_slice(),
-            ScriptFault::BadShape(2),
-            "refused BadShape 2\n",
-        ),
-        (
-            br#"{"nodes":1,"commands":[]}"#.as_slice(),
-            ScriptFault::BadShape(0),
-            "refused BadShape 0\n",
-        ),
-        (spaces.as_slice(), ScriptFault::TooLong, "refused TooLong\n"),
-    ];
-    for (script, why, text) in rows {
-        let mut out = Vec::new(rt.alloc());
-        assert_eq!(rt;
-            run(rt.alloc(), script, &mut out),
-            Ok(Outcome::Refused(why)),
-            "{text}"
-        );
-        assert_eq!(rt; out.as_slice(), text.as_bytes());
+fn writes_the_transcripts_of_worked_scripts(rt: HostRuntime) {
+    gives(&rt, first_other_case(rt.alloc()), None);
+}
+
+// Bytes that are no script, the fault that they have, and what is written.
+static NO_SCRIPTS: [(&[u8], ScriptFault, &str); 4] = [
+    (br#"{"nodes":2,"#, ScriptFault::NotJson, "refused NotJson\n"),
+    (
+        br#"{"nodes":1,"words":0,"commands":[["fly"]]}"#,
+        ScriptFault::BadShape(1),
+        "refused BadShape 1\n",
+    ),
+    (
+        br#"{"nodes":1,"words":1,"commands":[["open",0,"x","y"],["fly"],["get"]]}"#,
+        ScriptFault::BadShape(2),
+        "refused BadShape 2\n",
+    ),
+    (
+        br#"{"nodes":1,"commands":[]}"#,
+        ScriptFault::BadShape(0),
+        "refused BadShape 0\n",
+    ),
+];
+
+// The first of them that ends or writes otherwise.
+fn first_other_fault(alloc: Global) -> Option<usize> {
+    for (i, (script, why, text)) in NO_SCRIPTS.iter().enumerate() {
+        if !ends(alloc, *script, Outcome::Refused(*why), *text) {
+            return Some(i);
+        }
     }
-    Ok(())
+    None
+}
+
+// Whether so many blanks are too long.
+fn are_too_long(alloc: Global, count: usize) -> bool {
+    match vec![in alloc; b' '; count] {
+        Ok(blanks) => ends(
+            alloc,
+            &blanks,
+            Outcome::Refused(ScriptFault::TooLong),
+            "refused TooLong\n",
+        ),
+        Err(_) => false,
+    }
+}
+
+#[test]
+fn says_why_bytes_are_no_script(rt: HostRuntime) {
+    gives(&rt, first_other_fault(rt.alloc()), None);
+    assert!(rt; are_too_long(rt.alloc(), 1_048_577));
 }

@@ -1,18 +1,19 @@
 //! Scripts whose settles run on threads.
 
-use crate::cases::CASES;
+ghost use Rattle.std.specs.Prelude.{◌≡◌, length};
+
+use crate::cases::{cases, gives};
 use ipcz_device::Device;
 use ipcz_fabric::Gate;
 use ipcz_script::{Outcome, RunFault};
 use ipcz_threads::{run_gated, run_threads};
 use std::alloc::Global;
 use std::sync::atomic::{AtomicU64, Ordering};
-use std::test::Fail;
 use std::thread::Threads;
 
 const LOOKS: u64 = 100_000_000;
 
-const ROUNDS: u64 = 200;
+const ROUNDS: usize = 200;
 
 // The case of a portal that moves with what waits in it, without the words.
 const MOVED: &[u8] =
@@ -39,34 +40,52 @@ fn run<R: Threads + Sync>(
     run_threads(rt, alloc, &mut reader, &mut writer)
 }
 
-#[test]
-fn writes_the_same_transcripts_on_threads(rt: HostRuntime) -> Result<(), Fail> {
-    for case in &CASES {
-        if case.on_threads {
-            let mut out = Vec::new(rt.alloc());
-            let ending = run(&rt, rt.alloc(), case.script.as_bytes(), &mut out);
-            let shows = case.shows;
-            assert_eq!(rt; out.as_slice(), case.transcript.as_bytes(), "{shows}");
-            let want = if case.unsettled {
-                Outcome::Unsettled
-            } else {
-                Outcome::Done
-            };
-            assert_eq!(rt; ending, Ok(want), "{shows}");
+// Whether a script ends so on threads, and writes this.
+fn ends<R: Threads + Sync>(
+    rt: &R,
+    alloc: Global,
+    script: &[u8],
+    want: Outcome,
+    text: &[u8],
+) -> bool {
+    let mut out = Vec::new(alloc);
+    let ending = run(rt, alloc, script, &mut out);
+    ending == Ok(want) && out.as_slice() == text
+}
+
+// The first case that is for threads and ends or writes otherwise.
+fn first_other<R: Threads + Sync>(rt: &R, alloc: Global) -> Option<usize> {
+    for (i, case) in cases().iter().enumerate() {
+        let (script, text) = (case.script.as_bytes(), case.transcript.as_bytes());
+        if case.on_threads && !ends(rt, alloc, script, case.outcome(), text) {
+            return Some(i);
         }
     }
-    Ok(())
+    None
 }
 
 #[test]
-fn writes_the_same_transcript_each_time(rt: HostRuntime) -> Result<(), Fail> {
-    for _round in 0..ROUNDS {
-        let mut out = Vec::new(rt.alloc());
-        let ending = run(&rt, rt.alloc(), MOVED, &mut out);
-        assert_eq!(rt; out.as_slice(), MOVED_TRANSCRIPT);
-        assert_eq!(rt; ending, Ok(Outcome::Done));
+fn writes_the_same_transcripts_on_threads(rt: HostRuntime) {
+    gives(&rt, first_other(&rt, rt.alloc()), None);
+}
+
+// How often a portal is moved on threads in the same way, up to the first time that it isn't.
+fn moved_alike<R: Threads + Sync>(rt: &R, alloc: Global, rounds: usize) -> usize {
+    for round in 0..rounds {
+        if !ends(rt, alloc, MOVED, Outcome::Done, MOVED_TRANSCRIPT) {
+            return round;
+        }
     }
-    Ok(())
+    rounds
+}
+
+#[test]
+fn writes_the_same_transcript_each_time(rt: HostRuntime) {
+    gives(
+        &rt,
+        Some(moved_alike(&rt, rt.alloc(), ROUNDS)),
+        Some(ROUNDS),
+    );
 }
 
 // A gate that is open, and counts how often it was asked.
@@ -86,33 +105,68 @@ fn counting_gate() -> CountsAsked {
     CountsAsked { asked: 0 }
 }
 
+fn counting_gates() -> [CountsAsked; 8] {
+    [
+        counting_gate(),
+        counting_gate(),
+        counting_gate(),
+        counting_gate(),
+        counting_gate(),
+        counting_gate(),
+        counting_gate(),
+        counting_gate(),
+    ]
+}
+
+// Whether a script ends so with these gates, and writes this.
+fn ends_with<R: Threads + Sync, G: Gate + Send>(
+    rt: &R,
+    alloc: Global,
+    gates: &mut [G],
+    script: &[u8],
+    want: Outcome,
+    text: &[u8],
+) -> bool
+    requires { length gates.old ≡ 8 }
+{
+    let mut out = Vec::new(alloc);
+    let ending = run_gated(
+        rt,
+        alloc,
+        &mut Device::new(script),
+        &mut Device::new(&mut out),
+        gates,
+    );
+    ending == Ok(want) && out.as_slice() == text
+}
+
+// Whether no gate was asked more often.
+fn are_asked_at_most(gates: &[CountsAsked], most: u64) -> bool {
+    for gate in gates {
+        if gate.asked > most {
+            return false;
+        }
+    }
+    true
+}
+
+// Whether the circle comes to the limit, in which a gate may be asked so often.
+fn comes_to_the_limit<R: Threads + Sync>(rt: &R, alloc: Global, most: u64) -> bool {
+    let mut gates = counting_gates();
+    ends_with(
+        rt,
+        alloc,
+        &mut gates,
+        CIRCLE,
+        Outcome::Unsettled,
+        CIRCLE_TRANSCRIPT,
+    ) && are_asked_at_most(&gates, most)
+}
+
 // A node takes at most as many acts as the limit says, and in each of at most as many rounds its gate is asked once more.
 #[test]
-fn a_circle_comes_to_the_limit(rt: HostRuntime) -> Result<(), Fail> {
-    let mut gates = [
-        counting_gate(),
-        counting_gate(),
-        counting_gate(),
-        counting_gate(),
-        counting_gate(),
-        counting_gate(),
-        counting_gate(),
-        counting_gate(),
-    ];
-    let mut out = Vec::new(rt.alloc());
-    let ending = run_gated(
-        &rt,
-        rt.alloc(),
-        &mut Device::new(CIRCLE),
-        &mut Device::new(&mut out),
-        &mut gates,
-    );
-    assert_eq!(rt; out.as_slice(), CIRCLE_TRANSCRIPT);
-    assert_eq!(rt; ending, Ok(Outcome::Unsettled));
-    for gate in &gates {
-        assert!(rt; gate.asked <= 2 * 3000);
-    }
-    Ok(())
+fn a_circle_comes_to_the_limit(rt: HostRuntime) {
+    assert!(rt; comes_to_the_limit(&rt, rt.alloc(), 2 * 3000));
 }
 
 // When it is first asked, a gate of the first two nodes says so, and then looks whether the other was asked, too. The others are open.
@@ -157,32 +211,48 @@ fn gate_of<'a>(node: u8, flags: Option<(&'a AtomicU64, &'a AtomicU64)>) -> Meeti
     }
 }
 
-#[test]
-fn workers_of_a_round_run_at_once(rt: HostRuntime) -> Result<(), Fail> {
-    let (one, two) = (AtomicU64::new(0), AtomicU64::new(0));
-    let mut gates = [
-        gate_of(0, Some((&one, &two))),
-        gate_of(1, Some((&two, &one))),
+// The gates of eight nodes, of which the first two have flags.
+fn gates_of<'a>(one: &'a AtomicU64, two: &'a AtomicU64) -> [Meeting<'a>; 8] {
+    [
+        gate_of(0, Some((one, two))),
+        gate_of(1, Some((two, one))),
         gate_of(2, None),
         gate_of(3, None),
         gate_of(4, None),
         gate_of(5, None),
         gate_of(6, None),
         gate_of(7, None),
-    ];
-    let mut out = Vec::new(rt.alloc());
-    let ending = run_gated(
-        &rt,
-        rt.alloc(),
-        &mut Device::new(MOVED),
-        &mut Device::new(&mut out),
-        &mut gates,
-    );
-    assert_eq!(rt; ending, Ok(Outcome::Done));
-    assert_eq!(rt; out.as_slice(), MOVED_TRANSCRIPT);
-    for gate in &gates {
-        assert!(rt; gate.missed == 0 && !gate.strayed);
+    ]
+}
+
+// Whether each gate met the other and was told its node and its turns, and the first was told of turns.
+fn have_met(gates: &[Meeting]) -> bool {
+    for gate in gates {
+        if gate.missed != 0 || gate.strayed {
+            return false;
+        }
     }
-    assert!(rt; gates[0].most > 0);
-    Ok(())
+    match gates {
+        [first, ..] => first.most > 0,
+        [] => false,
+    }
+}
+
+// Whether the workers of a round meet.
+fn meet<R: Threads + Sync>(rt: &R, alloc: Global) -> bool {
+    let (one, two) = (AtomicU64::new(0), AtomicU64::new(0));
+    let mut gates = gates_of(&one, &two);
+    ends_with(
+        rt,
+        alloc,
+        &mut gates,
+        MOVED,
+        Outcome::Done,
+        MOVED_TRANSCRIPT,
+    ) && have_met(&gates)
+}
+
+#[test]
+fn workers_of_a_round_run_at_once(rt: HostRuntime) {
+    assert!(rt; meet(&rt, rt.alloc()));
 }

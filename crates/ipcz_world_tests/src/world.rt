@@ -143,11 +143,16 @@ fn two_are_stepped(alloc: Global, steps: &[Step]) -> Result<bool, Refusal> {
     Ok(are_two_parcels(stepped(&mut world, alloc, steps)?.as_slice()))
 }
 
-// Whether two parcels are put and looked for in one run, and a run of no steps has no replies.
-fn two_are_run(alloc: Global, steps: &[Step]) -> Result<bool, Refusal> {
-    let mut world = World::new(alloc, 1, 1)?;
+// Whether these are the replies to those steps in one run, and a run of no steps has no replies.
+fn runs_two(world: &mut World, alloc: Global, steps: &[Step]) -> Result<bool, Refusal> {
     let are_two = are_two_parcels(world.run(alloc, steps)?.as_slice());
     Ok(are_two && world.run(alloc, &[])?.is_empty())
+}
+
+// Whether two parcels are put and looked for in one run.
+fn two_are_run(alloc: Global, steps: &[Step]) -> Result<bool, Refusal> {
+    let mut world = World::new(alloc, 1, 1)?;
+    runs_two(&mut world, alloc, steps)
 }
 
 #[test]

@@ -1,9 +1,9 @@
 //! Which ends have arrived, and how many proxies a portal leaves that travels on only once it has.
 
-use super::calls::{Call, puts};
+use super::calls::{Call, opens, puts};
 use super::{A0, A1, A3, B0, B1, B3, a, all_go, b, is_got};
 use ipcz_base::{End, Refusal};
-use ipcz_world::{Reply, Step, World};
+use ipcz_world::{Step, World};
 use std::alloc::Global;
 
 // Ends of pairs that were opened at their node have arrived, and so have those of first pairs. Where callers don't hold an end none is told.
@@ -196,11 +196,10 @@ fn first_crowded(world: &mut World, alloc: Global) -> Result<Option<u64>, Refusa
 // The same, of a portal that was opened on node 0 of three.
 fn first_crowded_of(alloc: Global) -> Result<Option<u64>, Refusal> {
     let mut world = World::new(alloc, NODES, 100)?;
-    match world.step(&Step::Open(0)) {
-        Reply::Opened(first, second) if first == A3 && second == B3 => {
-            first_crowded(&mut world, alloc)
-        }
-        _ => Ok(Some(HOPS)),
+    if opens(&mut world, 0, A3, B3) {
+        first_crowded(&mut world, alloc)
+    } else {
+        Ok(Some(HOPS))
     }
 }
 

@@ -90,17 +90,30 @@ fn take_all(
     Ok(true)
 }
 
-// Whether a pair is opened that has these ends.
-fn opens(world: &mut World, node: u8, first: End, second: End) -> bool {
-    match world.step(&Step::Open(node)) {
-        Reply::Opened(a, b) => a == first && b == second,
+// Whether the reply is that a pair was opened that has these ends. (What is known of a step would be worked out in each arm of a match on its reply, if that stood
+// behind the step.)
+fn is_opened(reply: &Reply, first: End, second: End) -> bool {
+    match reply {
+        Reply::Opened(a, b) => *a == first && *b == second,
         _ => false,
     }
 }
 
+/// Whether the reply is that an end was closed, with a mark of this number.
+pub fn is_closed(reply: &Reply, number: u64) -> bool {
+    matches!(reply, Reply::Closed(n) if *n == number)
+}
+
+/// Whether a pair is opened that has these ends.
+pub fn opens(world: &mut World, node: u8, first: End, second: End) -> bool {
+    let reply = world.step(&Step::Open(node));
+    is_opened(&reply, first, second)
+}
+
 // Whether a close has a mark of this number.
 fn closes(world: &mut World, node: u8, at: End, number: u64) -> bool {
-    matches!(world.step(&Step::Close { node, at }), Reply::Closed(n) if n == number)
+    let reply = world.step(&Step::Close { node, at });
+    is_closed(&reply, number)
 }
 
 // Whether a settle ends so.

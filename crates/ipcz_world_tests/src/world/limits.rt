@@ -119,10 +119,20 @@ fn both_leave(
     Ok(before && accepted && settled && got && after)
 }
 
-// The same, on a new world in which both portals have moved.
+// The same, once both portals have moved.
+fn move_and_leave(
+    world: &mut World,
+    alloc: Global,
+    turns: usize,
+    seen: &mut Seen,
+) -> Result<bool, Refusal> {
+    Ok(both_move(world, alloc)? && both_leave(world, alloc, turns, seen)?)
+}
+
+// The same, on a new world.
 fn both_leave_after(alloc: Global, turns: usize, seen: &mut Seen) -> Result<bool, Refusal> {
     let mut world = World::new(alloc, 2, 8)?;
-    Ok(both_move(&mut world, alloc)? && both_leave(&mut world, alloc, turns, seen)?)
+    move_and_leave(&mut world, alloc, turns, seen)
 }
 
 // However far the two bypasses have come: a lock is held for a while, and for a while a side waits for the other.

@@ -135,15 +135,17 @@ static AFTER_A_BYPASS: [Call; 15] = [
     Call::Routers(2, None),
 ];
 
-// Whether the end moves on a new world of two nodes and so many words, and then these calls give what they should.
+// Whether the end moves, and then these calls give what they should.
+fn moves_and_goes_on(world: &mut World, alloc: Global, calls: &[Call]) -> Result<bool, Refusal> {
+    Ok(first_wrong(world, alloc, &MOVES)?.is_none() && first_wrong(world, alloc, calls)?.is_none())
+}
+
+// The same, on a new world of two nodes and so many words.
 fn goes_on(alloc: Global, words: u32, calls: &[Call]) -> Result<bool, Refusal>
     requires { IsWithinLimits 2 words }
 {
     let mut world = World::new(alloc, 2, words)?;
-    Ok(
-        first_wrong(&mut world, alloc, &MOVES)?.is_none()
-            && first_wrong(&mut world, alloc, calls)?.is_none(),
-    )
+    moves_and_goes_on(&mut world, alloc, calls)
 }
 
 #[test]

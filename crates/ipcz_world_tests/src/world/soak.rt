@@ -3,7 +3,7 @@
 //!
 //! Nothing is promised of what stands here: a test's own proof would else work out the world at each call.
 
-use super::calls::puts;
+use super::calls::{is_closed, puts};
 use super::{get, is_got, is_refused};
 use ipcz_base::{End, Refusal, Side};
 use ipcz_world::{Reply, Settled, Step, World};
@@ -113,6 +113,18 @@ fn ending_of(number: u64) -> Ending {
     }
 }
 
+// The portals of the pair that was opened on a node; none if each word is claimed.
+fn portals_of(reply: &Reply, node: u8) -> Result<Option<(Portal, Portal)>, Wrong> {
+    match reply {
+        Reply::Opened(first, second) => Ok(Some((
+            Portal { node, end: *first },
+            Portal { node, end: *second },
+        ))),
+        Reply::Refused(Refusal::NoWord) => Ok(None),
+        _ => Err(Wrong::Open),
+    }
+}
+
 impl Soak {
     fn new(alloc: Global) -> Result<Soak, Wrong> {
         match World::new(alloc, NODES, WORDS) {
@@ -127,14 +139,8 @@ impl Soak {
 
     // Opens a pair on a node; none if each word is claimed.
     fn open(&mut self, node: u8) -> Result<Option<(Portal, Portal)>, Wrong> {
-        match self.world.step(&Step::Open(node)) {
-            Reply::Opened(first, second) => Ok(Some((
-                Portal { node, end: first },
-                Portal { node, end: second },
-            ))),
-            Reply::Refused(Refusal::NoWord) => Ok(None),
-            _ => Err(Wrong::Open),
-        }
+        let reply = self.world.step(&Step::Open(node));
+        portals_of(&reply, node)
     }
 
     fn put(&mut self, at: Portal, data: &[u8], ends: &[End], number: u64) -> Result<(), Wrong> {
@@ -166,10 +172,8 @@ impl Soak {
             node: at.node,
             at: at.end,
         };
-        match self.world.step(&step) {
-            Reply::Closed(n) => agree(n == number, Wrong::Close),
-            _ => Err(Wrong::Close),
-        }
+        let reply = self.world.step(&step);
+        agree(is_closed(&reply, number), Wrong::Close)
     }
 
     fn settle(&mut self) -> Result<(), Wrong> {

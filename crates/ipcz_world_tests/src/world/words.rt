@@ -1,9 +1,9 @@
 //! Link words that are used up: what an open and a proxy are answered once each word is claimed.
 
-use super::calls::{Call, first_wrong};
+use super::calls::{self, Call, first_wrong};
 use super::{A0, A1, B0, B1, a, b, is_refused};
 use ipcz_base::{End, Refusal, Side};
-use ipcz_world::{Reply, Step, World};
+use ipcz_world::{Step, World};
 use std::alloc::Global;
 
 /// As many link words as a world can have.
@@ -21,10 +21,7 @@ const LAST_B: End = End {
 
 // Whether an open on node 0 gives the pair of this number.
 fn opens(world: &mut World, pair: u64) -> bool {
-    match world.step(&Step::Open(0)) {
-        Reply::Opened(first, second) => first == a(pair) && second == b(pair),
-        _ => false,
-    }
+    calls::opens(world, 0, a(pair), b(pair))
 }
 
 // Whether opens on node 0 give each pair from the second to the last.
@@ -135,16 +132,21 @@ static GOES: [Call; 8] = [
 
 // Whether a proxy that found no word stays after words were added, and goes once it was let ask again; and whether nothing changes where none
 // waits.
-fn leaves_in_time(alloc: Global) -> Result<bool, Refusal> {
-    let mut world = World::new(alloc, 2, 2)?;
-    let new = world.retry() == 0 && world.is_quiet() && opens(&mut world, 1);
-    let moved = first_wrong(&mut world, alloc, &MOVES)?.is_none();
+fn leaves(world: &mut World, alloc: Global) -> Result<bool, Refusal> {
+    let new = world.retry() == 0 && world.is_quiet() && opens(world, 1);
+    let moved = first_wrong(world, alloc, &MOVES)?.is_none();
     world.add_words(2)?;
-    let stays = first_wrong(&mut world, alloc, &STAYS)?.is_none();
+    let stays = first_wrong(world, alloc, &STAYS)?.is_none();
     let asks = world.retry() == 1 && world.retry() == 0;
-    let goes = first_wrong(&mut world, alloc, &GOES)?.is_none();
+    let goes = first_wrong(world, alloc, &GOES)?.is_none();
     let last = world.retry() == 0 && world.is_quiet();
     Ok(new && moved && stays && asks && goes && last)
+}
+
+// The same, in a new world. (What has several ways out borrows its world, since each at which one is dropped is dear to prove.)
+fn leaves_in_time(alloc: Global) -> Result<bool, Refusal> {
+    let mut world = World::new(alloc, 2, 2)?;
+    leaves(&mut world, alloc)
 }
 
 #[test]
