@@ -86,6 +86,9 @@ class Narrowing:
         self.kept = label if "-clause-" in record.goal and label in {it.label for it in self.clauses} else None
         self.drops = bool(self.clauses) and not any(it.is_starred for it in self.clauses) and (not self.is_of_return or bool(self.kept))
 
+    def count_dropped(self) -> int:
+        return len(self.clauses) - bool(self.kept) if self.drops else 0
+
     def head(self, lines: list[str]) -> list[str]:
         """Returns the lines without the clauses that go; the number of lines stays. A clause that stays alone has no name, so that its goals have the
         name of the return alone, and its type."""
@@ -137,6 +140,10 @@ def parts(text: str) -> tuple[list[str], dict[str, list[str]]]:
         elif line.strip() and not line.startswith("--"):
             lines.append(line)
     return uses, blocks
+
+
+def count_answers(text: str) -> int:
+    return sum(bool(ANSWER.match(line)) for line in text.split("\n"))
 
 
 def pieces(name: str) -> list[str]:

@@ -25,7 +25,7 @@ CHOICE = re.search(r"^choose e n = .*$", (TOP / "crates/ipcz_edge" / SPEC).read_
 # What is planted: what must be told of it, its file, old text and new one, and if need be the function of which it says that it refuses it.
 PLANTED = {
     # (all others of bodies stand beside this one: what calls it has no proof, and is no nearer to a goal that fails)
-    "wrong_callee": ("refused", "src/link_slot.rt", "=> (LinkId::Central(word), side, other)", "=> (LinkId::Central(other as u32), side, word as u8)"),
+    "wrong_callee": ("refused", "src/link_slot.rt", "=> (LinkId::Central(word), side, other)", "=> (LinkId::Central(other as u64), side, word as u8)"),
     "harmless_in_what_calls_it": ("NOT REFUSED", EDGE, "        self.primary.end()", "        let slot = &self.primary; slot.end()"),
     "harmless_two_calls_above_it": ("NOT REFUSED", EDGE, "self.primary().is_none() &&", "!self.primary().is_some() &&"),
     "wrong_in_what_calls_it": ("refused", EDGE, "is_link(self.primary(), link, side) ||", "self.decays() ||"),
@@ -162,15 +162,15 @@ def main() -> None:
         if len([*find_lost_edits.lost_records([], ["ipcz_edge/gone"])]) != 1:
             failed.append("it isn't told of a record that its edit is gone")
         for name in PLANTED:
-            if name not in ("wrong_callee", "known_goal"):
+            if name not in ("wrong_callee", "known_goal_is_proved"):
                 (crate / "edits" / f"{name}.edit").unlink()
         # what is written is where the whole contract refuses an edit, and others' records stay
         text, status, told = tried(room, "--write")
         written = (room / "tools/data/refused_at.txt").read_text()
-        if status or "ipcz_edge/known_goal: returns-then-decays-clause-edge\n" not in written or "ipcz_edge/known_function: " not in written:
+        if status or "ipcz_edge/known_goal_is_proved: invariant_of-self\n" not in written or "ipcz_edge/known_goal: " not in written:
             failed.append(f"it wrote: {written}")
         texts.append(text)
-        (crate / "edits" / "known_goal.edit").unlink()
+        (crate / "edits" / "known_goal_is_proved.edit").unlink()
         # a check that takes too long tells nothing of its edits
         text, status, told = tried(room, EDIT_SECONDS="1")
         if status != 1 or told.get("wrong_callee") != "NOT TRIED":

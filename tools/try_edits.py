@@ -451,6 +451,8 @@ NOTE = re.compile(r"^note: (src/\S+?):(\d+):\d+: (it is not proved [^;\n]*)(.*)$
 # Its name, and what is said of one that `search` didn't end with, which took it long.
 GOAL = re.compile(r"\(`([^`]+)`\)$")
 GAVE_UP = "gave up at one of its limits"
+# A function isn't narrowed for so few clauses or answers that go, if nothing else of it is unproved.
+LITTLE = 2
 # An error in the answers of a function, at a goal or a lemma; and what says only that a name is gone.
 ANSWER = re.compile(r"^(?:\./)?proofs/(\S+)/(?:Answers|Invariants|Proof)\.antt:\d+:\d+: error: (`[^`]+`: .*)$", re.M)
 GONE = re.compile(r"has no field|record `[^`]+` \(nearest: |is not in scope|has no `|is no constructor of|write one of its constructors|(?:was|is) not admitted")
@@ -529,8 +531,10 @@ class Said:
             return None
         narrow = self.room.narrowing(edit, Record(found[0]))
         others = tuple(it for it in goals if it != found[0] and not narrow.goes(it))
-        is_answered = self.room.crate.joinpath("proofs", *next(iter(edit.functions)).name.split("::")[1:], "Answers.antt").is_file()
-        return Record(found[0], others) if others or narrow.drops or is_answered else None
+        answers = self.room.crate.joinpath("proofs", *next(iter(edit.functions)).name.split("::")[1:], "Answers.antt")
+        count = narrowing.count_answers(answers.read_text()) if answers.is_file() else 0
+        is_dear = len({*goals, *self.answers(function)}) > 1 or max(narrow.count_dropped(), count) > LITTLE
+        return Record(found[0], others) if is_dear else None
 
     def answered(self, name: str) -> list[str]:
         """Returns the errors among the function's answers, each whole, since what says that a name is gone may come late."""
