@@ -14,6 +14,7 @@ asked under the same limits. If it is proved, or isn't asked, the edit is judged
 from __future__ import annotations
 
 import dataclasses
+import functools
 import pathlib
 import re
 
@@ -177,10 +178,16 @@ def files_below(crate: pathlib.Path, path: list[str]) -> dict[str, int]:
         file = left.pop()
         name = str(file.relative_to(crate))
         if name not in found:
-            text = file.read_text()
-            found[name] = len(text)
-            left += [it for used in USE.findall(text) if (it := file_of(crate, used.split(".")))]
+            found[name], used = read(crate, file)
+            left += used
     return found
+
+
+@functools.cache
+def read(crate: pathlib.Path, file: pathlib.Path) -> tuple[int, list[pathlib.Path]]:
+    """Returns the length of a file of proofs, and those of which it uses names."""
+    text = file.read_text()
+    return len(text), [it for used in USE.findall(text) if (it := file_of(crate, used.split(".")))]
 
 
 def file_of(crate: pathlib.Path, names: list[str]) -> pathlib.Path | None:

@@ -493,12 +493,18 @@ class Said:
 
     def notes(self, function: Function) -> dict[str, tuple[str, bool]]:
         """Returns the unproved goals that are placed in the function, by their names: each with its place, and whether the search gave up."""
-        found = {}
+        return self.all_notes.get(function, {})
+
+    @functools.cached_property
+    def all_notes(self) -> dict[Function, dict[str, tuple[str, bool]]]:
+        found: dict[Function, dict[str, tuple[str, bool]]] = {}
+        files: dict[str, list[Function]] = {}
         for file, line, what, more in NOTE.findall(self.text):
-            near = [it for it in self.room.functions_in(file) if int(line) <= it.end + 1]
-            if near and near[0] == function:
+            functions = files[file] = files.get(file) or self.room.functions_in(file)
+            if near := next((it for it in functions if int(line) <= it.end + 1), None):
                 goal = GOAL.search(what)
-                found[goal[1] if goal else what] = f"{file}:{self.room.original(file, int(line))}: {what}", GAVE_UP in more
+                where = f"{file}:{self.room.original(file, int(line))}: {what}"
+                found.setdefault(near, {}).setdefault(goal[1] if goal else what, (where, GAVE_UP in more))
         return found
 
     def answers(self, function: Function) -> dict[str, str]:
@@ -823,8 +829,8 @@ class Trial:
                 self.together([edit], over, is_narrow=False)
 
     def note(self, said: Said, edit: Edit) -> None:
-        """Notes where the whole contract refuses an edit."""
-        if edit not in said.room.narrowed and may_be_narrowed(self.crate, edit) and (record := said.record(edit)):
+        """Notes where the whole contract refuses an edit, if that is to be written."""
+        if self.is_written and edit not in said.room.narrowed and may_be_narrowed(self.crate, edit) and (record := said.record(edit)):
             self.found[edit.name] = record
 
     def one_by_one(self, edits: list[Edit]) -> None:
@@ -865,7 +871,7 @@ class Trial:
         shutil.rmtree(over, ignore_errors=True)
         if asked and what != REFUSED:
             return False
-        if len(asked) > 1 and (law := said.refuser(asked)):
+        if self.is_written and len(asked) > 1 and (law := said.refuser(asked)):
             self.found[edit.name] = Record(law)
         self.tell(edit, what, why)
         return True
