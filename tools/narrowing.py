@@ -121,7 +121,9 @@ class Narrowing:
         body = "\n\n".join([*([body] if body else []), *(f"pub {it} : goal.{it}\n{it} = ?" for it in opened)])
         if self.kept:
             body = re.sub(rf"\b(returns(?:-[^\s`]*?)?)-clause-{self.kept}(?=[\s;,)]|$)", r"\1", body)
-        named = [it for it in uses if is_used(it, body)]
+        # (a file of the crate's own proofs that isn't used isn't read)
+        own = ".".join(goals.split(".")[:3]) + "."
+        named = [it for it in uses if own not in it or is_used(it, body)]
         if not any(it.endswith(" as goal") for it in named):
             named.append(f"use {goals} as goal")
         return "\n".join([*named, "", body, ""])
