@@ -1,4 +1,5 @@
-"""Finds edits of wrong bodies and turns of definitions that can't be made: a text that one replaces doesn't stand in its file once.
+"""Finds edits of wrong bodies and turns of definitions that can't be made: a text that one replaces doesn't stand in its file once. And lines of
+tools/data/refused_at.txt that are for no edit, or for one that isn't judged by them.
 
     python3 tools/find_lost_edits.py    prints each, and fails if there is one
 
@@ -6,18 +7,29 @@ It looks at the folders `must-fail`, `edits` and `harmless-edits` of all crates 
 for an edit that it can't make, but late, and not with each kit for one of `must-fail`; and it tries a third of the turns.
 """
 import sys
-from collections.abc import Iterator
+from collections.abc import Iterable, Iterator
 
 import asked
-from try_edits import FOLDERS, TOP, USED, Edit
+import narrowing
+from try_edits import FOLDERS, TOP, USED, Edit, may_be_narrowed
 from turn_definitions import TURNS
 
 
-def lost_edits() -> Iterator[str]:
-    for crate in [TOP / "crates" / name for name in USED]:
-        for path in [it for folder in ("must-fail", *FOLDERS) for it in sorted((crate / folder).glob("*"))]:
-            if fault := Edit(crate, path).fault:
-                yield f"{path.relative_to(TOP)}: {fault}"
+def every_edit() -> list[Edit]:
+    crates = [TOP / "crates" / name for name in USED]
+    return [Edit(crate, it) for crate in crates for folder in ("must-fail", *FOLDERS) for it in sorted((crate / folder).glob("*"))]
+
+
+def lost_edits(edits: Iterable[Edit]) -> Iterator[str]:
+    for edit in edits:
+        if edit.fault:
+            yield f"{edit.path.relative_to(TOP)}: {edit.fault}"
+
+
+def lost_records(edits: Iterable[Edit], records: Iterable[str]) -> Iterator[str]:
+    judged = {it.name for it in edits if it.path.parent.name in FOLDERS and (may_be_narrowed(it.crate, it) or not it.functions)}
+    for name in sorted(set(records) - judged):
+        yield f"{narrowing.RECORDS.relative_to(TOP)}: {name}: there is no edit of that name, or it changes what can't be copied"
 
 
 def lost_turns() -> Iterator[str]:
@@ -31,7 +43,8 @@ def lost_turns() -> Iterator[str]:
 
 def main() -> None:
     asked.parser(__doc__).parse_args()
-    lost = [*lost_edits(), *lost_turns()]
+    edits = every_edit()
+    lost = [*lost_edits(edits), *lost_records(edits, narrowing.read_records()), *lost_turns()]
     print(*lost, sep="\n", end="\n" if lost else "")
     sys.exit(len(lost) > 0)
 

@@ -30,7 +30,7 @@ from asked import TOP
 
 HERE = pathlib.Path(__file__).resolve().parent
 # Not tools but what they share.
-SHARED = ("asked", "mutations", "peers")
+SHARED = ("asked", "mutations", "narrowing", "peers")
 # A page and the title of a part of it, as pages and comments name it, there perhaps over the end of a line.
 NAMED = re.compile(r'([A-Z_]+)\.md\)?,\s+(?:(?://[/!]?|--|#)\s+)?"([^"]+)"(?: and "([^"]+)")?')
 # A part that a page names in brackets by itself: it is one of the same page.

@@ -3,6 +3,7 @@
     python3 tools/try_edits.py [NAME..]                   those of these crates, or of all
     python3 tools/try_edits.py --since COMMIT [NAME..]    those, and of `must-fail`, that have changed since, or whose function or else file has
     python3 tools/try_edits.py --beside FOLDER            beside an `rt ci` here, as .ci/run does
+    python3 tools/try_edits.py --write [NAME..]           judges by whole contracts, and writes where edits are refused (`narrowing.py`)
     python3 tools/try_edits.py --kit NAME..               has `rt must-fail` try these crates' in a copy, one after the other
 
 Each edit has one line, and so has each crate, with the processor's seconds; the last line counts them. The tool fails if an edit isn't as it
@@ -16,12 +17,16 @@ proved has nothing to do with any other body. So edits that change nothing but b
 first changes a copy of it, which stands behind it under another name, with the same contract and proof files. A constant counts as a part of the
 bodies that name it. Only the functions that they change are checked. Of each other function only the contract is used: its proof is a hole,
 since `rt ci` proves it as it is, and its body is left out, so that what it calls isn't read; only a trait's function, and one that calls itself,
-keep both. A function that only calls what isn't proved has no such goal, and rattle's line of the function tells the two apart. What isn't
-refused so is tried once more, by itself, in the function.
+keep both. A function that only calls what isn't proved has no such goal, and rattle's line of the function tells the two apart.
+
+An edit of one function, of which tools/data/refused_at.txt says at which goal it is refused, changes a copy that is narrowed to that goal, as
+`narrowing.py` says, with the reason why that refuses nothing that is right. What isn't refused at that very goal is tried again with the whole
+contract; and what isn't refused so is tried once more, by itself, in the function. So a line that is wrong costs time, and turns no verdict.
 
 **Other edits** (a definition, a clause, a type) are tried one by one: the crate, over what a check of it as it stands has proved, must
 not be proved. The functions that an edit names in a line `refused by: PATH, PATH`, or else the crate's laws, which are its functions without a
-statement, are asked first, and only the contract of all else is used; if they are proved, the whole crate is checked.
+statement, are asked first, and only the contract of all else is used; if they are proved, the whole crate is checked. Of the laws the one that
+tools/data/refused_at.txt names is asked before all others, alone.
 
 All of it happens on copies. The libraries below are made by `rt lib`, and a check begins with what `rt check` kept in the folders `out`. With
 `--beside` both are from nothing: a crate is tried once that run has built the libraries below it. Then what is as it must be is kept for later
@@ -48,8 +53,11 @@ import sys
 import tempfile
 import threading
 import time
-from collections.abc import Callable, Iterable, Iterator
+from collections.abc import Callable, Iterable, Iterator, Mapping
 from concurrent.futures import ThreadPoolExecutor
+
+import narrowing
+from narrowing import Narrowing, Record
 
 TOP = pathlib.Path(__file__).resolve().parent.parent
 KIT = pathlib.Path(subprocess.run(["rt", "doc"], stdout=subprocess.PIPE, text=True, check=True).stdout.strip()).parent
@@ -242,7 +250,7 @@ class Edit:
     those of which it says that they refuse it."""
 
     def __init__(self, crate: pathlib.Path, path: pathlib.Path) -> None:
-        self.path, self.name, self.is_harmless = path, f"{crate.name}/{path.stem}", path.parent.name == HARMLESS
+        self.crate, self.path, self.name, self.is_harmless = crate, path, f"{crate.name}/{path.stem}", path.parent.name == HARMLESS
         self.lines: dict[str, dict[int, str]] = {}
         self.functions: frozenset[Function] = frozenset()
         texts: dict[str, str] = {}
@@ -309,6 +317,10 @@ def has_copies(crate: pathlib.Path, function: Function) -> bool:
     return not (function.owner and function.owner[1] or (folder.parent / f"+{function.short}").exists() or (folder / "Proof.antt").exists())
 
 
+def may_be_narrowed(crate: pathlib.Path, edit: Edit) -> bool:
+    return len(edit.functions) == 1 and edit.is_within() and all(has_copies(crate, it) for it in edit.functions)
+
+
 def parted(crate: pathlib.Path, edits: Iterable[Edit]) -> list[list[Edit]]:
     """Parts edits of bodies so that of those in one batch that change the same function each but the first can change a copy of it."""
 
@@ -332,10 +344,12 @@ COPY = re.compile(r"_edit\d+\b")
 
 
 class Room:
-    """A copy of a crate in which edits are made: which functions of the copy each of them changes, and where the lines of its files come from."""
+    """A copy of a crate in which edits are made: which functions of the copy each of them changes, where the lines of its files come from, and to what
+    the functions are narrowed, of those edits for which there is a record."""
 
-    def __init__(self, crate: pathlib.Path, folder: pathlib.Path, edits: list[Edit]) -> None:
+    def __init__(self, crate: pathlib.Path, folder: pathlib.Path, edits: list[Edit], records: Mapping[str, Record] | None = None) -> None:
         self.crate, self.folder = crate, folder
+        self.narrowed = {it: self.narrowing(it, records[it.name]) for it in edits if records and it.name in records and may_be_narrowed(crate, it)}
         self.changed: dict[Edit, frozenset[Function]] = {}
         self.lines: dict[str, list[tuple[int, str]]] = {}
         folder.mkdir(parents=True)
@@ -345,7 +359,7 @@ class Room:
         seen: set[Function] = set()
         aside = []
         for edit in edits:
-            if edit.functions & seen:
+            if edit.functions & seen or edit in self.narrowed:
                 aside.append(edit)
             else:
                 seen |= edit.functions
@@ -360,6 +374,10 @@ class Room:
         for edit in aside:
             names = {(it.file, it.owner, name) for it, of, name in copies if of is edit}
             self.changed[edit] = frozenset(it for file in edit.lines for it in self.functions_in(file) if (it.file, it.owner, it.short) in names)
+
+    def narrowing(self, edit: Edit, record: Record) -> Narrowing:
+        (function,) = edit.functions
+        return Narrowing((self.crate / function.file).read_text().split("\n")[function.head + 1 : function.begin], record)
 
     def lines_of(self, file: str) -> list[tuple[int, str]]:
         return self.lines.setdefault(file, list(enumerate((self.crate / file).read_text().split("\n"))))
@@ -380,14 +398,25 @@ class Room:
         copy = [(at, found.get(at, text[at])) for at in range(first, function.end + 1)]
         at, head = copy[function.head - first]
         copy[function.head - first] = at, head.replace(f"fn {function.short}", f"fn {name}", 1)
+        if narrow := self.narrowed.get(edit):
+            begin, end = function.head - first + 1, function.begin - first
+            copy[begin:end] = [(at, line) for (at, _), line in zip(copy[begin:end], narrow.head([line for _, line in copy[begin:end]]))]
         self.lines_of(function.file)[function.end + 1 : function.end + 1] = copy
-        path = function.name.split("::")[1:]
-        folder = self.folder.joinpath("proofs", *path)
+        self.add_proofs(function.name.split("::")[1:], name, narrow)
+
+    def add_proofs(self, path: list[str], name: str, narrow: Narrowing | None) -> None:
+        """Adds a copy of a function's files of proofs under another name, narrowed if need be."""
+        folder, renamed = self.folder.joinpath("proofs", *path), ".".join((*path[:-1], name))
         if folder.is_dir():
             to = shutil.copytree(folder, folder.with_name(name))
             was = re.compile(rf"\.{re.escape('.'.join(path))}(?=\.)")
             for it in to.glob("**/*.antt"):
-                it.write_text(was.sub("." + ".".join((*path[:-1], name)), it.read_text()))
+                it.write_text(was.sub("." + renamed, it.read_text()))
+        answers = folder.with_name(name) / "Answers.antt"
+        if narrow and (answers.is_file() or narrow.record.others):
+            answers.parent.mkdir(parents=True, exist_ok=True)
+            text = answers.read_text() if answers.is_file() else ""
+            answers.write_text(narrow.answers(text, f"Rattle.{self.crate.name}.proofs.{renamed}.Goals"))
 
     def empty(self, functions: set[Function]) -> None:
         """Puts a loop without end in place of the bodies of functions. One that makes a constant, or whose body tells the type of its result, keeps it."""
@@ -418,7 +447,12 @@ FUNCTION = re.compile(r"^fn (\S+): (.*)$", re.M)
 # What rattle says of a function: a goal of its own isn't proved, or it is proved but for the holes.
 OPEN = re.compile(r"^no proof: .*? did not prove `[^`]+`")
 WELL = re.compile(r"^(?:proved|no holes|depends on a hole)\b")
-NOTE = re.compile(r"^note: (src/\S+?):(\d+):\d+: (it is not proved [^;\n]*)", re.M)
+NOTE = re.compile(r"^note: (src/\S+?):(\d+):\d+: (it is not proved [^;\n]*)(.*)$", re.M)
+# Its name, and what is said of one that `search` didn't end with, which took it long.
+GOAL = re.compile(r"\(`([^`]+)`\)$")
+GAVE_UP = "gave up at one of its limits"
+# A function isn't narrowed for so few clauses or answers that go, if nothing else of it is unproved.
+LITTLE = 2
 # An error in the answers of a function, at a goal or a lemma; and what says only that a name is gone.
 ANSWER = re.compile(r"^(?:\./)?proofs/(\S+)/(?:Answers|Invariants|Proof)\.antt:\d+:\d+: error: (`[^`]+`: .*)$", re.M)
 GONE = re.compile(r"has no field|record `[^`]+` \(nearest: |is not in scope|has no `|is no constructor of|write one of its constructors|(?:was|is) not admitted")
@@ -455,17 +489,75 @@ class Said:
 
     def noted(self, function: Function) -> str | None:
         """Returns the first unproved goal that is placed in the function."""
-        for file, line, what in NOTE.findall(self.text):
-            near = [it for it in self.room.functions_in(file) if int(line) <= it.end + 1]
-            if near and near[0] == function:
-                return f"{file}:{self.room.original(file, int(line))}: {what}"
-        return None
+        return next((where for where, _ in self.notes(function).values()), None)
+
+    def notes(self, function: Function) -> dict[str, tuple[str, bool]]:
+        """Returns the unproved goals that are placed in the function, by their names: each with its place, and whether the search gave up."""
+        return self.all_notes.get(function, {})
+
+    @functools.cached_property
+    def all_notes(self) -> dict[Function, dict[str, tuple[str, bool]]]:
+        found: dict[Function, dict[str, tuple[str, bool]]] = {}
+        files: dict[str, list[Function]] = {}
+        for file, line, what, more in NOTE.findall(self.text):
+            functions = files[file] = files.get(file) or self.room.functions_in(file)
+            if near := next((it for it in functions if int(line) <= it.end + 1), None):
+                goal = GOAL.search(what)
+                where = f"{file}:{self.room.original(file, int(line))}: {what}"
+                found.setdefault(near, {}).setdefault(goal[1] if goal else what, (where, GAVE_UP in more))
+        return found
+
+    def answers(self, function: Function) -> dict[str, str]:
+        """Returns what is refused among the function's answers, by the names, but for what says only that a name is gone."""
+        found = [it for it in self.answered(function.name) if not GONE.search(it)]
+        return {it.split("`")[1]: it for it in found}
+
+    def is_open(self, function: Function) -> bool:
+        said = self.functions.get(function.name, "")
+        return bool(OPEN.match(said)) or said.startswith("not proved")
+
+    def narrow_goal(self, edit: Edit) -> str | None:
+        """Returns the goal to which the function is narrowed, if it isn't proved, or none."""
+        (function,), narrow = self.room.changed[edit], self.room.narrowed[edit]
+        if not self.is_judged or not self.is_open(function):
+            return None
+        found = {**{name: where for name, (where, _) in self.notes(function).items()}, **self.answers(function)}
+        goal = narrow.name(narrow.record.goal)
+        return found[goal].replace(f"`{goal}`", f"`{narrow.record.goal}`") if goal in found else None
+
+    def record(self, edit: Edit) -> Record | None:
+        """Returns at which goal the whole contract refuses an edit soonest, if to narrow the function to it saves something: at one that `search` leaves
+        open, if it leaves one and no answer is refused, or else at an answer, as in `open_goal`."""
+        (function,) = self.room.changed[edit]
+        notes = self.notes(function)
+        # (a search that ends by itself ends soon, and to a goal of no clause no clause is kept)
+        goals = sorted(notes, key=lambda it: (notes[it][1], it.startswith("returns")))
+        is_left = OPEN.match(self.functions.get(function.name, ""))
+        if not self.is_open(function) or not (found := goals if is_left else [*self.answers(function)]):
+            return None
+        narrow = self.room.narrowing(edit, Record(found[0]))
+        others = tuple(it for it in goals if it != found[0] and not narrow.goes(it))
+        answers = self.room.crate.joinpath("proofs", *next(iter(edit.functions)).name.split("::")[1:], "Answers.antt")
+        count = narrowing.count_answers(answers.read_text()) if answers.is_file() else 0
+        is_dear = len({*goals, *self.answers(function)}) > 1 or max(narrow.count_dropped(), count) > LITTLE
+        return Record(found[0], others) if is_dear else None
 
     def answered(self, name: str) -> list[str]:
         """Returns the errors among the function's answers, each whole, since what says that a name is gone may come late."""
         path = "/".join(name.split("::")[1:])
         # (the answers of a function that calls itself stand under its name with a plus)
         return [f"proofs/{where}: {what}" for where, what in ANSWER.findall(self.text) if where.replace("+", "") == path]
+
+    def refuser(self, asked: Iterable[Function]) -> str | None:
+        """Returns the function that refuses an edit of a definition and whose proof reads least, of those that were asked."""
+        wrong = {file for file, _, what in self.placed if not GONE.search(what)}
+        read = {}
+        for it in asked:
+            path = it.name.split("::")[1:]
+            files = narrowing.files_below(self.room.crate, path)
+            if not WELL.match(self.functions.get(it.name, "")) and wrong & set(files):
+                read["::".join(path)] = sum(files.values())
+        return min(read, key=lambda it: read[it], default=None)
 
     def verdict(self, edit: Edit) -> tuple[str, str]:
         """Returns what an edit comes to that was tried by itself, and why."""
@@ -611,7 +703,7 @@ def sum_of_library(name: str) -> str:
 
 def sum_below(crate: pathlib.Path) -> str:
     """Returns a sum of what the verdict on an edit of the crate stands on but the edit: its text, the libraries below, the kit and this tool."""
-    own = [hashlib.sha256(it.read_bytes()).hexdigest() for it in (KIT / "KIT-ID", KIT / "WHAT", pathlib.Path(__file__))]
+    own = [hashlib.sha256(it.read_bytes()).hexdigest() for it in (KIT / "KIT-ID", KIT / "WHAT", pathlib.Path(__file__), pathlib.Path(narrowing.__file__))]
     return " ".join((*own, crate.name, *USED[crate.name], *map(sum_of_library, below(crate.name)), *(sum_of(crate / it) for it in PARTS)))
 
 
@@ -631,6 +723,9 @@ class Trial:
         self.closed: set[str] = set()
         self.seconds, self.earlier, self.sum = 0.0, 0, ""
         self.lock, self.numbers = threading.Lock(), itertools.count()
+        self.records: dict[str, Record] = {}
+        self.found: dict[str, Record] = {}
+        self.is_written = False
 
     def failed(self) -> list[Edit]:
         return [it for it in self.edits if self.verdicts.get(it, (UNKNOWN,))[0] != (MISSED if it.is_harmless else REFUSED)]
@@ -663,10 +758,10 @@ class Trial:
     def next_room(self, name: str) -> pathlib.Path:
         return self.room / f"{name}{next(self.numbers)}"
 
-    def check(self, edits: list[Edit], over: pathlib.Path, asked: frozenset[Function] = frozenset()) -> Said:
+    def check(self, edits: list[Edit], over: pathlib.Path, asked: frozenset[Function] = frozenset(), is_narrow: bool = False) -> Said:
         """Checks a copy of the crate with these edits, over what the folder holds: whole, or only the functions that are asked for, or whose bodies are
         changed, with each other taken by its contract."""
-        room = Room(self.crate, self.next_room("copy"), edits)
+        room = Room(self.crate, self.next_room("copy"), edits, self.records if is_narrow else None)
         flags = ["--incremental", str(over)]
         if changed := frozenset().union(*room.changed.values()):
             asked = changed
@@ -682,12 +777,13 @@ class Trial:
             if status != -signal.SIGKILL or is_late or is_last:
                 break
         if "EDIT_LOGS" in os.environ:
-            pathlib.Path(os.environ["EDIT_LOGS"], f"{self.crate.name}.{room.folder.name}").write_text("".join(f"{it.name}\n" for it in edits) + f"\n{text}")
+            told = f"{seconds:.1f} s of a processor\n" + "".join(f"{it.name}\n" for it in edits) + f"\n{text}"
+            pathlib.Path(os.environ["EDIT_LOGS"], f"{self.crate.name}.{room.folder.name}").write_text(told)
         room.remove()
         closed = {"::".join((self.crate.name, *it.split("/"))) for it in RESERVED.findall(text)} - self.closed
         if asked and closed:
             self.closed |= closed
-            return self.check(edits, over, asked)
+            return self.check(edits, over, asked, is_narrow)
         return Said(room, status, text, is_late)
 
     def leave_open(self, room: Room, asked: frozenset[Function]) -> None:
@@ -710,52 +806,75 @@ class Trial:
             left.add(it)
         room.empty(left)
 
-    def together(self, edits: list[Edit], over: pathlib.Path) -> None:
-        """Tries edits of bodies in one check, what isn't refused so once more by itself, and those of a check that judges nothing (one doesn't
-        compile, say) in halves."""
-        said = self.check(edits, over)
-        if len(edits) == 1:
+    def together(self, edits: list[Edit], over: pathlib.Path, is_narrow: bool = True) -> None:
+        """Tries edits of bodies in one check, those with a record narrowly. What isn't refused so is tried once more, with the whole contract or by
+        itself, and those of a check that judges nothing (one doesn't compile, say) in halves."""
+        said = self.check(edits, over, is_narrow=is_narrow)
+        narrowed = said.room.narrowed
+        if len(edits) == 1 and not narrowed:
+            self.note(said, edits[0])
             self.tell(edits[0], *said.verdict(edits[0]))
-        elif not said.is_judged:
-            self.together(edits[: len(edits) // 2], over)
-            self.together(edits[len(edits) // 2 :], over)
+        elif len(edits) > 1 and not said.is_judged:
+            self.together(edits[: len(edits) // 2], over, is_narrow)
+            self.together(edits[len(edits) // 2 :], over, is_narrow)
         else:
-            goals = [(edit, said.open_goal(edit)) for edit in edits]
-            for edit, goal in goals:
+            goals = {it: said.narrow_goal(it) if it in narrowed else said.open_goal(it) for it in edits}
+            for edit, goal in goals.items():
                 if goal:
+                    self.note(said, edit)
                     self.tell(edit, REFUSED, goal)
-            for edit, goal in goals:
-                if not goal:
-                    self.together([edit], over)
+            for batch in parted(self.crate, [it for it in narrowed if not goals[it]]):
+                self.together(batch, over, is_narrow=False)
+            for edit in [it for it in edits if not goals[it] and it not in narrowed]:
+                self.together([edit], over, is_narrow=False)
+
+    def note(self, said: Said, edit: Edit) -> None:
+        """Notes where the whole contract refuses an edit, if that is to be written."""
+        if self.is_written and edit not in said.room.narrowed and may_be_narrowed(self.crate, edit) and (record := said.record(edit)):
+            self.found[edit.name] = record
 
     def one_by_one(self, edits: list[Edit]) -> None:
-        """Tries edits that change more than bodies: by the functions that an edit names, or the crate's laws, if it has some, and what these don't
-        refuse by the whole crate."""
+        """Tries edits that change more than bodies: by the function that is known to refuse one, then by the functions that it names, or the crate's
+        laws, if it has some, and what these don't refuse by the whole crate."""
+        named = {it.name.partition("::")[2]: it for it in self.all if it.name}
+        known = {it: frozenset({named[self.records[it.name].goal]}) for it in edits if it.name in self.records and self.records[it.name].goal in named}
+        edits = self.asked_first(edits, known)
+        edits = self.asked_first(edits, {it: it.refusers or self.laws for it in edits if it.refusers or self.laws})
+        if not edits:
+            return
+        linked(self.room / "kept", self.room / "seed")
+        said = self.check([], self.room / "seed")
+        if said.is_proved:
+            with ThreadPoolExecutor(PROCESSORS) as pool:
+                list(pool.map(lambda it: self.is_told(it, self.room / "seed", frozenset()), edits))
+        else:
+            for edit in edits:
+                self.tell(edit, UNKNOWN, f"the crate isn't proved without it: {said.last}")
 
-        def tried(edit: Edit, start: pathlib.Path, asked: frozenset[Function]) -> Edit | None:
-            over = self.next_room("over")
-            linked(start, over)
-            what, why = self.check([edit], over, asked).verdict(edit)
-            shutil.rmtree(over, ignore_errors=True)
-            if asked and what != REFUSED:
-                return edit
-            self.tell(edit, what, why)
-            return None
-
+    def asked_first(self, edits: list[Edit], asked: dict[Edit, frozenset[Function]]) -> list[Edit]:
+        """Tries edits by the functions that are asked of each, if these are proved without it, and returns those that aren't refused so."""
+        if not (every := frozenset().union(*asked.values())):
+            return edits
+        said = self.check([], self.room / "kept", every)
+        if not said.is_judged or not all(WELL.match(said.functions.get(it.name, "")) for it in every):
+            return edits
         with ThreadPoolExecutor(PROCESSORS) as pool:
-            asked = {it: it.refusers or self.laws for it in edits}
-            if every := frozenset().union(*asked.values()):
-                said = self.check([], self.room / "kept", every)
-                if said.is_judged and all(WELL.match(said.functions.get(it.name, "")) for it in every):
-                    edits = [it for it in pool.map(lambda it: tried(it, self.room / "kept", asked[it]) if asked[it] else it, edits) if it]
-            if edits:
-                linked(self.room / "kept", self.room / "seed")
-                said = self.check([], self.room / "seed")
-                if said.is_proved:
-                    list(pool.map(lambda it: tried(it, self.room / "seed", frozenset()), edits))
-                else:
-                    for edit in edits:
-                        self.tell(edit, UNKNOWN, f"the crate isn't proved without it: {said.last}")
+            told = dict(zip(asked, pool.map(lambda it: self.is_told(it, self.room / "kept", asked[it]), asked)))
+        return [it for it in edits if not told.get(it)]
+
+    def is_told(self, edit: Edit, start: pathlib.Path, asked: frozenset[Function]) -> bool:
+        """Tries one edit by some functions, or by the whole crate, and returns whether that tells what it comes to: only a refusal does, if some are asked."""
+        over = self.next_room("over")
+        linked(start, over)
+        said = self.check([edit], over, asked)
+        what, why = said.verdict(edit)
+        shutil.rmtree(over, ignore_errors=True)
+        if asked and what != REFUSED:
+            return False
+        if self.is_written and len(asked) > 1 and (law := said.refuser(asked)):
+            self.found[edit.name] = Record(law)
+        self.tell(edit, what, why)
+        return True
 
     def run(self) -> None:
         """Tries all edits."""
@@ -766,7 +885,7 @@ class Trial:
         self.sum = sum_below(self.crate) if self.beside else ""
         for edit in [it for it in self.edits if it.fault]:
             self.tell(edit, BAD, edit.fault)
-        edits = [it for it in self.edits if not it.fault and not (self.beside and self.is_known(it))]
+        edits = [it for it in self.edits if not it.fault and not (self.beside and not self.is_written and self.is_known(it))]
         kept = self.crate / "out" / "incremental"
         self.room.mkdir()
         if kept.is_dir() and not self.beside:
@@ -802,11 +921,19 @@ def by_kit(names: list[str]) -> int:
         return subprocess.run(["rt", "must-fail", *names], cwd=room).returncode
 
 
+def write(trials: list[Trial], records: dict[str, Record]) -> None:
+    """Writes the records of the edits that were tried, in place of the earlier ones, and leaves those of others."""
+    tried = {edit.name for it in trials for edit in it.verdicts}
+    found = {name: record for it in trials for name, record in it.found.items()}
+    narrowing.write_records({**{name: record for name, record in records.items() if name not in tried}, **found})
+
+
 def main() -> None:
     given = argparse.ArgumentParser(description=__doc__, formatter_class=argparse.RawDescriptionHelpFormatter)
     given.add_argument("names", nargs="*")
     given.add_argument("--since")
     given.add_argument("--beside", type=pathlib.Path)
+    given.add_argument("--write", action="store_true")
     given.add_argument("--kit", action="store_true")
     asked = given.parse_args()
     folders = (*FOLDERS, "must-fail") if asked.since else FOLDERS
@@ -819,6 +946,9 @@ def main() -> None:
     with tempfile.TemporaryDirectory(prefix="try-edits-") as room:
         signal.signal(signal.SIGTERM, lambda *_: end_all(room))
         trials = [Trial(it, folders, room, turns, beside) for it in names]
+        records = narrowing.read_records()
+        for it in trials:
+            it.records, it.is_written = {} if asked.write else records, asked.write
         for it in trials if asked.since else ():
             it.edits = [edit for edit in it.edits if edit.has_changed(it.crate, asked.since)]
         trials = [it for it in trials if it.edits]
@@ -830,6 +960,8 @@ def main() -> None:
             lend(turns, PROCESSORS - jobs, lambda: not beside or beside.has_ended() or all(it.done() for it in runs))
             for it in runs:
                 it.result()
+    if asked.write:
+        write(trials, records)
     failed = [edit for it in trials for edit in it.failed()]
     for edit in failed:
         print(f"FAILED: {edit.name}")
