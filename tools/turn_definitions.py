@@ -32,7 +32,7 @@ HERE = os.path.dirname(os.path.dirname(os.path.abspath(__file__)))
 LAW = "ipcz_world"
 SPEC, CODE = "ipcz_router/specs/Bypass.antt", "ipcz_router/src/router/bypass.rt"
 EFFECTS, TURNING = "ipcz_router/specs/ActEffects.antt", "ipcz_router/src/router/turns.rt"
-CARRYING, PASSING = "ipcz_router/src/router/carrying.rt", "ipcz_router/src/router/passing.rt"
+FAST_PATH, PASSING = "ipcz_router/src/router/fast_path.rt", "ipcz_router/src/router/passing.rt"
 MOVES, MOVING = "ipcz_router/specs/Calls.antt", "ipcz_router/src/router/calls.rt"
 QUEUES = "ipcz_router/specs/Acts.antt"
 TABLE = "ipcz_router/specs/ActTable.antt"
@@ -398,8 +398,8 @@ TURNS = {
         (QUEUES, "rest r = record r { flagged = false }", "rest r = r"),
         (TURNING, "                self.flagged = false;\n", ""),
         (PASSING, "        self.flagged = false;\n", "        let _flagged = self.flagged;\n"),
-        (CARRYING, "        let item = self.send_next();\n        self.flagged = false;\n        item\n", "        self.send_next()\n"),
-        (CARRYING, "        self.flagged = false;\n        true\n", "        true\n"),
+        (FAST_PATH, "        let item = self.send_next();\n        self.flagged = false;\n        item\n", "        self.send_next()\n"),
+        (FAST_PATH, "        self.flagged = false;\n        true\n", "        true\n"),
     ],
     "a_claim_without_a_word_is_made_again": [
         (EFFECTS, "run_dry r = record r { dry = true }", "run_dry r = r"),
@@ -415,11 +415,11 @@ TURNS = {
 # stays when the side is woken is never read again
 HARMLESS = {"a_wake_stays_in_the_word"}
 
-# what a lemma of the law comes to: the groups of the invariant, what keeps a role and what Told weighs, and the
+# what a lemma of the law comes to: the groups of the invariant, what keeps a role and what Controls weighs, and the
 # facts that are kept beside the invariant
 GROUPS = """
 Inv OpenInv Counts Ordered IsOrdered Shape HasShape Roles HasRole BegunRecords Links HasLinks Positions HasPositions Stands Words HasWord Spares BypassRecords
-IsBypassRecorded LiveLinks Stages HasStage Told Moves Terminals HasTerminal EndPlaces HasEndsHere BooksKept RetiredEnds Gones Items Order
+IsBypassRecorded LiveLinks Stages HasStage Controls Moves Terminals HasTerminal EndPlaces HasEndsHere BooksKept RetiredEnds Gones Items Order
 ProxyNumbers FreshNumbers HasFreshNumbers Conserved HeldOnce HasNoStrays AreFlagged IsAwake AreAwake IsAgreed AreAgreed FlagsAgree
 Knows Keeps ProxyOwes control_weight AreSourced Begins HasWaker HaveWakers HaveWakersOn IsRanked IsOwing IsBounded
 """.split()

@@ -537,7 +537,7 @@ impl<F: FabricName> NodeCell<F> {
     // Handles the message in hand where it stands, if it is an item without ends and moves that has its place here, and tells whether
     // it was one. For such an item there is no source.
     #[inline(always)]
-    fn handle_alone(
+    fn handle_lone(
         &mut self,
         fabric: &Fabric<F>,
         from: u8,
@@ -646,7 +646,7 @@ impl<F: FabricName> NodeCell<F> {
         ensures { IsTold T.tells (λ done. Handles F.table.size from self.old done self.new) result }
     {
         if let Some(told) = item_told(&self.message)
-            && self.handle_alone(fabric, from, None)?
+            && self.handle_lone(fabric, from, None)?
         {
             self.ring_handled::<R>(fabric, from);
             return Ok(told);

@@ -59,48 +59,48 @@ none_move true es h = refl
 none_move false es h = h
 
 -- such an item goes into the outbox, and nothing else changes
-sent_alone : (n : Node) (a : Applied) (to : ℕ) (m : Message) → outlook_of a ≡ outlooks.Item to 0 → Some m ≡ carried_by a →
+sent_lone : (n : Node) (a : Applied) (to : ℕ) (m : Message) → outlook_of a ≡ outlooks.Item to 0 → Some m ≡ carried_by a →
     send n a ≡ push_out n to m
 unfolding send send_item carried_by
-sent_alone n (outputs.Sent link number item) to m out is =
+sent_lone n (outputs.Sent link number item) to m out is =
     let none : length (ends_in item) ≡ 0 = cc in
     let other : link.other ≡ to = cc in
     let same : m ≡ item_message link number item [] = cc in
     ap (λ es. post_item (move_ends (record { node = n; moves = [] }) link.other es) link number item)
     (none_move (nat_eq link.other n.number) (ends_in item) (no_ends (ends_in item) none))
     ∙ ap (λ i. push_out n i (item_message link number item [])) other ∙ ap (push_out n to) (sym same)
-sent_alone n any to m out is = cc
+sent_lone n any to m out is = cc
 
 -- that is what the act does with the node
-pub committed_alone : (n : Node) (serial : ℕ) (r : Router) (to : ℕ) (m : Message) → router_in n serial ≡ Some r →
+pub committed_lone : (n : Node) (serial : ℕ) (r : Router) (to : ℕ) (m : Message) → router_in n serial ≡ Some r →
     outlook_at (router_in n serial) acts.SendOut ≡ outlooks.Item to 0 → Some m ≡ carried_by (output_of r acts.SendOut) →
     push_out (with_router n serial (apply r acts.SendOut Plain)) to m ≡ commit n (OfRouter serial acts.SendOut) Plain
 unfolding commit commit_router keep_or_drop leaves_by on_router
-committed_alone n serial r to m here out is =
+committed_lone n serial r to m here out is =
     sym (ap (λ o. on_router n o (commit_router n serial acts.SendOut Plain)) here
-    ∙ sent_alone (with_router n serial (apply r acts.SendOut Plain)) (output_of r acts.SendOut) to m
+    ∙ sent_lone (with_router n serial (apply r acts.SendOut Plain)) (output_of r acts.SendOut) to m
     (sym (ap (λ o. outlook_at o acts.SendOut) here) ∙ out) is)
 
 -- what was sent is told by the number and the link of the message that carries it
-told_alone : (n : Node) (serial : ℕ) (a : Applied) (to : ℕ) (m : Message) (s : ℕ × LinkId) → outlook_of a ≡ outlooks.Item to 0 →
+told_lone : (n : Node) (serial : ℕ) (a : Applied) (to : ℕ) (m : Message) (s : ℕ × LinkId) → outlook_of a ≡ outlooks.Item to 0 →
     Some m ≡ carried_by a →
     ((link : LinkEnd) (number : ℕ) (item : Item) → Some m ≡ carried_by (outputs.Sent link number item) → s ≡ (number, link.link)) →
     events.SendOut serial s.0 s.1 [] ≡ send_event n (λ number link ends. events.SendOut serial number link ends) a
 unfolding send_event carried_by
-told_alone n serial (outputs.Sent link number item) to m s out is told =
+told_lone n serial (outputs.Sent link number item) to m s out is told =
     let none : length (ends_in item) ≡ 0 = cc in
     ap (λ (t : ℕ × LinkId). events.SendOut serial t.0 t.1 []) (told link number item is)
     ∙ ap (events.SendOut serial number link.link) (sym (none_move (nat_eq link.other n.number) (ends_in item) (no_ends (ends_in item) none)))
-told_alone n serial any to m s out is told = cc
+told_lone n serial any to m s out is told = cc
 
 -- that is the event of the act
-pub event_alone : (n : Node) (serial : ℕ) (r : Router) (to : ℕ) (m : Message) (s : ℕ × LinkId) → router_in n serial ≡ Some r →
+pub event_lone : (n : Node) (serial : ℕ) (r : Router) (to : ℕ) (m : Message) (s : ℕ × LinkId) → router_in n serial ≡ Some r →
     outlook_at (router_in n serial) acts.SendOut ≡ outlooks.Item to 0 → Some m ≡ carried_by (output_of r acts.SendOut) →
     ((link : LinkEnd) (number : ℕ) (item : Item) → Some m ≡ carried_by (outputs.Sent link number item) → s ≡ (number, link.link)) →
     events.SendOut serial s.0 s.1 [] ≡ event_of n (OfRouter serial acts.SendOut) Plain
 unfolding event_of event_at router_event
-event_alone n serial r to m s here out is told =
-    told_alone n serial (output_of r acts.SendOut) to m s (sym (ap (λ o. outlook_at o acts.SendOut) here) ∙ out) is told
+event_lone n serial r to m s here out is told =
+    told_lone n serial (output_of r acts.SendOut) to m s (sym (ap (λ o. outlook_at o acts.SendOut) here) ∙ out) is told
     ∙ sym (ap (λ o. event_at n serial o acts.SendOut Plain) here)
 
 zero_of : (b : Bool) → ◌≡◌ {A = ℕ} (if b then 0 else 0) 0
@@ -142,44 +142,44 @@ and_false true = refl
 and_false false = refl
 
 -- an item that comes without ends and moves fits if it has its place
-fits_alone : (n : Node) (sender : ℕ) (item : Item) (moves : List Descriptor) → ends_in item ≡ [] → moves ≡ [] →
+fits_lone : (n : Node) (sender : ℕ) (item : Item) (moves : List Descriptor) → ends_in item ≡ [] → moves ≡ [] →
     fits_from n sender item moves ≡ true
-fits_alone n sender item moves ends none = go (nat_eq sender n.number)
+fits_lone n sender item moves ends none = go (nat_eq sender n.number)
   where
     go : (b : Bool) → (if b then nat_eq (length moves) 0 else fit_moves n (ends_in item) moves) ≡ true
     go true = ap (λ ds. nat_eq (length ds) 0) none
     go false = ap (λ es. fit_moves n es moves) ends ∙ ap (fit_moves n []) none
 
-placed_alone : (n : Node) (sender : ℕ) (link : LinkId) (side : Side) (number : ℕ) (item : Item) (moves : List Descriptor)
+placed_lone : (n : Node) (sender : ℕ) (link : LinkId) (side : Side) (number : ℕ) (item : Item) (moves : List Descriptor)
     (source : Option ℕ) (s : ℕ) (r : Router) → link_router n link side ≡ Some (found s r) →
     has_place_for r (outward_has r link side) number ≡ true → ends_in item ≡ [] → moves ≡ [] →
     fits n sender (messages.Item link side number item moves) source ≡ true
 unfolding fits fits_item
-placed_alone n sender link side number item moves source s r here place ends none =
+placed_lone n sender link side number item moves source s r here place ends none =
     ap (fits_item n sender link side number item moves) here ∙ ap (λ b. b && fits_from n sender item moves) place
-    ∙ fits_alone n sender item moves ends none
+    ∙ fits_lone n sender item moves ends none
 
 -- and its router is there
-fit_alone : (n : Node) (sender : ℕ) (link : LinkId) (side : Side) (number : ℕ) (item : Item) (moves : List Descriptor)
+fit_lone : (n : Node) (sender : ℕ) (link : LinkId) (side : Side) (number : ℕ) (item : Item) (moves : List Descriptor)
     (source : Option ℕ) (s : ℕ) (r : Router) → link_router n link side ≡ Some (found s r) →
     has_place_for r (outward_has r link side) number ≡ true → ends_in item ≡ [] → moves ≡ [] →
     is_unfit n sender (messages.Item link side number item moves) source ≡ false
 unfolding link_asked side_asked
-fit_alone n sender link side number item moves source s r here place ends none =
-    ap (λ b. not (b && is_named n link side)) (placed_alone n sender link side number item moves source s r here place ends none)
+fit_lone n sender link side number item moves source s r here place ends none =
+    ap (λ b. not (b && is_named n link side)) (placed_lone n sender link side number item moves source s r here place ends none)
     ∙ ap (λ (o : Option Found). not (is_some o)) here
 
 -- its router takes it
-pub taken_alone : (n : Node) (sender : ℕ) (link : LinkId) (side : Side) (number : ℕ) (item : Item) (moves : List Descriptor)
+pub taken_lone : (n : Node) (sender : ℕ) (link : LinkId) (side : Side) (number : ℕ) (item : Item) (moves : List Descriptor)
     (source : Option ℕ) (s : ℕ) (r : Router) → link_router n link side ≡ Some (found s r) →
     has_place_for r (outward_has r link side) number ≡ true → ends_in item ≡ [] → moves ≡ [] →
     free_hand (with_router n s (accept r (outward_has r link side) number item)) sender
     ≡ deliver n sender (messages.Item link side number item moves) source
 unfolding deliver handle on_found
-taken_alone n sender link side number item moves source s r here place ends none =
+taken_lone n sender link side number item moves source s r here place ends none =
     let m : Message = messages.Item link side number item moves in
     sym (ap (λ b. free_hand (if b then handle n sender m else add_stray n m) sender)
-    (placed_alone n sender link side number item moves source s r here place ends none)
+    (placed_lone n sender link side number item moves source s r here place ends none)
     ∙ ap (λ o. free_hand (on_found n o (take_in n sender link side number item moves)) sender) here
     ∙ ap (λ ds. free_hand (take_in n sender link side number item ds s r) sender) none)
 
@@ -273,7 +273,7 @@ lone_fits : (n : Node) (sender : ℕ) (link : LinkId) (side : Side) (number : �
 unfolding is_lone
 lone_fits n sender link side number item moves source s r here place ends none =
     ap (λ b. b && fits n sender (messages.Item link side number item moves) source) (lone moves item none ends)
-    ∙ placed_alone n sender link side number item moves source s r here place ends none
+    ∙ placed_lone n sender link side number item moves source s r here place ends none
 
 -- not if it isn't one, or its number is none
 pub not_lone : (n : Node) (sender : ℕ) (link : LinkId) (side : Side) (number : ℕ) (item : Item) (moves : List Descriptor)
@@ -335,9 +335,9 @@ pub takes_at_once : (k v : RoomyNode) (sender : ℕ) (link : LinkId) (side : Sid
     IsTakenAtOnce k sender (messages.Item link side number item moves) source (Ok true) v
 takes_at_once k v sender link side number item moves source s r here place alone low is = record {
   when = sym (lone_fits k.node sender link side number item moves source s r here place alone.1 alone.0);
-  taken = λ e. is ∙ taken_alone k.node sender link side number item moves source s r here place alone.1 alone.0;
+  taken = λ e. is ∙ taken_lone k.node sender link side number item moves source s r here place alone.1 alone.0;
   allowed = λ e. takes_none k.node sender link side number item moves source low alone.0;
-  fit = λ e. fit_alone k.node sender link side number item moves source s r here place alone.1 alone.0;
+  fit = λ e. fit_lone k.node sender link side number item moves source s r here place alone.1 alone.0;
   why = tt;
   wanted = tt;
   full = λ room. refl;

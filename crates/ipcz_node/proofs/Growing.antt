@@ -48,10 +48,10 @@ takes_none n (outlooks.Item to ends) h = (item_alone n to ends h).1
 takes_none n other h = refl
 
 -- an item without ends
-pub send_alone : (n : Node) (serial to : ℕ) (act : RouterAct) → outlook_at (router_in n serial) act ≡ outlooks.Item to 0 →
+pub send_lone : (n : Node) (serial to : ℕ) (act : RouterAct) → outlook_at (router_in n serial) act ≡ outlooks.Item to 0 →
     act_grows n (OfRouter serial act) ≡ false → place_at [] n.outboxes to ≡ []
 unfolding act_grows
-send_alone n serial to act is h = (item_alone n to 0 (sym (ap (outlook_grows n) is) ∙ h)).0
+send_lone n serial to act is h = (item_alone n to 0 (sym (ap (outlook_grows n) is) ∙ h)).0
 
 -- acts that give nothing
 abbrev pub gives : RouterAct → Bool

@@ -34,7 +34,7 @@ use Rattle.ipcz_node.specs.Sends.{item_message, send}
 use Rattle.ipcz_node.specs.Preparing.{outlook_at}
 use Rattle.ipcz_router.proofs.LoneRouters.{SendsFirst}
 use Rattle.ipcz_node.specs.Lone.{TakesItem}
-use Rattle.ipcz_node.proofs.Carrying.{committed_alone, lacks_none, taken_alone, takes_none}
+use Rattle.ipcz_node.proofs.Carrying.{committed_lone, lacks_none, taken_lone, takes_none}
 use Rattle.ipcz_node.proofs.Directories.{found_filed}
 use Rattle.ipcz_node.proofs.Written.{insert_here, insert_twice}
 
@@ -119,7 +119,7 @@ module _ (x : Node) (serial : ℕ) (link : LinkEnd) (r : Router) (here : router_
   -- its item goes into the outbox
   pub first_sent : push_out (with_router x serial (pop_out r)) link.other first_message ≡ commit x (OfRouter serial acts.SendOut) Plain
   unfolding carried_by apply
-  first_sent = committed_alone x serial r link.other first_message here goes (rw gives refl)
+  first_sent = committed_lone x serial r link.other first_message here goes (rw gives refl)
 
   -- and takes no serial
   pub first_freely : x.next_peripheral ≤ no_number → act_lacks_serials x (OfRouter serial acts.SendOut) ≡ false
@@ -144,7 +144,7 @@ module _ (x y : Node) (link : LinkId) (side : Side) (n from : ℕ) (item : Item)
       let back : accept_from_outward is.router n item ≡ accept is.router (outward_has is.router link side) n item =
       sym (ap (λ b. accept is.router b n item) is.takes.outward) in
       (λ j. record (with_router x is.serial (back j)) { hand = hands j })
-      ∙ taken_alone held from link side n item [] source is.serial is.router is.first place alone refl
+      ∙ taken_lone held from link side n item [] source is.serial is.router is.first place alone refl
 
   -- and takes no serial
   pub takes_freely : message_lacks_serials held from (messages.Item link side n item []) source ≡ false

@@ -23,8 +23,8 @@ ghost use Rattle.std.specs.FinMap as map;
 ghost use Rattle.ipcz_node.specs.Serials.{map_by, AreRising};
 
 mod calls;
-mod carrying;
 mod dry;
+mod fast_path;
 mod filing;
 mod hearing;
 mod passing;

@@ -9,8 +9,8 @@ ghost use Rattle.ipcz_node.specs.Node.{router_in, terminal_of, link_router, foun
 
 mod acts;
 mod calls;
-mod carrying;
 mod dry;
+mod fast_path;
 mod first_pairs;
 mod hands;
 mod hearing;

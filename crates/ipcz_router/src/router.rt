@@ -12,8 +12,8 @@ ghost use Rattle.ipcz_router.specs.Calls.{next_number};
 
 mod bypass;
 mod calls;
-mod carrying;
 mod dry;
+mod fast_path;
 mod hearing;
 mod letting;
 mod outlook;

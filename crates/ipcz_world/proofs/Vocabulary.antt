@@ -63,9 +63,9 @@ unfoldable pub use Rattle.ipcz_word.specs.Word.{empty_word, open_word, plan_of}
 pub use Rattle.ipcz_world.specs.Asking.{can_act}
 pub use Rattle.ipcz_world.specs.Books.{Books, add_put, has_mark, is_closed, is_retired, no_books, read}
 unfoldable pub use Rattle.ipcz_world.specs.Books.{advance, after_turn}
-pub use Rattle.ipcz_world.specs.Bypasses.{BypassRecords, HasStage, IsBypassRecorded, LiveLinks, Moves, Stages, Told, fresh_of, inner_of, moving_link}
+pub use Rattle.ipcz_world.specs.Bypasses.{BypassRecords, HasStage, IsBypassRecorded, LiveLinks, Moves, Stages, Controls, fresh_of, inner_of, moving_link}
 unfoldable pub use Rattle.ipcz_world.specs.Bypasses.{control_weight, move_weight, of_bypass}
-pub use Rattle.ipcz_world.specs.Carrying.{IsLone, IsPassing, with_hand}
+pub use Rattle.ipcz_world.specs.FastPath.{IsLone, IsPassing, with_hand}
 pub use Rattle.ipcz_world.specs.Coding.{WordTable}
 pub use Rattle.ipcz_world.specs.Flows.{IsUnderWay, is_made_before, is_made_by, of_end}
 unfoldable pub use Rattle.ipcz_world.specs.Flows.{makes, moves_of, under_way}

@@ -2,8 +2,8 @@ pub mod Arriving
 pub mod Asked
 pub mod Beginning
 pub mod Calling
-pub mod Carrying
-pub mod CarryingWithin
+pub mod FastPath
+pub mod FastPathWithin
 pub mod FirstTurns
 pub mod GoingOn
 pub mod Growing

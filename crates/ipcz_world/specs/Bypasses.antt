@@ -136,7 +136,7 @@ control_weight g h o =
     (cond (nat_eq (g.bypass o).stage 4) (h (g.bypass o).proxy.node (side_node g (inner_of g o) B) (will_stop_of g o)) 0)))
 
 -- a bypass has the one message under way that its stage expects, and other messages name links as their records do
-pub record Told (w : World) (g : Records) : Type 0 where
+pub record Controls (w : World) (g : Records) : Type 0 where
   pub control : (o : ℕ) (h : ℕ → ℕ → Message → ℕ) → under_way (λ from to. of_bypass g o (h from to)) w ≡ control_weight g h o
   pub will_stop : (from to i : ℕ) (link : LinkId) (s : Side) (n : ℕ) → IsUnderWay w from to i (messages.ProxyWillStop link s n) →
       is_some (bypass_of g link) ≡ true

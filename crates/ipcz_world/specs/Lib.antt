@@ -2,9 +2,9 @@ pub mod Arrived
 pub mod Asking
 pub mod Books
 pub mod Bypasses
-pub mod Carrying
 pub mod Coding
 pub mod Each
+pub mod FastPath
 pub mod FirstRuns
 pub mod Flows
 pub mod HeldEnds

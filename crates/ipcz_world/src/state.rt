@@ -14,7 +14,7 @@ ghost use Rattle.ipcz_world.specs.World.{new_world};
 
 pub(crate) mod asking;
 pub(crate) mod calls;
-pub(crate) mod carrying;
+pub(crate) mod fast_path;
 pub(crate) mod limits;
 pub(crate) mod listing;
 pub(crate) mod settling;

@@ -8,7 +8,7 @@ ghost use Rattle.ipcz_base.specs.declared.link_end.LinkEnd.{LinkEnd};
 ghost use Rattle.ipcz_word.specs.Layout.{word_of_bits};
 ghost use Rattle.ipcz_world.specs.Asking.{can_act, hand_at, IsActed, WhyNotTaken};
 ghost use Rattle.ipcz_world.specs.Books.{Books, no_books};
-ghost use Rattle.ipcz_world.specs.Carrying.{IsCarried, IsLone, IsLoneSender};
+ghost use Rattle.ipcz_world.specs.FastPath.{IsCarried, IsLone, IsLoneSender};
 ghost use Rattle.ipcz_world.specs.Coding.{IsTable};
 ghost use Rattle.ipcz_world.specs.HeldEnds.{grown};
 ghost use Rattle.ipcz_world.specs.Holding.{holder_of, routers_at, shown_word};

@@ -40,7 +40,7 @@ impl Directory {
     /// nothing if it is taken.
     #[inline(always)]
     #[tactic(auto, using(crate::proofs::Written::insert_same))]
-    pub fn accept_alone(
+    pub fn accept_lone(
         &mut self,
         serial: u64,
         link: LinkId,

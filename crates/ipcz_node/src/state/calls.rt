@@ -130,7 +130,7 @@ impl NodeState {
         ensures err { IfErr result (λ e. (e.bytes ≡ bytes) × (e.ends ≡ ends) × (self.new.node ≡ self.old.node)) }
     {
         if ends.as_slice().is_empty() {
-            return self.put_alone(profile, at, bytes, ends);
+            return self.put_lone(profile, at, bytes, ends);
         }
         let serial = match self.put_serial(profile, at, bytes.as_slice(), ends.as_slice()) {
             Ok(serial) => serial,
@@ -154,7 +154,7 @@ impl NodeState {
     // takes none.
     #[inline(always)]
     #[tactic(auto, unfolding(crate::specs::Node::on_found, crate::specs::Calls::number_at, crate::specs::Calls::refusal_at))]
-    fn put_alone(
+    fn put_lone(
         &mut self,
         profile: Profile,
         at: End,

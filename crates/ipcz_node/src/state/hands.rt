@@ -444,14 +444,14 @@ impl NodeState {
                 n,
                 item,
                 moves,
-            } => self.take_alone(from, *link, *side, *n, item, moves),
+            } => self.take_lone(from, *link, *side, *n, item, moves),
             _ => Ok(false),
         }
     }
 
     /// The same of the item that a message brings, and of its moves: `item` counts for nothing if it was taken.
     #[inline(always)]
-    pub fn take_alone(
+    pub fn take_lone(
         &mut self,
         from: u8,
         link: LinkId,
@@ -466,13 +466,13 @@ impl NodeState {
         ensures err { OnErr result ((item.new ≡ item.old) × (self.new.node ≡ self.old.node)) }
     {
         self.counts_serials();
-        if !is_alone(n, item, moves) {
+        if !is_lone_item(n, item, moves) {
             return Ok(false);
         }
         let Some(serial) = self.link_serial(link, side) else {
             return Ok(false);
         };
-        match self.routers.accept_alone(serial, link, side, n, item) {
+        match self.routers.accept_lone(serial, link, side, n, item) {
             Ok(()) => {
                 self.free_hand(from);
                 Ok(true)
@@ -531,7 +531,7 @@ fn serials_in(message: &Message) -> usize
 }
 
 // Whether an item of a number comes without ends and moves.
-fn is_alone(n: u64, item: &Item, moves: &Moves) -> bool
+fn is_lone_item(n: u64, item: &Item, moves: &Moves) -> bool
     ensures alone { IsTrue result → (n < no_number) × (moves.now ≡ []) × (ends_in item.now ≡ []) }
     ensures same { result ≡ (nat_lt n no_number && (nat_eq (length moves.now) 0 && nat_eq (length (ends_in item.now)) 0)) }
 {

@@ -70,7 +70,7 @@ impl NodeState {
     }
 
     // A router sends outward.
-    #[tactic(auto, using(crate::proofs::Preparing::wants_at, crate::proofs::Growing::send_alone))]
+    #[tactic(auto, using(crate::proofs::Preparing::wants_at, crate::proofs::Growing::send_lone))]
     fn send_out<T: Told>(&mut self, serial: u64) -> Result<T, Refusal>
         requires { IsPossibleAct self.old.node (Act.Router serial RouterAct.SendOut) }
         ensures ok { OnOk result (self.new.node ≡ commit self.old.node (Act.Router serial RouterAct.SendOut) Answer.Plain) }
@@ -84,7 +84,7 @@ impl NodeState {
         ensures err { OnErr result (self.new.node ≡ self.old.node) }
     {
         match self.outlook(serial, RouterAct::SendOut) {
-            Outlook::Item(to, 0) => match self.send_alone(serial, to) {
+            Outlook::Item(to, 0) => match self.send_lone(serial, to) {
                 Ok((n, link)) => {
                     let moved = Ends::from_vec(Vec::new(self.alloc));
                     Ok(T::told(Happened::SendOut {
@@ -103,7 +103,7 @@ impl NodeState {
     // A router sends an item without ends outward, to a node. It gives the number of the item and its link.
     #[tactic(auto, using(crate::proofs::Carrying::lacks_none))]
     #[inline(always)]
-    fn send_alone(&mut self, serial: u64, to: u8) -> Result<(u64, LinkId), Refusal>
+    fn send_lone(&mut self, serial: u64, to: u8) -> Result<(u64, LinkId), Refusal>
         requires possible { IsSomeAnd (router_in self.old.node serial) (λ r. may_take r RouterAct.SendOut ≡ true) }
         requires alone { outlook_at (router_in self.old.node serial) RouterAct.SendOut ≡ Outlook.Item to 0 }
         ensures ok { OnOk result (self.new.node ≡ commit self.old.node (Act.Router serial RouterAct.SendOut) Answer.Plain) }

@@ -16,7 +16,7 @@ use Rattle.ipcz_world.proofs.acts.AcceptBypassAround.{CanAccept, here, on, is}
 use Rattle.ipcz_world.proofs.acts.AcceptBypassViews.{at_o, like, changed, agree, carried, places}
 use Rattle.ipcz_world.proofs.acts.AcceptBypassNumbers.{items-accept, order-accept, proxy_numbers-accept, fresh_numbers-accept}
 use Rattle.ipcz_world.proofs.acts.AcceptBypassLinks.{counts-accept, bypasses, roles-accept, begun-accept}
-use Rattle.ipcz_world.proofs.acts.AcceptBypassStages.{retired-accept, gones-accept, stands-accept, words-accept, stages-accept, told-accept, descriptors}
+use Rattle.ipcz_world.proofs.acts.AcceptBypassStages.{retired-accept, gones-accept, stands-accept, words-accept, stages-accept, controls-accept, descriptors}
 use Rattle.ipcz_world.proofs.facts.Updates.{tells_stop}
 
 module _ (w : World) (b : Books) (g : Records) (from : ℕ) (k : Key) (r : Router) (e : LinkEnd) (o : ℕ) (side : Side) (fresh length : ℕ)
@@ -55,7 +55,7 @@ module _ (w : World) (b : Books) (g : Records) (from : ℕ) (k : Key) (r : Route
     stages = stages-accept law can;
     live = live-kept g h (λ i l. l) (agree law can).pair (λ j st. grind (arith, st, at_o law can j, (is law can).stage))
         (agree law can).is_begun (live_of law);
-    told = told-accept law can;
+    controls = controls-accept law can;
     moves = moves-kept w v g h k r x (changed law can) (agree law can) (carried law can) (descriptors law can) (moves_law law);
     terminals = terminals-kept w v g h k r x (changed law can) (agree law can) (like law can) (terminals_of law);
     end_places = end_places-kept w v g h k r x (changed law can) (agree law can) (like law can) (carried law can) (end_places_of law);

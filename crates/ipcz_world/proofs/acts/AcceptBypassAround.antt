@@ -8,7 +8,7 @@ use Rattle.ipcz_world.proofs.Vocabulary.{Side, A, B, LinkId, Central, Peripheral
 use Rattle.ipcz_world.proofs.Vocabulary.{Router, router_has, inward_edge, World, Key, node_at, mail_at, way, router_at, flow, Books, Records, Linked}
 use Rattle.ipcz_world.proofs.Vocabulary.{is_begun, is_linked, is_recorded, side_node, side_router, proxy_side, across_side, side_length, Standing}
 use Rattle.ipcz_world.proofs.Vocabulary.{view, next_sent, taking_queue, sending_queue, fed_queue, has_primary, has_decaying, has_inward_decaying}
-use Rattle.ipcz_world.proofs.Vocabulary.{key_passes, under_way, total_below, total_list, Told, of_bypass, control_weight, inner_of, has_passed}
+use Rattle.ipcz_world.proofs.Vocabulary.{key_passes, under_way, total_below, total_list, Controls, of_bypass, control_weight, inner_of, has_passed}
 use Rattle.ipcz_world.proofs.Vocabulary.{key_at, Awaited, link_in, accept_bypass}
 use Rattle.ipcz_base.specs.declared.message.Message.TheVariants as messages
 use Rattle.ipcz_world.specs.declared.mail.Mail.TheVariants as mails
@@ -22,7 +22,7 @@ use Rattle.ipcz_world.proofs.facts.Lengths.{opposite-twice, side_is, same_side-i
 use Rattle.ipcz_world.proofs.facts.Lengths.{is_attached-central, is_attached-proxy, is_attached-inner, view-standing, view-awaited}
 use Rattle.ipcz_world.proofs.facts.Lengths.{length-old, length-proxy, length-inner, known_from-no, known_from-yes, has_passed-none}
 use Rattle.ipcz_world.proofs.frames.Sealing.{Sealed, Closed, opened, stands_of, counts_of, shape_of, links_of, positions_of, stages_of}
-use Rattle.ipcz_world.proofs.frames.Sealing.{told_of, bypasses_of, order_of, proxy_numbers_of, fresh_numbers_of}
+use Rattle.ipcz_world.proofs.frames.Sealing.{controls_of, bypasses_of, order_of, proxy_numbers_of, fresh_numbers_of}
 use Rattle.ipcz_world.proofs.frames.Telling.{never}
 use Rattle.ipcz_world.proofs.facts.Tests.{nat_eq-itself}
 use Rattle.ipcz_world.proofs.frames.Flowing.{total_below-has}
@@ -79,7 +79,7 @@ pub record IsAsked (g : Records) (from : ℕ) (k : Key) (o : ℕ) (side : Side) 
   pub on_word : fresh ≡ (g.bypass o).fresh
   pub taken : length ≡ (g.bypass o).taken_at
 
-pub asked : (w : World) (g : Records) (from : ℕ) (k : Key) (o : ℕ) (side : Side) (fresh length : ℕ) → Told w g → from < w.count →
+pub asked : (w : World) (g : Records) (from : ℕ) (k : Key) (o : ℕ) (side : Side) (fresh length : ℕ) → Controls w g → from < w.count →
     k.node < w.count →
     mail_at w (way w from k.node) ≡ mails.Hand (messages.AcceptBypass o side fresh length) → IsAsked g from k o side fresh length
 unfolding control_weight of_bypass is_accept
@@ -182,7 +182,7 @@ module _ {w : World} {b : Books} {g : Records} {from : ℕ} {k : Key} {r : Route
   from_node = (counts_of law).hand_from k.node from on_node (opened can).hand.hand
 
   pub is : IsAsked g from k o side fresh length
-  is = asked w g from k o side fresh length (told_of law) from_node on_node in_hand
+  is = asked w g from k o side fresh length (controls_of law) from_node on_node in_hand
 
   pub begun : is_begun (g.bypass o) ≡ true
   begun = grind (arith, is.stage, nat_tests)

@@ -5,7 +5,7 @@ use Rattle.std.proofs.Common.{subst}
 use Rattle.ipcz_world.proofs.Vocabulary.{IsRecorded, opposite_end, Side, A, B, End, LinkId, Central, LinkEnd, Message, opposite, has_link, Router}
 use Rattle.ipcz_world.proofs.Vocabulary.{World, Key, same_key, word_at, router_at, Books, Records, is_begun, is_linked, inner_link, side_node}
 use Rattle.ipcz_world.proofs.Vocabulary.{side_router, side_end, proxy_side, across_side, has_primary, has_decaying, has_inward_decaying, passes}
-use Rattle.ipcz_world.proofs.Vocabulary.{key_passes, IsUnderWay, of_end, moves_of, is_made_before, under_way, total_list, Words, Stands, Stages, Told}
+use Rattle.ipcz_world.proofs.Vocabulary.{key_passes, IsUnderWay, of_end, moves_of, is_made_before, under_way, total_list, Words, Stands, Stages, Controls}
 use Rattle.ipcz_world.proofs.Vocabulary.{of_bypass, control_weight, inner_of, Descriptor, RetiredEnds, Gones, is_left, is_retired, has_inward_primary}
 use Rattle.ipcz_world.proofs.Vocabulary.{fresh_of, no_edge, accept_bypass}
 use Rattle.ipcz_world.proofs.frames.Sealing.{links_of}
@@ -34,7 +34,7 @@ use Rattle.ipcz_world.proofs.frames.Unmoved.{side_node-agree, side_end-agree, by
 use Rattle.ipcz_world.proofs.frames.Unmoved.{expected-agree, proxy_side-agree, is_recorded-kept, WasLike}
 use Rattle.ipcz_world.proofs.frames.Handing.{handed_on, word-handed_on, place_before, was_under_way, was_made_before, under_way-handed_on}
 use Rattle.ipcz_world.proofs.facts.Lengths.{opposite-twice, same_side-itself, has_link-tells, has_link-some, has_link-none, HasEnd, passed}
-use Rattle.ipcz_world.proofs.frames.Sealing.{Sealed, Closed, stands_of, words_of, shape_of, stages_of, told_of, bypasses_of}
+use Rattle.ipcz_world.proofs.frames.Sealing.{Sealed, Closed, stands_of, words_of, shape_of, stages_of, controls_of, bypasses_of}
 use Rattle.ipcz_world.proofs.acts.AcceptBypassAround.{CanAccept, here, in_hand, on, on_node, from_node, is, begun, on_old, at_side, still}
 use Rattle.ipcz_world.proofs.acts.AcceptBypassAround.{y_stood, y_here, y_old, y_known, fresh_awaited}
 use Rattle.ipcz_world.proofs.acts.AcceptBypassViews.{at_o, changed, agree, e_other, to_node, is_new, router_of, stage_after}
@@ -488,21 +488,21 @@ module _ {w : World} {b : Books} {g : Records} {from : ℕ} {k : Key} {r : Route
   unfolding of_bypass
   about_none j f f' e' = rw e' refl
 
-  pub told-accept : Told v h
-  told-accept = record {
+  pub controls-accept : Controls v h
+  controls-accept = record {
     control = λ j t. control_at j t (at_o law can j);
     will_stop = λ a c i link s n u. ap is_some (bypass_of-agree g h (agree law can) link) ∙
-        (told_of law).will_stop a c (before a c i) link s n
+        (controls_of law).will_stop a c (before a c i) link s n
         (was_message a c i (messages.ProxyWillStop link s n) (λ m. grind (arith, m)) u);
     behind = λ a c i link s old target new u none. behind_at a c i link s old target new u none (is_new law can link s) refl;
-    flush_central = λ a c i link s u. (told_of law).flush_central a c (before a c i) link s
+    flush_central = λ a c i link s u. (controls_of law).flush_central a c (before a c i) link s
         (was_message a c i (messages.Flush link s) (λ m. grind (arith, m)) u);
     flush_recorded = λ a c i link s u. is_recorded-kept w v g h k r x (changed law can) (agree law can) link ∙
-        (told_of law).flush_recorded a c (before a c i)
+        (controls_of law).flush_recorded a c (before a c i)
         link s (was_message a c i (messages.Flush link s) (λ m. grind (arith, m)) u);
-    flush_to = λ a c i link s u. (told_of law).flush_to a c (before a c i) link s
+    flush_to = λ a c i link s u. (controls_of law).flush_to a c (before a c i) link s
         (was_message a c i (messages.Flush link s) (λ m. grind (arith, m)) u) ∙ sym (side_node-agree g h (agree law can) link s);
-    flush_from = λ a c i link s u. (told_of law).flush_from a c (before a c i) link s
+    flush_from = λ a c i link s u. (controls_of law).flush_from a c (before a c i) link s
         (was_message a c i (messages.Flush link s) (λ m. grind (arith, m)) u) ∙ sym (side_node-agree g h (agree law can) link (opposite s));
   }
     where
@@ -518,12 +518,12 @@ module _ {w : World} {b : Books} {g : Records} {from : ℕ} {k : Key} {r : Route
           was_made_before w from k x e.other sent (messages.AcceptBypass o side fresh length) a c i link s (on_node law can) u'.receiver
           (in_hand law can)
           (makes_new law can link s ∙ t)
-          ((told_of law).behind a c (before a c i) link s old target new u'
+          ((controls_of law).behind a c (before a c i) link s old target new u'
           (sym (router_of law can link s ∙ ap (λ b'. cond b' (Some k) (side_router g link s)) t) ∙ none))
 
       control_at : (j : ℕ) (t : ℕ → ℕ → Message → ℕ) → ((nat_eq j o ≡ true) × (j ≡ o)) ⊎ ((nat_eq j o ≡ false) × (j ≢ o)) →
           under_way (λ a c. of_bypass h j (t a c)) v ≡ control_weight h t j
-      control_at j t c = omega (arith, same, moved, (told_of law).control j t, weighs c)
+      control_at j t c = omega (arith, same, moved, (controls_of law).control j t, weighs c)
         where
           came : Message
           came = messages.AcceptBypass o side fresh length

@@ -21,7 +21,7 @@ use Rattle.ipcz_world.proofs.acts.BegunStages.{stands-begun, words-begun, spares
 use Rattle.ipcz_world.proofs.acts.BegunNumbers.{begin_message, ordered-begun, moves-begun, terminals-begun, end_places-begun, books-begun}
 use Rattle.ipcz_world.proofs.acts.BegunNumbers.{items-begun, order-begun, proxy_numbers-begun, fresh_numbers-begun, conserved-begun}
 use Rattle.ipcz_world.proofs.acts.BegunNumbers.{held_once-begun}
-use Rattle.ipcz_world.proofs.acts.BegunMessages.{told-begun}
+use Rattle.ipcz_world.proofs.acts.BegunMessages.{controls-begun}
 use Rattle.ipcz_world.proofs.acts.Updating.{push-set_node}
 
 -- Nothing is lost, for no item moves: the proxy's two links decay with lengths that nobody knows yet, so nothing is past them. It holds the
@@ -40,7 +40,7 @@ inv-begin w b g k r p into out o fresh law can = record {
   bypasses = bypasses-begun law is c new;
   live = live-begun law is c new;
   stages = stages-begun law is c new;
-  told = told-begun law is c new;
+  controls = controls-begun law is c new;
   moves = moves-begun law is c new;
   terminals = terminals-begun law is c new;
   end_places = end_places-begun law is c new;

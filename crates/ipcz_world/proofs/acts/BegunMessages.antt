@@ -1,7 +1,7 @@
 -- A proxy begins: its message is the one of the first stage, and the messages of the other bypasses are as they were.
 use Rattle.ipcz_world.proofs.Vocabulary.{Side, A, B, LinkId, Central, LinkEnd, Descriptor, Message, opposite, same_link, Router, World, Key, flow}
 use Rattle.ipcz_world.proofs.Vocabulary.{Books, Records, Terminal, terminal_descriptor, At, inner_link, bypass_of, side_router, side_node, proxy_side}
-use Rattle.ipcz_world.proofs.Vocabulary.{across_side, IsUnderWay, is_made_before, under_way, of_end, moves_of, total_list, Told, inner_of, of_bypass}
+use Rattle.ipcz_world.proofs.Vocabulary.{across_side, IsUnderWay, is_made_before, under_way, of_end, moves_of, total_list, Controls, inner_of, of_bypass}
 use Rattle.ipcz_world.proofs.Vocabulary.{control_weight, moving_link, Inv, Retired, Nowhere, Moving, key_at, is_made_by, move_weight}
 use Rattle.std.specs.Prelude.{◌≡◌, ◌≤◌, ℕ, ◌+◌, Bool, true, false, cond, nat_eq, Option, Some, None, is_some, slice_get, refl}
 use Rattle.std.proofs.Common.{arith, sym, ◌∙◌, ap, subst, inl, inr}
@@ -27,35 +27,35 @@ module _ {w v : World} {b : Books} {g : Records} {k : Key} {r y : Router} {p : K
   after = begin_records g k o fresh p
 
   -- a flush or an end's message is no begin
-  pub told-begun : Told v after
+  pub controls-begun : Controls v after
   unfolding of_bypass control_weight terminal_descriptor move_weight
-  told-begun = record {
+  controls-begun = record {
     control = λ j f. under_way-pushed (λ from to. of_bypass after j (f from to)) w v k.node into.other (begin_message into out o fresh)
         c.pushed ∙ control j f (nat_eq j o) refl;
     will_stop = λ from to i l s n u. elim (came law is c new from to i _ u) [
-      | inl e ↦ let t = law.told.will_stop from to e.at l s n e.was in
+      | inl e ↦ let t = law.controls.will_stop from to e.at l s n e.was in
           ap is_some (still-by law is c new l t) ∙ t
       | inr e ↦
           absurd (grind (arith, e.message))
     ];
     behind = λ from to i l s old target n u f. elim (came law is c new from to i _ u) [
-      | inl e ↦ e.made l s (law.told.behind from to e.at l s old target n e.was (sym (router-begun g k o fresh p l s) ∙ f))
+      | inl e ↦ e.made l s (law.controls.behind from to e.at l s old target n e.was (sym (router-begun g k o fresh p l s) ∙ f))
       | inr e ↦ last from to i l s old target n e (sym (router-begun g k o fresh p l s) ∙ f)
     ];
     flush_central = λ from to i l s u. elim (came law is c new from to i _ u) [
-      | inl e ↦ law.told.flush_central from to e.at l s e.was
+      | inl e ↦ law.controls.flush_central from to e.at l s e.was
       | inr e ↦ absurd
           (grind (arith, e.message))
     ];
     flush_recorded = λ from to i l s u. elim (came law is c new from to i _ u)
-        [ inl e ↦ rec law is c new l ∙ law.told.flush_recorded from to e.at l s e.was | inr e ↦ absurd (grind (arith, e.message)) ];
+        [ inl e ↦ rec law is c new l ∙ law.controls.flush_recorded from to e.at l s e.was | inr e ↦ absurd (grind (arith, e.message)) ];
     flush_to = λ from to i l s u. elim (came law is c new from to i _ u) [
-      | inl e ↦ law.told.flush_to from to e.at l s e.was ∙ sym
+      | inl e ↦ law.controls.flush_to from to e.at l s e.was ∙ sym
           (node-begun g k o fresh p l s)
       | inr e ↦ absurd (grind (arith, e.message))
     ];
     flush_from = λ from to i l s u. elim (came law is c new from to i _ u) [
-      | inl e ↦ law.told.flush_from from to e.at l s e.was ∙ sym
+      | inl e ↦ law.controls.flush_from from to e.at l s e.was ∙ sym
           (node-begun g k o fresh p l (opposite s))
       | inr e ↦ absurd (grind (arith, e.message))
     ];
@@ -76,7 +76,7 @@ module _ {w v : World} {b : Books} {g : Records} {k : Key} {r y : Router} {p : K
 
       under-same : (j : ℕ) (f : ℕ → ℕ → Message → ℕ) → under_way (λ from to. of_bypass after j (f from to)) w ≡ control_weight g f j
       under-same j f = under_way-congr _ _ w (λ from to i m u. about-same j (f from to) m
-          (λ l t n e. law.told.will_stop from to i l t n (subst (IsUnderWay w from to i) e u))) ∙ law.told.control j f
+          (λ l t n e. law.controls.will_stop from to i l t n (subst (IsUnderWay w from to i) e u))) ∙ law.controls.control j f
 
       -- what is control_weight, from what a record says
       awaits : (ℕ → ℕ → Message → ℕ) → ℕ → Bypass → ℕ → ℕ → Side → ℕ

@@ -4,7 +4,7 @@ use Rattle.std.proofs.Common.{arith, sym}
 use Rattle.std.proofs.lemmas.Bool.Decides.{nat_tests}
 use Rattle.ipcz_world.proofs.Vocabulary.{Side, B, LinkId, Central, Message, same_side, same_link}
 use Rattle.ipcz_world.proofs.Vocabulary.{World, Key, mail_at, way, Records, side_node}
-use Rattle.ipcz_world.proofs.Vocabulary.{bypass_of, proxy_side, across_side, Told, of_bypass, control_weight, inner_of}
+use Rattle.ipcz_world.proofs.Vocabulary.{bypass_of, proxy_side, across_side, Controls, of_bypass, control_weight, inner_of}
 use Rattle.ipcz_base.specs.declared.message.Message.TheVariants as messages
 use Rattle.ipcz_world.specs.declared.mail.Mail.TheVariants as mails
 use Rattle.ipcz_world.specs.Bypasses.{peer_of, stop_of, will_stop_of}
@@ -41,7 +41,7 @@ pub record IsStopped (g : Records) (from : ℕ) (k : Key) (o : ℕ) (side : Side
   pub accepted : in_length ≡ (g.bypass o).accepted_at
   pub taken : out_length ≡ (g.bypass o).taken_at
 
-pub stopped : (w : World) (g : Records) (from : ℕ) (k : Key) (o : ℕ) (side : Side) (in_length out_length : ℕ) → Told w g → from < w.count →
+pub stopped : (w : World) (g : Records) (from : ℕ) (k : Key) (o : ℕ) (side : Side) (in_length out_length : ℕ) → Controls w g → from < w.count →
     k.node < w.count →
     mail_at w (way w from k.node) ≡ mails.Hand (messages.StopProxying side o in_length out_length) →
     IsStopped g from k o side in_length out_length
@@ -93,7 +93,7 @@ pub record IsEnded (g : Records) (from : ℕ) (k : Key) (o : ℕ) (link : LinkId
   pub at_side : side ≡ B
   pub accepted : in_length ≡ (g.bypass o).accepted_at
 
-pub ended : (w : World) (g : Records) (from : ℕ) (k : Key) (o : ℕ) (link : LinkId) (side : Side) (in_length : ℕ) → Told w g →
+pub ended : (w : World) (g : Records) (from : ℕ) (k : Key) (o : ℕ) (link : LinkId) (side : Side) (in_length : ℕ) → Controls w g →
     from < w.count → k.node < w.count → bypass_of g link ≡ Some o →
     mail_at w (way w from k.node) ≡ mails.Hand (messages.ProxyWillStop link side in_length) → IsEnded g from k o link side in_length
 unfolding control_weight of_bypass is_will_stop
@@ -155,7 +155,7 @@ pub record IsPeered (g : Records) (from : ℕ) (k : Key) (o : ℕ) (link : LinkI
   pub beyond : target ≡ side_node g (Central o) (across_side g o)
   pub on_word : fresh ≡ (g.bypass o).fresh
 
-pub peered : (w : World) (g : Records) (from : ℕ) (k : Key) (o : ℕ) (link : LinkId) (side : Side) (target fresh : ℕ) → Told w g →
+pub peered : (w : World) (g : Records) (from : ℕ) (k : Key) (o : ℕ) (link : LinkId) (side : Side) (target fresh : ℕ) → Controls w g →
     from < w.count → k.node < w.count →
     mail_at w (way w from k.node) ≡ mails.Hand (messages.BypassPeer link side o target fresh) → IsPeered g from k o link side target fresh
 unfolding control_weight of_bypass is_peer

@@ -18,7 +18,7 @@ use Rattle.ipcz_world.proofs.acts.BypassPeerRecords.{bypasses-peer, counts-peer}
 use Rattle.ipcz_world.proofs.acts.BypassPeerLinks.{shape-peer, roles-peer, begun-peer}
 use Rattle.ipcz_world.proofs.acts.BypassPeerStages.{stands-peer, words-peer, spares-peer, stages-peer, terminals-peer}
 use Rattle.ipcz_world.proofs.acts.BypassPeerNumbers.{carried, items-peer, order-peer, proxy_numbers-peer, fresh_numbers-peer}
-use Rattle.ipcz_world.proofs.acts.BypassPeerMessages.{refl-agree, places, descriptors, told-peer, moves-peer, places_g}
+use Rattle.ipcz_world.proofs.acts.BypassPeerMessages.{refl-agree, places, descriptors, controls-peer, moves-peer, places_g}
 
 module _ (w : World) (b : Books) (g : Records) (from : ℕ) (k : Key) (r : Router) (o : ℕ) (link : LinkId) (side : Side) (target fresh : ℕ)
     (law : Sealed w b g) (can : Closed (CanPeer w from k r o link side target fresh)) where
@@ -51,7 +51,7 @@ module _ (w : World) (b : Books) (g : Records) (from : ℕ) (k : Key) (r : Route
     bypasses = bypasses-peer law can;
     live = live-peer law can;
     stages = stages-peer law can;
-    told = told-peer law can;
+    controls = controls-peer law can;
     moves = moves-peer law can (moves-kept w v g g k r x (changed law can) (refl-agree law can) (carried law can) (descriptors law can)
         (moves_law law));
     terminals = terminals-peer law can (terminals_of law);

@@ -25,7 +25,7 @@ use Rattle.ipcz_world.proofs.frames.Viewing.{IsSameView, view-kept-at}
 use Rattle.ipcz_world.proofs.facts.Lengths.{side_is, same_side-itself, same_side-opposite, has_link-tells, has_link-some, HasEnd, passed}
 use Rattle.ipcz_world.proofs.facts.Lengths.{is_attached-central, view-standing, view-awaited}
 use Rattle.ipcz_world.proofs.acts.BypassAsked.{IsPeered, peered}
-use Rattle.ipcz_world.proofs.frames.Sealing.{Sealed, Closed, opened, counts_of, links_of, positions_of, stages_of, told_of, bypasses_of}
+use Rattle.ipcz_world.proofs.frames.Sealing.{Sealed, Closed, opened, counts_of, links_of, positions_of, stages_of, controls_of, bypasses_of}
 use Rattle.ipcz_world.proofs.frames.Frames.{OneOrBefore, one_or_before}
 use Rattle.ipcz_world.proofs.frames.Having.{has_at}
 
@@ -58,7 +58,7 @@ module _ {w : World} {b : Books} {g : Records} {from : ℕ} {k : Key} {r : Route
   from_node = (counts_of law).hand_from k.node from on_node (opened can).hand.hand
 
   pub is : IsPeered g from k o link side target fresh
-  is = peered w g from k o link side target fresh (told_of law) from_node on_node in_hand
+  is = peered w g from k o link side target fresh (controls_of law) from_node on_node in_hand
 
   pub itself : (n : ℕ) → nat_eq n n ≡ true
   itself n = grind (arith, nat_tests)

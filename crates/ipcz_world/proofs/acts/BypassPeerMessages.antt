@@ -1,7 +1,7 @@
 -- The router inward takes the fresh link: the messages of bypasses, the descriptors under way, and the places of items.
 use Rattle.ipcz_world.proofs.Vocabulary.{Weight, in_router, Side, A, B, End, LinkId, Central, Peripheral, Message, opposite, is_central, same_link}
 use Rattle.ipcz_world.proofs.Vocabulary.{total, total_below, total_list, Router, World, Key, node_at, flow, Books, Records, is_begun, is_recorded}
-use Rattle.ipcz_world.proofs.Vocabulary.{inner_link, side_node, proxy_side, across_side, IsUnderWay, of_end, moves_of, under_way, Told, of_bypass}
+use Rattle.ipcz_world.proofs.Vocabulary.{inner_link, side_node, proxy_side, across_side, IsUnderWay, of_end, moves_of, under_way, Controls, of_bypass}
 use Rattle.ipcz_world.proofs.Vocabulary.{control_weight, inner_of, bypass_peer, Descriptor, Moves}
 use Rattle.ipcz_world.specs.Places.{in_message as in_message', in_node as in_node', in_places as in_places'}
 use Rattle.std.specs.Prelude.{◌≡◌, ◌≢◌, ◌⊎◌, ◌≤◌, ℕ, ◌+◌, Bool, true, false, cond, nat_eq, is_some, Option, Some, None, refl}
@@ -15,7 +15,7 @@ use Rattle.ipcz_world.proofs.frames.Unmoved.{Agree}
 use Rattle.ipcz_world.proofs.frames.Placing.{places-handed_on}
 use Rattle.ipcz_world.proofs.frames.Totalling.{total_below-same, total_pairs-same, total_pairs}
 use Rattle.ipcz_world.proofs.frames.Handing.{handed_on, place_before, under_way-handed_on}
-use Rattle.ipcz_world.proofs.frames.Sealing.{no_strays_of, Sealed, Closed, told_of}
+use Rattle.ipcz_world.proofs.frames.Sealing.{no_strays_of, Sealed, Closed, controls_of}
 use Rattle.ipcz_world.proofs.acts.BypassPeerAround.{central_peer, CanPeer, here, in_hand, on_node, from_node, is, itself, begun, r_side}
 use Rattle.ipcz_world.proofs.acts.BypassPeerAround.{changed, at_o, inner_same, fresh_same, proxy_side_same, across_side_same, same_bypass}
 use Rattle.ipcz_world.proofs.acts.BypassPeerAround.{two, begun_apart, apart, router_same, node_same, end_same, source_same, bypass_same}
@@ -130,7 +130,7 @@ module _ {w : World} {b : Books} {g : Records} {from : ℕ} {k : Key} {r : Route
       found : of_bypass g old (f a c) (messages.BypassPeer l s old t new) ≤ control_weight g f old
       found = omega (
         arith,
-        (told_of law).control old f,
+        (controls_of law).control old f,
         total_below-has w.count a (λ b. total_below w.count (λ d. total_list (of_bypass g old (f b d)) (flow w b d))) u.sender,
         total_below-has w.count c (λ d. total_list (of_bypass g old (f a d)) (flow w a d)) u.receiver,
         total_list-at (of_bypass g old (f a c)) (flow w a c) i (messages.BypassPeer l s old t new) u.place,
@@ -219,20 +219,20 @@ module _ {w : World} {b : Books} {g : Records} {from : ℕ} {k : Key} {r : Route
   unfolding of_bypass
   about_none j f f' m = rw m refl
 
-  pub told-peer : Told v h
-  told-peer = record {
+  pub controls-peer : Controls v h
+  controls-peer = record {
     control = λ j t. control_at j t (at_o law can j);
-    will_stop = λ a c i l s n u. ap is_some (bypass_same law can l) ∙ (told_of law).will_stop a c (before a c i) l s n
+    will_stop = λ a c i l s n u. ap is_some (bypass_same law can l) ∙ (controls_of law).will_stop a c (before a c i) l s n
         (was_message law can a c i (messages.ProxyWillStop l s n) (λ m. grind (arith, m)) u);
     behind = λ a c i l s old t new u n. let u' : IsUnderWay w a c (before a c i) (messages.BypassPeer l s old t new) =
         was_message law can a c i (messages.BypassPeer l s old t new) (λ m. grind (arith, m)) u in
-        made law can a c i l s u'.receiver ((told_of law).behind a c (before a c i) l s old t new u'
+        made law can a c i l s u'.receiver ((controls_of law).behind a c (before a c i) l s old t new u'
         (sym (router_same law can l s (peripheral_apart l (peers_link a c (before a c i) l s old t new u'))) ∙ n));
-    flush_central = λ a c i l s u. (told_of law).flush_central a c (before a c i) l s (was_flush a c i l s u);
-    flush_recorded = λ a c i l s u. recorded_more law can l ((told_of law).flush_recorded a c (before a c i) l s (was_flush a c i l s u));
-    flush_to = λ a c i l s u. (told_of law).flush_to a c (before a c i) l s (was_flush a c i l s u) ∙ sym
+    flush_central = λ a c i l s u. (controls_of law).flush_central a c (before a c i) l s (was_flush a c i l s u);
+    flush_recorded = λ a c i l s u. recorded_more law can l ((controls_of law).flush_recorded a c (before a c i) l s (was_flush a c i l s u));
+    flush_to = λ a c i l s u. (controls_of law).flush_to a c (before a c i) l s (was_flush a c i l s u) ∙ sym
         (node_same law can l s (flush_apart a c i l s u));
-    flush_from = λ a c i l s u. (told_of law).flush_from a c (before a c i) l s (was_flush a c i l s u) ∙ sym
+    flush_from = λ a c i l s u. (controls_of law).flush_from a c (before a c i) l s (was_flush a c i l s u) ∙ sym
         (node_same law can l (opposite s) (flush_apart a c i l s u));
   }
     where
@@ -241,11 +241,11 @@ module _ {w : World} {b : Books} {g : Records} {from : ℕ} {k : Key} {r : Route
       was_flush a c i l s u = was_message law can a c i (messages.Flush l s) (λ m. grind (arith, m)) u
 
       flush_apart : (a c i : ℕ) (l : LinkId) (s : Side) → IsUnderWay v a c i (messages.Flush l s) → Apart l
-      flush_apart a c i l s u = apart law can l ((told_of law).flush_recorded a c (before a c i) l s (was_flush a c i l s u))
+      flush_apart a c i l s u = apart law can l ((controls_of law).flush_recorded a c (before a c i) l s (was_flush a c i l s u))
 
       control_at : (j : ℕ) (t : ℕ → ℕ → Message → ℕ) → ((nat_eq j o ≡ true) × (j ≡ o)) ⊎ ((nat_eq j o ≡ false) × (j ≢ o)) →
           under_way (λ a c. of_bypass h j (t a c)) v ≡ control_weight h t j
-      control_at j t m = omega (arith, same, moved, (told_of law).control j t, weighs m)
+      control_at j t m = omega (arith, same, moved, (controls_of law).control j t, weighs m)
         where
           same : under_way (λ a c. of_bypass h j (t a c)) v ≡ under_way (λ a c. of_bypass g j (t a c)) v
           same = ap (λ f. under_way f v) (λ i a c m. about-same j (t a c) m i)

@@ -20,13 +20,13 @@ use Rattle.ipcz_world.proofs.frames.OfRecords.{in_places}
 use Rattle.ipcz_world.proofs.frames.StandingRules.{standing_rules}
 use Rattle.ipcz_world.proofs.facts.Updates.{CanAct, claim_act}
 use Rattle.ipcz_world.proofs.frames.OneRouter.{SameButRouter, set-router, set-claimed}
-use Rattle.ipcz_world.proofs.frames.SameMessages.{recorded-same, told-same, moves-same}
+use Rattle.ipcz_world.proofs.frames.SameMessages.{recorded-same, controls-same, moves-same}
 use Rattle.ipcz_world.proofs.frames.GivingUp.{was, Gives, same-messages, ordered-gives, roles-gives, stands-gives}
 use Rattle.ipcz_world.proofs.frames.GivenUp.{Settled, stays, stages-flags, terminals-gives, end_places-gives, books-gives, items-gives}
 use Rattle.ipcz_world.proofs.frames.GivenUp.{order-gives, proxy_numbers-gives, fresh_numbers-gives, conserved-gives, held_once-gives}
 use Rattle.ipcz_world.proofs.acts.Flags.{IsFlagged, flagged-part, flagged-settled}
 use Rattle.ipcz_world.proofs.frames.Aside.{IsAside, central_left, peripheral_left, recorded-aside, roles-aside, stands-aside}
-use Rattle.ipcz_world.proofs.frames.Aside.{stages-aside, moves-aside, told-aside, terminals-aside, items-aside, order-aside}
+use Rattle.ipcz_world.proofs.frames.Aside.{stages-aside, moves-aside, controls-aside, terminals-aside, items-aside, order-aside}
 use Rattle.ipcz_world.proofs.frames.Aside.{proxy_numbers-aside, fresh_numbers-aside}
 use Rattle.ipcz_world.proofs.frames.Owners.{is_owned}
 use Rattle.ipcz_world.proofs.frames.RecordRules.{unclaimed-is}
@@ -114,7 +114,7 @@ inv-claim w b g k r law can left = record {
   stages = stages-aside aside_here v (stages-flags w v g k r (Some y) gives (stays_bare r y) settled law.stages
       (λ o a d. flag (λ z. z.marked) refl _ ∙ (law.stages o).across_marked a d)
       (λ o a d. flag (λ z. not z.holds) refl _ ∙ (law.stages o).across_free a d));
-  told = told-aside aside_here v (told-same w v g (same-messages one) law.told);
+  controls = controls-aside aside_here v (controls-same w v g (same-messages one) law.controls);
   moves = moves-aside aside_here v (moves-same w v g (same-messages one) law.moves);
   terminals = terminals-aside aside_here v (terminals-gives w v g k r (Some y) gives (stays_bare r y).no_terminal law.terminals);
   end_places = let e = end_places-gives w v g k r (Some y) gives law.end_places in

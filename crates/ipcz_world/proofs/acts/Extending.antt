@@ -25,7 +25,7 @@ use Rattle.ipcz_world.proofs.acts.ExtendingStages.{bypasses-extended, stages-ext
 use Rattle.ipcz_world.proofs.acts.ExtendingLinks.{counts-extended, shape-extended, roles-extended, begun-extended}
 use Rattle.ipcz_world.proofs.acts.ExtendingItems.{order-extended, proxy_numbers-extended}
 use Rattle.ipcz_world.proofs.acts.ExtendingFacts.{last_of, in_node-same}
-use Rattle.ipcz_world.proofs.acts.ExtendingPlaces.{came, items-extended, told-extended, descriptor_came, moves-extended}
+use Rattle.ipcz_world.proofs.acts.ExtendingPlaces.{came, items-extended, controls-extended, descriptor_came, moves-extended}
 use Rattle.ipcz_world.proofs.acts.ExtendingPlaces.{fresh_numbers-extended, not_closed, end_places-extended, books_kept-extended}
 use Rattle.ipcz_world.proofs.frames.Totalling.{total_below-same}
 
@@ -212,7 +212,7 @@ module _ (w v : World) (b : Books) (g : Records) (q : Key) (r : Router) (a : ℕ
       bypasses = bypasses-extended law is t;
       live = record { one_live = law.live.one_live; none_live = law.live.none_live; one_begun = law.live.one_begun };
       stages = stages-extended law is t;
-      told = told-extended law is t p away named ends;
+      controls = controls-extended law is t p away named ends;
       moves = moves-extended law is t p away named ends;
       terminals = terminals-extended law is t;
       end_places = end_places-extended law is t p away named ends;

@@ -3,7 +3,7 @@ use Rattle.ipcz_world.proofs.frames.Opened.{links-open}
 use Rattle.ipcz_world.proofs.Vocabulary.{Side, A, B, End, LinkId, Central, Descriptor, Item, Message, opposite, same_link, is_central, same_end}
 use Rattle.ipcz_world.proofs.Vocabulary.{has_end, item_at, Router, ends_in, World, Key, node_at, router_at, Books, is_closed, Records, is_recorded}
 use Rattle.ipcz_world.proofs.Vocabulary.{is_begun, inner_link, side_node, side_router, side_end, is_nowhere, terminal_node, view, IsUnderWay, makes}
-use Rattle.ipcz_world.proofs.Vocabulary.{is_made_before, under_way, of_end, moves_of, names_end, times, total_list, Told, of_bypass, control_weight}
+use Rattle.ipcz_world.proofs.Vocabulary.{is_made_before, under_way, of_end, moves_of, names_end, times, total_list, Controls, of_bypass, control_weight}
 use Rattle.ipcz_world.proofs.Vocabulary.{inner_of, moving_link, EndPlaces, BooksKept, times_held, Items, FreshNumbers, standing_router, none}
 use Rattle.ipcz_world.proofs.Vocabulary.{descriptor_of, Moving, key_at, move_weight, IsItemUnderWay}
 use Rattle.ipcz_world.proofs.frames.OfRecords.{holds, held_times, holds_times, in_message, in_places}
@@ -100,10 +100,10 @@ module _ {w v : World} {b : Books} {g : Records} {q : Key} {r : Router} {a : ℕ
           let zero : control_weight g (λ from to. of_peer (inner_link k)) old ≡ 0 =
           expected-peer g (inner_link k) old (λ st. other_link law is t (inner_of g old)
           ((law.bypasses old).inner (one_begun (g.bypass old).stage st))) in
-          absurd (omega (arith, f, one, law.told.control old (λ from to. of_peer (inner_link k)), zero))
+          absurd (omega (arith, f, one, law.controls.control old (λ from to. of_peer (inner_link k)), zero))
 
-  pub told-extended : Told v h2
-  told-extended = record {
+  pub controls-extended : Controls v h2
+  controls-extended = record {
     control = λ o f. let u = under_way-rewritten (λ from to. of_bypass h2 o (f from to)) w v q.node a pre post m0 m1 p in
         let same : under_way (λ from to. of_bypass h2 o (f from to)) w ≡ under_way (λ from to. of_bypass g o (f from to)) w =
         under_way-congr (λ from to. of_bypass h2 o (f from to)) (λ from to. of_bypass g o (f from to)) w
@@ -112,27 +112,27 @@ module _ {w v : World} {b : Books} {g : Records} {q : Key} {r : Router} {a : ℕ
           arith,
           u,
           same,
-          law.told.control o f,
+          law.controls.control o f,
           about-item h2 o (f q.node a) l s n item moves,
           about-item h2 o (f q.node a) l s n item (moves ++ e2 ∷ []),
           expected_same f o,
         );
-    will_stop = λ from to i x u m c. ap is_some (bypass_same law is t x) ∙ law.told.will_stop from to i x u m
+    will_stop = λ from to i x u m c. ap is_some (bypass_same law is t x) ∙ law.controls.will_stop from to i x u m
         (plain_came from to i (messages.ProxyWillStop x u m) c (λ e. grind (arith, e)));
     behind = λ from to i x u old target fresh c e. let o = plain_came from to i (messages.BypassPeer x u old target fresh) c
         (λ e. grind (arith, e)) in
         still from to i (messages.BypassPeer x u old target fresh) c x u
-        (law.told.behind from to i x u old target fresh o (sym
+        (law.controls.behind from to i x u old target fresh o (sym
         (router_same law is t x u (peer_recorded from to i x u old target fresh o)) ∙ e));
-    flush_central = λ from to i x u c. law.told.flush_central from to i x u (flush from to i x u c);
+    flush_central = λ from to i x u c. law.controls.flush_central from to i x u (flush from to i x u c);
     flush_recorded = λ from to i x u c. recorded_more law is t x
-        (law.told.flush_recorded from to i x u (flush from to i x u c));
-    flush_to = λ from to i x u c. law.told.flush_to from to i x u (flush from to i x u c) ∙ sym
+        (law.controls.flush_recorded from to i x u (flush from to i x u c));
+    flush_to = λ from to i x u c. law.controls.flush_to from to i x u (flush from to i x u c) ∙ sym
         (node_same law is t x u (other_link law is t x
-        (law.told.flush_recorded from to i x u (flush from to i x u c))));
-    flush_from = λ from to i x u c. law.told.flush_from from to i x u (flush from to i x u c) ∙ sym
+        (law.controls.flush_recorded from to i x u (flush from to i x u c))));
+    flush_from = λ from to i x u c. law.controls.flush_from from to i x u (flush from to i x u c) ∙ sym
         (node_same law is t x (opposite u) (other_link law is t x
-        (law.told.flush_recorded from to i x u (flush from to i x u c))));
+        (law.controls.flush_recorded from to i x u (flush from to i x u c))));
   }
     where
       flush : (from to i : ℕ) (x : LinkId) (u : Side) → IsUnderWay v from to i (messages.Flush x u) →

@@ -6,7 +6,7 @@ use Rattle.std.proofs.Common.{arith, ap, subst, ◌∙◌, sym, inl, inr}
 use Rattle.std.proofs.lemmas.Option.{none-some}
 use Rattle.ipcz_world.proofs.Vocabulary.{Side, End, LinkId, LinkEnd, Descriptor, Item, Message, opposite_end, same_end, has_end, Router, is_terminal}
 use Rattle.ipcz_world.proofs.Vocabulary.{World, Key, same_key, router_at, flow, Books, read, is_closed, Records, inner_link, is_nowhere, IsUnderWay}
-use Rattle.ipcz_world.proofs.Vocabulary.{of_end, moves_of, Weight, at_end, names_end, total_list, Told, of_bypass, EndPlaces, BooksKept, Conserved}
+use Rattle.ipcz_world.proofs.Vocabulary.{of_end, moves_of, Weight, at_end, names_end, total_list, Controls, of_bypass, EndPlaces, BooksKept, Conserved}
 use Rattle.ipcz_world.proofs.Vocabulary.{HeldOnce, Items, FreshNumbers, Parcel, Mark, Gone, has_mark, is_retired, add_put, Moves, move_weight}
 use Rattle.ipcz_world.proofs.Vocabulary.{from_number, Retired}
 use Rattle.ipcz_base.specs.declared.message.Message.TheVariants as messages
@@ -67,8 +67,8 @@ module _ (w v : World) (b : Books) (g : Records) (e : End) (jk : Key) (z : Route
   d : IsDraining w v jk z z
   d = record { touched = is.touched; alike = alike-itself z; out = drained_same z.out_queue; inn = drained_same z.in_queue }
 
-  pub told-pushed : Told w g → Told v g
-  told-pushed law = record {
+  pub controls-pushed : Controls w g → Controls v g
+  controls-pushed law = record {
     control = λ o h. omega (
       arith,
       law.control o h,
@@ -340,7 +340,7 @@ module _ (w v : World) (b : Books) (g : Records) (e : End) (jk : Key) (z : Route
     bypasses = bypasses-touched w v jk z z g is.touched (alike-itself z) law.bypasses;
     live = law.live;
     stages = stages-touched w v jk z z g is.touched (alike-itself z) law.stages;
-    told = told-pushed law.told;
+    controls = controls-pushed law.controls;
     moves = moves-pushed law.moves;
     end_places = ends-pushed law.end_places;
     books_kept = books_kept-pushed;

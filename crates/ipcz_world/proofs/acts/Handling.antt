@@ -95,7 +95,7 @@ module _ (w : World) (b : Books) (g : Records) (law : Inv w b g) where
       (source_for w (messages.BypassPeer link side o target fresh)) ≡ true
   unfolding fits passes_at is_central is_linked
   peer_fits n from o link side target fresh is f e can has =
-      let at : IsPeer g from n o link side target fresh = peer_told w g from n 0 o link side target fresh law.told
+      let at : IsPeer g from n o link side target fresh = peer_told w g from n 0 o link side target fresh law.controls
       (under_way-hand w n from (messages.BypassPeer link side o target fresh) is) in
       go at
     where
@@ -159,7 +159,7 @@ module _ (w : World) (b : Books) (g : Records) (law : Inv w b g) where
       (fits (node_at w n) from (messages.AcceptBypass o side fresh length)
       (source_for w (messages.AcceptBypass o side fresh length)) ≡ true) × (has_primary (Central o) side f.router ≡ true)
   unfolding fits passes_at
-  accept_fits n from o side fresh length is f e here has = go (accept_told w g from n 0 o side fresh length law.told
+  accept_fits n from o side fresh length is f e here has = go (accept_told w g from n 0 o side fresh length law.controls
       (under_way-hand w n from (messages.AcceptBypass o side fresh length) is))
     where
       k : Key
@@ -233,7 +233,7 @@ module _ (w : World) (b : Books) (g : Records) (law : Inv w b g) where
       ((inward_edge f.router).decaying ≡ Some e)
   unfolding fits passes_at
   stop_fits n from o side in_length out_length is f e here has = go
-      (stop_told w g from n 0 o side in_length out_length law.told
+      (stop_told w g from n 0 o side in_length out_length law.controls
       (under_way-hand w n from (messages.StopProxying side o in_length out_length) is))
     where
       k : Key
@@ -304,7 +304,7 @@ module _ (w : World) (b : Books) (g : Records) (law : Inv w b g) where
       (source_for w (messages.ProxyWillStop link side in_length)) ≡ true) × (o : ℕ) × (bypass_of g link ≡ Some o)
   unfolding fits passes_at
   will_stop_fits n from link side in_length is f e here has =
-      let c = will_stop_told w g from n 0 link side in_length law.told
+      let c = will_stop_told w g from n 0 link side in_length law.controls
       (under_way-hand w n from (messages.ProxyWillStop link side in_length) is) in
       (go c.0 c.2, c.0, c.1)
     where

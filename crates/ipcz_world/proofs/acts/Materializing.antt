@@ -28,7 +28,7 @@ use Rattle.ipcz_world.proofs.acts.MaterializingStages.{nowhere_same, stands-made
 use Rattle.ipcz_world.proofs.acts.MaterializingStages.{terminals-made}
 use Rattle.ipcz_world.proofs.acts.MaterializingLinks.{counts-made, ordered-made, shape-made, roles-made, begun-made}
 use Rattle.ipcz_world.proofs.acts.MaterializingItems.{reach-blank, order-made, proxy_numbers-made}
-use Rattle.ipcz_world.proofs.acts.MaterializingPlaces.{came, items-made, told-made, descriptor_came, moves-made, fresh_numbers-made}
+use Rattle.ipcz_world.proofs.acts.MaterializingPlaces.{came, items-made, controls-made, descriptor_came, moves-made, fresh_numbers-made}
 use Rattle.ipcz_world.proofs.acts.MaterializingPlaces.{end_places-made, books_kept-made}
 use Rattle.ipcz_world.proofs.frames.Totalling.{total_below-same}
 
@@ -209,7 +209,7 @@ module _ (w v : World) (b : Books) (g : Records) (a : ℕ) (q p : Key) (d : Desc
       bypasses = bypasses-made law is t;
       live = record { one_live = law.live.one_live; none_live = law.live.none_live; one_begun = law.live.one_begun };
       stages = stages-made law is t;
-      told = told-made law is t r away ends;
+      controls = controls-made law is t r away ends;
       moves = moves-made law is t r away ends;
       terminals = terminals-made law is t;
       end_places = end_places-made law is t r away ends;

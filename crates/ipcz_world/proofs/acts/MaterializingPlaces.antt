@@ -6,7 +6,7 @@ use Rattle.std.proofs.Common.{arith, ap, subst, ◌∙◌, sym, inl, inr}
 use Rattle.ipcz_world.proofs.Vocabulary.{Side, A, B, End, LinkId, Central, LinkEnd, Descriptor, Item, Message, opposite, same_side, same_link}
 use Rattle.ipcz_world.proofs.Vocabulary.{same_end, has_end, item_at, Router, from_descriptor, World, Key, same_key, router_at, Books, Records, At}
 use Rattle.ipcz_world.proofs.Vocabulary.{is_recorded, inner_link, side_router, side_end, terminal_node, view, IsUnderWay, is_made_before, under_way}
-use Rattle.ipcz_world.proofs.Vocabulary.{of_end, moves_of, total_list, Told, of_bypass, inner_of, moving_link, EndPlaces, BooksKept, Items}
+use Rattle.ipcz_world.proofs.Vocabulary.{of_end, moves_of, total_list, Controls, of_bypass, inner_of, moving_link, EndPlaces, BooksKept, Items}
 use Rattle.ipcz_world.proofs.Vocabulary.{FreshNumbers, standing_router, Moving, move_weight, IsItemUnderWay}
 use Rattle.ipcz_base.specs.declared.message.Message.TheVariants as messages
 use Rattle.ipcz_world.proofs.frames.Touching.{HasSameEnds}
@@ -91,8 +91,8 @@ module _ {w v : World} {b : Books} {g : Records} {a : ℕ} {q p : Key} {d : Desc
   plain_came : (from to i : ℕ) (x : Message) → IsUnderWay v from to i x → (x ≡ m1 → ⊥) → IsUnderWay w from to i x
   plain_came from to i x c other = elim (came from to i x c) [ inl o ↦ o | inr o ↦ absurd (other o.0) ]
 
-  pub told-made : Told v h2
-  told-made = record {
+  pub controls-made : Controls v h2
+  controls-made = record {
     control = λ o f. let u = under_way-rewritten (λ from to. of_bypass h2 o (f from to)) w v a q.node pre post m0 m1 r in
         let same : under_way (λ from to. of_bypass h2 o (f from to)) w ≡ under_way (λ from to. of_bypass g o (f from to)) w =
         under_way-congr (λ from to. of_bypass h2 o (f from to)) (λ from to. of_bypass g o (f from to)) w
@@ -101,23 +101,23 @@ module _ {w v : World} {b : Books} {g : Records} {a : ℕ} {q p : Key} {d : Desc
           arith,
           u,
           same,
-          law.told.control o f,
+          law.controls.control o f,
           about-item h2 o (f a q.node) l s n item (d ∷ moves),
           about-item h2 o (f a q.node) l s n item moves,
           expected_alike g h2 f o refl (node_same law is t (inner_of g o) B) (side_same law is t o)
               (λ z. node_same law is t (Central o) z),
         );
-    will_stop = λ from to i x u m c. ap is_some (bypass_same law is t x) ∙ law.told.will_stop from to i x u m
+    will_stop = λ from to i x u m c. ap is_some (bypass_same law is t x) ∙ law.controls.will_stop from to i x u m
         (plain_came from to i (messages.ProxyWillStop x u m) c (λ e. grind (arith, e)));
     behind = λ from to i x u old target fresh c e. let o = plain_came from to i (messages.BypassPeer x u old target fresh) c
         (λ e. grind (arith, e)) in
         still from to i (messages.BypassPeer x u old target fresh) c x u e
-        (law.told.behind from to i x u old target fresh o (sym (router_same law is t x u (still_waits x u e)) ∙ e));
-    flush_central = λ from to i x u c. law.told.flush_central from to i x u (flush from to i x u c);
-    flush_recorded = λ from to i x u c. recorded_same law is t x ∙ law.told.flush_recorded from to i x u
+        (law.controls.behind from to i x u old target fresh o (sym (router_same law is t x u (still_waits x u e)) ∙ e));
+    flush_central = λ from to i x u c. law.controls.flush_central from to i x u (flush from to i x u c);
+    flush_recorded = λ from to i x u c. recorded_same law is t x ∙ law.controls.flush_recorded from to i x u
         (flush from to i x u c);
-    flush_to = λ from to i x u c. law.told.flush_to from to i x u (flush from to i x u c) ∙ sym (node_same law is t x u);
-    flush_from = λ from to i x u c. law.told.flush_from from to i x u (flush from to i x u c) ∙ sym
+    flush_to = λ from to i x u c. law.controls.flush_to from to i x u (flush from to i x u c) ∙ sym (node_same law is t x u);
+    flush_from = λ from to i x u c. law.controls.flush_from from to i x u (flush from to i x u c) ∙ sym
         (node_same law is t x (opposite u));
   }
     where

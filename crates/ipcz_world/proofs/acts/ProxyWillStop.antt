@@ -4,7 +4,7 @@ use Rattle.ipcz_world.proofs.frames.Sealing.{live_of}
 use Rattle.ipcz_world.proofs.Vocabulary.{Weight, in_router, Side, B, End, LinkId, Descriptor, Message, opposite, has_link, Router}
 use Rattle.ipcz_world.proofs.Vocabulary.{router_has, inward_edge, World, Key, mail_at, way, router_at, Books, Records, is_begun, inner_link}
 use Rattle.ipcz_world.proofs.Vocabulary.{side_router, bypass_of, proxy_side, known_from, Standing, is_gone, view, has_decaying}
-use Rattle.ipcz_world.proofs.Vocabulary.{IsUnderWay, makes, is_made_before, under_way, moves_of, of_end, total_list, Told, of_bypass}
+use Rattle.ipcz_world.proofs.Vocabulary.{IsUnderWay, makes, is_made_before, under_way, moves_of, of_end, total_list, Controls, of_bypass}
 use Rattle.ipcz_world.proofs.Vocabulary.{control_weight, inner_of, Inv, proxy_will_stop, is_proxy, fresh_of, A}
 use Rattle.ipcz_world.specs.Places.{in_message as in_message'}
 use Rattle.std.specs.Prelude.{◌≡◌, ◌≢◌, ◌⊎◌, ◌<◌, ◌≤◌, ℕ, ◌+◌, true, false, nat_eq, is_some, Option, Some, refl}
@@ -33,7 +33,7 @@ use Rattle.ipcz_world.proofs.frames.StageFurther as further
 use Rattle.ipcz_world.proofs.frames.StageFurtherNumbers as numbers
 use Rattle.ipcz_world.proofs.frames.StageFurther.{IsLinkedLike}
 use Rattle.ipcz_world.proofs.frames.Sealing.{Sealed, Closed, opened, counts_of, links_of, bypasses_of, stages_of, roles_of}
-use Rattle.ipcz_world.proofs.frames.Sealing.{told_of, proxy_numbers_of, fresh_numbers_of, ordered_of, spares_of, moves_of as moves_law}
+use Rattle.ipcz_world.proofs.frames.Sealing.{controls_of, proxy_numbers_of, fresh_numbers_of, ordered_of, spares_of, moves_of as moves_law}
 use Rattle.ipcz_world.proofs.frames.Sealing.{terminals_of, end_places_of, books_kept_of, conserved_of, held_once_of, no_strays_of}
 use Rattle.ipcz_world.proofs.frames.Having.{has_at}
 
@@ -59,7 +59,7 @@ module _ (w : World) (b : Books) (g : Records) (from : ℕ) (k : Key) (r : Route
   from_node = (counts_of law).hand_from k.node from on_node (opened can).hand.hand
 
   pub is : IsEnded g from k o link side length
-  is = ended w g from k o link side length (told_of law) from_node on_node (opened can).by in_hand
+  is = ended w g from k o link side length (controls_of law) from_node on_node (opened can).by in_hand
 
   pub begun : is_begun (g.bypass o) ≡ true
   begun = grind (arith, is.stage, nat_tests)
@@ -198,26 +198,26 @@ module _ (w : World) (b : Books) (g : Records) (from : ℕ) (k : Key) (r : Route
   unfolding of_bypass
   about_none j f m = rw ((opened can).by, m) refl
 
-  told-end : Told v h
-  told-end = record {
+  controls-end : Controls v h
+  controls-end = record {
     control = λ j t. control_at j t (at_o j);
-    will_stop = λ a c i l s n u. ap is_some (bypass_of-agree g h agree l) ∙ (told_of law).will_stop a c (place_before from k.node a c i) l s
+    will_stop = λ a c i l s n u. ap is_some (bypass_of-agree g h agree l) ∙ (controls_of law).will_stop a c (place_before from k.node a c i) l s
         n (was a c i (messages.ProxyWillStop l s n) u);
     behind = λ a c i l s old target new u none. made a c i l s (messages.BypassPeer l s old target new) u
-        ((told_of law).behind a c (place_before from k.node a c i) l s old target new (was a c i (messages.BypassPeer l s old target new) u)
+        ((controls_of law).behind a c (place_before from k.node a c i) l s old target new (was a c i (messages.BypassPeer l s old target new) u)
         (sym (further.router_same law changed like linked carried is.stage late early l s) ∙ none));
-    flush_central = λ a c i l s u. (told_of law).flush_central a c (place_before from k.node a c i) l s (was a c i (messages.Flush l s) u);
+    flush_central = λ a c i l s u. (controls_of law).flush_central a c (place_before from k.node a c i) l s (was a c i (messages.Flush l s) u);
     flush_recorded = λ a c i l s u. further.recorded_same law changed like linked carried is.stage late early l ∙
-        (told_of law).flush_recorded a c (place_before from k.node a c i) l s (was a c i (messages.Flush l s) u);
-    flush_to = λ a c i l s u. (told_of law).flush_to a c (place_before from k.node a c i) l s (was a c i (messages.Flush l s) u) ∙ sym
+        (controls_of law).flush_recorded a c (place_before from k.node a c i) l s (was a c i (messages.Flush l s) u);
+    flush_to = λ a c i l s u. (controls_of law).flush_to a c (place_before from k.node a c i) l s (was a c i (messages.Flush l s) u) ∙ sym
         (side_node-agree g h agree l s);
-    flush_from = λ a c i l s u. (told_of law).flush_from a c (place_before from k.node a c i) l s (was a c i (messages.Flush l s) u) ∙ sym
+    flush_from = λ a c i l s u. (controls_of law).flush_from a c (place_before from k.node a c i) l s (was a c i (messages.Flush l s) u) ∙ sym
         (side_node-agree g h agree l (opposite s));
   }
     where
       control_at : (j : ℕ) (t : ℕ → ℕ → Message → ℕ) → ((nat_eq j o ≡ true) × (j ≡ o)) ⊎ ((nat_eq j o ≡ false) × (j ≢ o)) →
           under_way (λ a c. of_bypass h j (t a c)) v ≡ control_weight h t j
-      control_at j t m = omega (arith, same, moved, (told_of law).control j t, weighs m)
+      control_at j t m = omega (arith, same, moved, (controls_of law).control j t, weighs m)
         where
           same : under_way (λ a c. of_bypass h j (t a c)) v ≡ under_way (λ a c. of_bypass g j (t a c)) v
           same = ap (λ f. under_way f v) (λ i a c m. about-agree g h agree j (t a c) m i)
@@ -272,7 +272,7 @@ module _ (w : World) (b : Books) (g : Records) (from : ℕ) (k : Key) (r : Route
     bypasses = further.bypasses-further law changed like linked carried is.stage late early;
     live = live-kept g h (λ i l. l) (λ i. refl) (λ j st. grind (arith, st, at_o j, is.stage)) agree.is_begun (live_of law);
     stages = further.stages-further law changed like linked carried is.stage late early;
-    told = told-end;
+    controls = controls-end;
     moves = moves-kept w v g h k r x changed agree carried descriptors (moves_law law);
     terminals = terminals-kept w v g h k r x changed agree like (terminals_of law);
     end_places = end_places-kept w v g h k r x changed agree like carried (end_places_of law);

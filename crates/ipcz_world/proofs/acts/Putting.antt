@@ -34,7 +34,7 @@ use Rattle.ipcz_world.proofs.frames.Touching.{bypasses-touched, stages-touched, 
 use Rattle.ipcz_world.proofs.frames.Draining.{gone_same, taking_queue-standing}
 use Rattle.ipcz_world.proofs.facts.Reaching.{is_reach}
 use Rattle.ipcz_world.proofs.frames.Fitting.{fits_of, items_by}
-use Rattle.ipcz_world.proofs.frames.SameMessages.{SameMessages, under-same, made-same, told-same, moves-same}
+use Rattle.ipcz_world.proofs.frames.SameMessages.{SameMessages, under-same, made-same, controls-same, moves-same}
 use Rattle.ipcz_world.proofs.frames.Filling.{IsFilled, IsFilling, filled_same, filled_push, filled_before, fits-filled, standing_filled}
 use Rattle.ipcz_world.proofs.frames.Filling.{sent_kept, taken_filled, taken_current}
 use Rattle.ipcz_world.proofs.frames.Booking.{length-more, drop-more, take-more, length-drop, from_number-more, has_mark-more, mark_found}
@@ -629,7 +629,7 @@ module _ (w v : World) (b : Books) (g : Records) (k : Key) (r y : Router) (item 
       bypasses = bypasses-touched w v k r y g is.touched is.alike law.bypasses;
       live = law.live;
       stages = stages-touched w v k r y g is.touched is.alike law.stages;
-      told = told-same w v g same law.told;
+      controls = controls-same w v g same law.controls;
       moves = moves-same w v g same law.moves;
       terminals = terminals-touched w v k r y g is.touched is.alike law.terminals;
       end_places = end_places-put;

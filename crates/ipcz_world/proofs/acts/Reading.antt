@@ -28,7 +28,7 @@ use Rattle.ipcz_world.proofs.frames.Draining.{proxy_numbers-drained, own-drained
 use Rattle.ipcz_world.proofs.frames.Fitting.{fits_of, items_by, fits-drained}
 use Rattle.ipcz_world.proofs.frames.Weighing.{in_router-is}
 use Rattle.ipcz_world.proofs.frames.Known.{not_there_yet}
-use Rattle.ipcz_world.proofs.frames.SameMessages.{SameMessages, under-same, made-same, told-same, moves-same}
+use Rattle.ipcz_world.proofs.frames.SameMessages.{SameMessages, under-same, made-same, controls-same, moves-same}
 use Rattle.ipcz_world.proofs.frames.Booking.{flag, end_tells, more_same, more_here, total-has, in_router-within, not_moving}
 use Rattle.ipcz_world.proofs.facts.Tests.{nat_eq-itself, and_first, and_second, nat_eq-is}
 use Rattle.std.proofs.lemmas.Bool.{and_from}
@@ -374,7 +374,7 @@ module _ (w v : World) (b : Books) (g : Records) (k : Key) (r : Router) (item : 
     bypasses = bypasses-touched w v k r y g is.touched alike law.bypasses;
     live = law.live;
     stages = stages-touched w v k r y g is.touched alike law.stages;
-    told = told-same w v g same law.told;
+    controls = controls-same w v g same law.controls;
     moves = moves-same w v g same law.moves;
     terminals = terminals-touched w v k r y g is.touched alike law.terminals;
     end_places = end_places-read;

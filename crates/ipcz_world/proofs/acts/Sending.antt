@@ -9,7 +9,7 @@ use Rattle.ipcz_world.proofs.Vocabulary.{Side, End, LinkId, Central, LinkEnd, De
 use Rattle.ipcz_world.proofs.Vocabulary.{with_router, ends_in, World, Key, node_at, router_at, flow, set_node, Books, Records, is_recorded, side_node}
 use Rattle.ipcz_world.proofs.Vocabulary.{side_length, side_router, inner_link, terminal_node, Standing, is_attached, view, next_sent, is_gone}
 use Rattle.ipcz_world.proofs.Vocabulary.{is_awaited, sending_queue, IsUnderWay, of_end, moves_of, Weight, in_router, at_end, names_end, times}
-use Rattle.ipcz_world.proofs.Vocabulary.{total_list, total_below, Counts, Links, Positions, Told, of_bypass, EndPlaces, BooksKept, Conserved}
+use Rattle.ipcz_world.proofs.Vocabulary.{total_list, total_below, Counts, Links, Positions, Controls, of_bypass, EndPlaces, BooksKept, Conserved}
 use Rattle.ipcz_world.proofs.Vocabulary.{HeldOnce, times_held, Items, Order, FreshNumbers, has_passed, standing_router, Inv, reach, push_out}
 use Rattle.ipcz_world.proofs.Vocabulary.{is_made_by}
 use Rattle.ipcz_base.specs.declared.message.Message.TheVariants as messages
@@ -137,8 +137,8 @@ module _ (w v : World) (b : Books) (g : Records) (k : Key) (r y : Router) (link 
           (subst (λ f. ItemFits v g k.node to (length (flow w k.node to)) link f m) (grind (arith, same))
           (subst (λ f. ItemFits v g k.node to (length (flow w k.node to)) link s f) (grind (arith, same)) (fits-sent links order))))))
 
-  pub told-sent : Told w g → Told v g
-  told-sent law = record {
+  pub controls-sent : Controls w g → Controls v g
+  controls-sent law = record {
     control = λ o h. omega (
       arith,
       law.control o h,
@@ -364,7 +364,7 @@ inv-sent w b g k r y link s to n item law is = record {
   bypasses = bypasses-touched w v k r y g t is.alike law.bypasses;
   live = law.live;
   stages = stages-touched w v k r y g t is.alike law.stages;
-  told = told-sent w v b g k r y link s to n item is.sent d p law.told;
+  controls = controls-sent w v b g k r y link s to n item is.sent d p law.controls;
   moves = moves-sent w v b g k r y link s to n item is.sent d p law.moves;
   terminals = terminals-touched w v k r y g t is.alike law.terminals;
   end_places = end_places-sent w v b g k r y link s to n item is.sent d p ends law.end_places;

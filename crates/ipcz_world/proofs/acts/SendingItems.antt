@@ -98,7 +98,7 @@ made_way w b g k r e law rec there none =
     subst (λ x. is_made_by e.link (opposite e.side) (flow w x e.other) ≡ true) from
     (subst (λ x. is_made_by e.link (opposite e.side) (flow w (side_node g e.link (opposite (opposite e.side))) x) ≡ true)
     (sym rec.other)
-    (awaited_made w g e.link (opposite e.side) law.stands law.bypasses law.told law.moves rec.recorded none))
+    (awaited_made w g e.link (opposite e.side) law.stands law.bypasses law.controls law.moves rec.recorded none))
 
 -- what a send out rests on
 pub is_send_out : (w : World) (b : Books) (g : Records) (k : Key) (r : Router) (e : LinkEnd) (item : Item) → OpenInv w b g →

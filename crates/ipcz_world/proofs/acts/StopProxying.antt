@@ -5,7 +5,7 @@ use Rattle.ipcz_world.proofs.frames.Sealing.{live_of}
 use Rattle.ipcz_world.proofs.Vocabulary.{Weight, in_router, Side, A, B, End, LinkId, Central, LinkEnd, Descriptor, Item, Message, opposite, has_link}
 use Rattle.ipcz_world.proofs.Vocabulary.{Router, router_has, inward_edge, Edge, World, Key, mail_at, way, router_at, Books, Records}
 use Rattle.ipcz_world.proofs.Vocabulary.{is_begun, inner_link, side_node, side_router, bypass_of, proxy_side, known_from, has_decaying}
-use Rattle.ipcz_world.proofs.Vocabulary.{has_inward_decaying, IsUnderWay, makes, is_made_before, under_way, moves_of, of_end, total_list, Told}
+use Rattle.ipcz_world.proofs.Vocabulary.{has_inward_decaying, IsUnderWay, makes, is_made_before, under_way, moves_of, of_end, total_list, Controls}
 use Rattle.ipcz_world.proofs.Vocabulary.{of_bypass, control_weight, inner_of, Inv, no_edge, stop_proxying, is_proxy, is_begun_router, side_end}
 use Rattle.ipcz_world.specs.Places.{in_message as in_message'}
 use Rattle.std.specs.Prelude.{◌≡◌, ◌≢◌, ◌⊎◌, ◌<◌, ◌≤◌, ℕ, ◌+◌, true, false, nat_eq, is_some, is_none, option_map, unwrap_or, Option, Some}
@@ -35,7 +35,7 @@ use Rattle.ipcz_world.proofs.frames.RolesKept.{Knows, end-kept}
 use Rattle.ipcz_world.proofs.frames.StageFurther as further
 use Rattle.ipcz_world.proofs.frames.StageFurtherNumbers as numbers
 use Rattle.ipcz_world.proofs.frames.StageFurther.{IsLinkedLike}
-use Rattle.ipcz_world.proofs.frames.Sealing.{Sealed, Closed, opened, counts_of, links_of, positions_of, bypasses_of, stages_of, told_of}
+use Rattle.ipcz_world.proofs.frames.Sealing.{Sealed, Closed, opened, counts_of, links_of, positions_of, bypasses_of, stages_of, controls_of}
 use Rattle.ipcz_world.proofs.frames.Sealing.{ordered_of, spares_of, moves_of as moves_law, terminals_of, end_places_of, books_kept_of}
 use Rattle.ipcz_world.proofs.frames.Sealing.{conserved_of, held_once_of, no_strays_of}
 use Rattle.ipcz_world.proofs.frames.Having.{has_at}
@@ -75,7 +75,7 @@ module _ (w : World) (b : Books) (g : Records) (from : ℕ) (k : Key) (r : Route
   from_node = (counts_of law).hand_from k.node from on_node (opened can).hand.hand
 
   pub is : IsStopped g from k o side in_length out_length
-  is = stopped w g from k o side in_length out_length (told_of law) from_node on_node in_hand
+  is = stopped w g from k o side in_length out_length (controls_of law) from_node on_node in_hand
 
   begun : is_begun (g.bypass o) ≡ true
   begun = grind (arith, is.stage, nat_tests)
@@ -321,22 +321,22 @@ module _ (w : World) (b : Books) (g : Records) (from : ℕ) (k : Key) (r : Route
   unfolding of_bypass
   about_none j f f' m = rw (on_inner, by_o, m) refl
 
-  told-stop : Told v h
-  told-stop = record {
+  controls-stop : Controls v h
+  controls-stop = record {
     control = λ j t. control_at j t (at_o j);
     will_stop = λ a c i l s n u. ap is_some (bypass_of-agree g h agree l) ∙ will_stop_at a c i l s n
         (was_under_way w from k x e.other sent came a c i (messages.ProxyWillStop l s n) on_node in_hand u);
     behind = λ a c i l s old target new u none. let u' : IsUnderWay w a c (place_before from k.node a c i)
         (messages.BypassPeer l s old target new) = was a c i (messages.BypassPeer l s old target new) (λ m. grind (arith, m)) u in
-        made a c i l s u'.receiver ((told_of law).behind a c (place_before from k.node a c i) l s old target new u'
+        made a c i l s u'.receiver ((controls_of law).behind a c (place_before from k.node a c i) l s old target new u'
         (sym (further.router_same law changed like linked carried is.stage late early l s) ∙ none));
-    flush_central = λ a c i l s u. (told_of law).flush_central a c (place_before from k.node a c i) l s
+    flush_central = λ a c i l s u. (controls_of law).flush_central a c (place_before from k.node a c i) l s
         (was a c i (messages.Flush l s) (λ m. grind (arith, m)) u);
     flush_recorded = λ a c i l s u. further.recorded_same law changed like linked carried is.stage late early l ∙
-        (told_of law).flush_recorded a c (place_before from k.node a c i) l s (was a c i (messages.Flush l s) (λ m. grind (arith, m)) u);
-    flush_to = λ a c i l s u. (told_of law).flush_to a c (place_before from k.node a c i) l s
+        (controls_of law).flush_recorded a c (place_before from k.node a c i) l s (was a c i (messages.Flush l s) (λ m. grind (arith, m)) u);
+    flush_to = λ a c i l s u. (controls_of law).flush_to a c (place_before from k.node a c i) l s
         (was a c i (messages.Flush l s) (λ m. grind (arith, m)) u) ∙ sym (side_node-agree g h agree l s);
-    flush_from = λ a c i l s u. (told_of law).flush_from a c (place_before from k.node a c i) l s
+    flush_from = λ a c i l s u. (controls_of law).flush_from a c (place_before from k.node a c i) l s
         (was a c i (messages.Flush l s) (λ m. grind (arith, m)) u) ∙ sym (side_node-agree g h agree l (opposite s));
   }
     where
@@ -351,11 +351,11 @@ module _ (w : World) (b : Books) (g : Records) (from : ℕ) (k : Key) (r : Route
       will_stop_at : (a c i : ℕ) (l : LinkId) (s : Side) (n : ℕ) →
           IsUnderWay w a c (place_before from k.node a c i) (messages.ProxyWillStop l s n) ⊎ (messages.ProxyWillStop l s n ≡ sent) →
           is_some (bypass_of g l) ≡ true
-      will_stop_at a c i l s n (inl u) = (told_of law).will_stop a c (place_before from k.node a c i) l s n u
+      will_stop_at a c i l s n (inl u) = (controls_of law).will_stop a c (place_before from k.node a c i) l s n u
       will_stop_at a c i l s n (inr m) = ap (λ z. is_some (bypass_of g z)) (ap link_of m ∙ on_inner) ∙ ap is_some by_o
 
       control_at : (j : ℕ) (t : ℕ → ℕ → Message → ℕ) → At j → under_way (λ a c. of_bypass h j (t a c)) v ≡ control_weight h t j
-      control_at j t m = omega (arith, same, moved, (told_of law).control j t, weighs m)
+      control_at j t m = omega (arith, same, moved, (controls_of law).control j t, weighs m)
         where
           same : under_way (λ a c. of_bypass h j (t a c)) v ≡ under_way (λ a c. of_bypass g j (t a c)) v
           same = ap (λ f. under_way f v) (λ i a c m. about-agree g h agree j (t a c) m i)
@@ -421,7 +421,7 @@ module _ (w : World) (b : Books) (g : Records) (from : ℕ) (k : Key) (r : Route
     bypasses = further.bypasses-further law changed like linked carried is.stage late early;
     live = live-kept g h (λ i l. l) (λ i. refl) (λ j st. grind (arith, st, at_o j, is.stage)) agree.is_begun (live_of law);
     stages = further.stages-further law changed like linked carried is.stage late early;
-    told = told-stop;
+    controls = controls-stop;
     moves = moves-kept w v g h k r x changed agree carried descriptors (moves_law law);
     terminals = terminals-kept w v g h k r x changed agree like (terminals_of law);
     end_places = end_places-kept w v g h k r x changed agree like carried (end_places_of law);

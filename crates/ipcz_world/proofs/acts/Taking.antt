@@ -15,7 +15,7 @@ use Rattle.ipcz_world.proofs.Vocabulary.{Side, A, B, End, LinkId, Central, Perip
 use Rattle.ipcz_world.proofs.Vocabulary.{item_at, Router, is_terminal, inward_edge, ends_in, Node, with_router, World, Key, same_key, node_at}
 use Rattle.ipcz_world.proofs.Vocabulary.{mail_at, way, router_at, set_node, set_mail, hand_message, Books, read, is_closed, Records, side_router}
 use Rattle.ipcz_world.proofs.Vocabulary.{side_end, inner_link, terminal_node, taking_queue, is_attached, fed_queue, IsUnderWay, makes, of_end}
-use Rattle.ipcz_world.proofs.Vocabulary.{moves_of, Weight, in_router, at_end, names_end, total_list, Counts, is_outward, Told, of_bypass, EndPlaces}
+use Rattle.ipcz_world.proofs.Vocabulary.{moves_of, Weight, in_router, at_end, names_end, total_list, Counts, is_outward, Controls, of_bypass, EndPlaces}
 use Rattle.ipcz_world.proofs.Vocabulary.{BooksKept, Conserved, HeldOnce, Items, FreshNumbers, Inv, edge_has, accept, is_mark, has_mark, from_number}
 use Rattle.ipcz_world.proofs.Vocabulary.{IsItemUnderWay}
 use Rattle.ipcz_base.specs.declared.message.Message.TheVariants as messages
@@ -196,18 +196,18 @@ module _ (w v : World) (b : Books) (g : Records) (from : ℕ) (k : Key) (r y : R
       fits-filled w v k r y n (is_outward l s) g filling f to i c.at m u x (fits_of w g f to c.at m u x z moves law.items c.was)
       (c.made m u))
 
-  pub told-taken : Told v g
-  told-taken = record {
+  pub controls-taken : Controls v g
+  controls-taken = record {
     control = λ o h. let e = under_way-taken (λ from to. of_bypass g o (h from to)) w v from k.node (messages.Item l s n item []) p in
-        omega (arith, law.told.control o h, e, about-item g o (h from k.node) l s n item []);
-    will_stop = λ f to i m u x h. let c = came f to i (messages.ProxyWillStop m u x) h in law.told.will_stop f to c.at m u x c.was;
+        omega (arith, law.controls.control o h, e, about-item g o (h from k.node) l s n item []);
+    will_stop = λ f to i m u x h. let c = came f to i (messages.ProxyWillStop m u x) h in law.controls.will_stop f to c.at m u x c.was;
     behind = λ f to i m u old target fresh h e. let c = came f to i (messages.BypassPeer m u old target fresh) h in
-        c.made m u (law.told.behind f to c.at m u old target fresh c.was e);
-    flush_central = λ f to i m u h. let c = came f to i (messages.Flush m u) h in law.told.flush_central f to c.at m u c.was;
+        c.made m u (law.controls.behind f to c.at m u old target fresh c.was e);
+    flush_central = λ f to i m u h. let c = came f to i (messages.Flush m u) h in law.controls.flush_central f to c.at m u c.was;
     flush_recorded = λ f to i m u h. let c = came f to i (messages.Flush m u) h in
-        recorded_same w v k r y g t m ∙ law.told.flush_recorded f to c.at m u c.was;
-    flush_to = λ f to i m u h. let c = came f to i (messages.Flush m u) h in law.told.flush_to f to c.at m u c.was;
-    flush_from = λ f to i m u h. let c = came f to i (messages.Flush m u) h in law.told.flush_from f to c.at m u c.was;
+        recorded_same w v k r y g t m ∙ law.controls.flush_recorded f to c.at m u c.was;
+    flush_to = λ f to i m u h. let c = came f to i (messages.Flush m u) h in law.controls.flush_to f to c.at m u c.was;
+    flush_from = λ f to i m u h. let c = came f to i (messages.Flush m u) h in law.controls.flush_from f to c.at m u c.was;
   }
 
   pub moves-taken : OpenMoves v g
@@ -468,7 +468,7 @@ inv-taken w b g from k r l s n item law is = record {
   bypasses = bypasses-touched w v k r y g t a.alike law.bypasses;
   live = law.live;
   stages = stages-touched w v k r y g t a.alike law.stages;
-  told = told-taken w v b g from k r y l s n item law is a t p;
+  controls = controls-taken w v b g from k r y l s n item law is a t p;
   moves = moves-taken w v b g from k r y l s n item law is a t p;
   terminals = terminals-touched w v k r y g t a.alike law.terminals;
   end_places = end_places-taken w v b g from k r y l s n item law is a t p ends;

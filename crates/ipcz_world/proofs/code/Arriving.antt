@@ -11,11 +11,11 @@ use Rattle.ipcz_node.proofs.LoneNodes.{stands}
 use Rattle.ipcz_world.proofs.Vocabulary.{Item, LinkEnd, Message, Node, Router, World, bare_node, commit, node_at, opposite, place_at, put_place}
 use Rattle.ipcz_world.proofs.Vocabulary.{router_in, set_mail, set_node, with_router, Plain, pop_out, rest, IsLone, with_hand, next_node, IsRegular, Walk}
 use Rattle.ipcz_world.proofs.Vocabulary.{is_idle, next_at}
-use Rattle.ipcz_world.specs.Carrying.{HasCome, IsCarried, lone_message}
+use Rattle.ipcz_world.specs.FastPath.{HasCome, IsCarried, lone_message}
 use Rattle.ipcz_world.specs.Visiting.{AreIdle, IsPlace}
 use Rattle.ipcz_world.proofs.acts.Updating.{node-here}
-use Rattle.ipcz_world.proofs.code.Carrying as over
-use Rattle.ipcz_world.proofs.code.CarryingWithin as within
+use Rattle.ipcz_world.proofs.code.FastPath as over
+use Rattle.ipcz_world.proofs.code.FastPathWithin as within
 use Rattle.ipcz_world.proofs.code.LoneFinds.{in_hand}
 use Rattle.ipcz_world.proofs.code.LoneWorlds.{as_sender, quiet_is, sends-last}
 use Rattle.ipcz_world.proofs.code.Passing.{HasSent}

@@ -7,7 +7,7 @@ use Rattle.ipcz_world.proofs.Vocabulary.{Empty, LinkEnd, Mail, Message, Node, Ro
 use Rattle.ipcz_world.proofs.Vocabulary.{is_clear, is_full, is_quiet, with_hand}
 use Rattle.ipcz_node.specs.Lone.{IsSender, Sends}
 use Rattle.ipcz_world.specs.declared.mail.Mail.TheVariants.{Full, Hand}
-use Rattle.ipcz_world.specs.Carrying.{AreQuiet, IsLoneBy, IsLoneNode}
+use Rattle.ipcz_world.specs.FastPath.{AreQuiet, IsLoneBy, IsLoneNode}
 use Rattle.ipcz_world.proofs.acts.Updating.{node-here}
 use Rattle.ipcz_world.proofs.code.LoneWorlds.{quiet_is}
 use Rattle.ipcz_world.proofs.facts.Finding.{found_there}

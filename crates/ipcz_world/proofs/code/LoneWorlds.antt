@@ -13,7 +13,7 @@ use Rattle.ipcz_seq.specs.Queue.{current_item}
 use Rattle.ipcz_router.specs.Lone.{is_settled, last_link, next_link}
 use Rattle.ipcz_router.proofs.LoneRouters.{last_told, next_told, SendsFirst, SendsLast}
 use Rattle.ipcz_node.specs.Lone.{SendsOnly}
-use Rattle.ipcz_world.specs.Carrying.{IsLoneSender}
+use Rattle.ipcz_world.specs.FastPath.{IsLoneSender}
 use Rattle.ipcz_node.specs.Acts.{first_destination, first_sender, next, node_turn}
 use Rattle.ipcz_node.specs.declared.act.Act.TheVariants as acts
 use Rattle.ipcz_world.proofs.OwnTurns.{idle_own}

@@ -19,7 +19,7 @@ use Rattle.ipcz_node.specs.Hands.{fits_item, message_lacks_serials}
 use Rattle.ipcz_node.proofs.LoneNodes.{first_freely, first_message, first_sent, item_unheld, lowest_flagged}
 use Rattle.ipcz_node.proofs.Mailing.{empty_box}
 use Rattle.ipcz_world.specs.declared.mail.Mail.TheVariants.{Full, Hand}
-use Rattle.ipcz_world.specs.Carrying.{IsLoneSender, lone_message}
+use Rattle.ipcz_world.specs.FastPath.{IsLoneSender, lone_message}
 use Rattle.ipcz_world.specs.Turns.{hand_lacks_serials}
 use Rattle.ipcz_world.specs.Visiting.{IsNextBusy}
 use Rattle.ipcz_world.proofs.code.GoingOn.{first-busy, go-on, next-busy, router-acts}

@@ -19,7 +19,7 @@ use Rattle.ipcz_node.specs.Hands.{fits_item, message_lacks_serials}
 use Rattle.ipcz_node.specs.Lone.{RestsNext}
 use Rattle.ipcz_node.proofs.LoneNodes.{first_freely, first_sent, item_unheld}
 use Rattle.ipcz_world.specs.declared.mail.Mail.TheVariants.{Full, Hand}
-use Rattle.ipcz_world.specs.Carrying.{lone_message}
+use Rattle.ipcz_world.specs.FastPath.{lone_message}
 use Rattle.ipcz_world.specs.Turns.{hand_lacks_serials}
 use Rattle.ipcz_world.specs.Visiting.{IsNextBusy, IsPlace}
 use Rattle.ipcz_world.proofs.acts.Updating.{node-here, put-twice, set-twice}

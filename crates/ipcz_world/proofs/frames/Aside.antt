@@ -10,7 +10,7 @@ use Rattle.ipcz_world.specs.Routes.{source as source'}
 use Rattle.ipcz_world.proofs.Vocabulary.{Side, B, End, LinkId, Central, Peripheral, Descriptor, World, Key, Books, Records, Owner}
 use Rattle.ipcz_world.proofs.Vocabulary.{Weight, names_end, is_linked, is_recorded, inner_link, bypass_of, side_length, side_router, side_node}
 use Rattle.ipcz_world.proofs.Vocabulary.{side_end, view, view_by, is_gone, is_awaited, next_sent, taking_queue, standing_router, across_side}
-use Rattle.ipcz_world.proofs.Vocabulary.{inner_of, is_nowhere, Terminal, Counts, Stands, Stages, Told, of_bypass}
+use Rattle.ipcz_world.proofs.Vocabulary.{inner_of, is_nowhere, Terminal, Counts, Stands, Stages, Controls, of_bypass}
 use Rattle.ipcz_world.proofs.Vocabulary.{control_weight, Terminals, Items, Order, ProxyNumbers, FreshNumbers, BypassRecords, BooksKept, Conserved}
 use Rattle.ipcz_world.proofs.Vocabulary.{HeldOnce, EndPlaces, opposite, terminal_descriptor, bypass_length, length_by, is_left, Moves, LiveLinks}
 use Rattle.ipcz_world.proofs.Vocabulary.{move_weight, may_have_sent, awaited_view}
@@ -131,9 +131,9 @@ module _ {g : Records} {owner : ℕ → Owner} {central : ℕ → Sides} {periph
           law.moving p (sym (recorded-aside (inner_link p)) ∙ a) c;
     }
 
-    pub told-aside : Told v g → Told v h
+    pub controls-aside : Controls v g → Controls v h
     unfolding side_router side_node bypass_of of_bypass control_weight
-    told-aside law = record {
+    controls-aside law = record {
       control = law.control;
       will_stop = law.will_stop;
       behind = law.behind;

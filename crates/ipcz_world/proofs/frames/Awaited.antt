@@ -2,7 +2,7 @@
 use Rattle.ipcz_world.proofs.Vocabulary.{Side, A, B, End, LinkId, Central, Peripheral, Descriptor, Message, same_link, opposite, same_end, Router}
 use Rattle.ipcz_world.proofs.Vocabulary.{World, Key, router_at, flow, Records, Terminal, At, is_linked, is_recorded, inner_link, side_router}
 use Rattle.ipcz_world.proofs.Vocabulary.{side_node, proxy_side, across_side, terminal_descriptor, view, view_by, router_view, is_attached, is_awaited}
-use Rattle.ipcz_world.proofs.Vocabulary.{IsUnderWay, makes, under_way, of_end, moves_of, total_list, Stands, BypassRecords, Told, of_bypass}
+use Rattle.ipcz_world.proofs.Vocabulary.{IsUnderWay, makes, under_way, of_end, moves_of, total_list, Stands, BypassRecords, Controls, of_bypass}
 use Rattle.ipcz_world.proofs.Vocabulary.{control_weight, inner_of, moving_link, Retired, Nowhere, Moving, key_at, is_made_by, move_weight}
 use Rattle.std.specs.Prelude.{◌≡◌, ◌≤◌, ℕ, zero, suc, Bool, true, false, cond, ◌&&◌, Option, Some, None, is_some, refl, List, [], ◌∷◌}
 use Rattle.std.specs.Prelude.{slice_get}
@@ -88,10 +88,10 @@ pub no_router : (n : ℕ) (o : Option ℕ) → key_at n o ≡ None → o ≡ Non
 no_router n None h = refl
 no_router n (Some x) h = cc
 
-made_central : (w : World) (g : Records) (c : ℕ) (s : Side) → Stands w g → BypassRecords w g → Told w g → is_linked (g.owner c) ≡ true →
+made_central : (w : World) (g : Records) (c : ℕ) (s : Side) → Stands w g → BypassRecords w g → Controls w g → is_linked (g.owner c) ≡ true →
     side_router g (Central c) s ≡ None →
     is_made_by (Central c) s (flow w (side_node g (Central c) (opposite s)) (side_node g (Central c) s)) ≡ true
-made_central w g c s stands law told linked none =
+made_central w g c s stands law controls linked none =
     let half = half_known w g c s stands law linked (no_router ((g.central c).node s) ((g.central c).router s)
     (grind (arith, record_rules, none))) in let o = half.old in
     let a = side_node g (Central c) (opposite s) in let b = side_node g (Central c) s in
@@ -101,7 +101,7 @@ made_central w g c s stands law told linked none =
     let receiver : side_node g (Central o) (across_side g o) ≡ b =
     sym ((law o).fresh_across_node (grind (arith, half.stage))) ∙ grind (arith, half.side, half.fresh) in
     let one : under_way (λ from to. of_bypass g o (of_making a b (Central c) s from to)) w ≡ 1 =
-    told.control o (of_making a b (Central c) s) ∙ expected-accept g (of_making a b (Central c) s) o half.stage ∙
+    controls.control o (of_making a b (Central c) s) ∙ expected-accept g (of_making a b (Central c) s) o half.stage ∙
     grind (arith, sender, receiver, same, makes-accept o c (g.bypass o).taken_at s, nat_tests) in
     let f = found (λ from to. of_bypass g o (of_making a b (Central c) s from to)) w (omega (arith, one)) in
     made_by_one w a b (Central c) s f.0 f.1 f.2 f.3 f.4 (about-weighs g o (of_making a b (Central c) s f.0 f.1) f.3 f.5)
@@ -160,10 +160,10 @@ made_inner w g p law recorded none =
     (grind (arith, from, to, f.4.place)) (makes-moved (inner_link p) f.3 x.0 x.1 x.2 same)
 
 -- the message that makes an awaited side is under way from the other side
-pub awaited_made : (w : World) (g : Records) (link : LinkId) (s : Side) → Stands w g → BypassRecords w g → Told w g → OpenMoves w g →
+pub awaited_made : (w : World) (g : Records) (link : LinkId) (s : Side) → Stands w g → BypassRecords w g → Controls w g → OpenMoves w g →
     is_recorded w g link ≡ true → side_router g link s ≡ None →
     is_made_by link s (flow w (side_node g link (opposite s)) (side_node g link s)) ≡ true
-awaited_made w g (Central c) s stands law told moves h none = made_central w g c s stands law told (grind (arith, record_rules, h)) none
-awaited_made w g (Peripheral n x) A stands law told moves h none =
+awaited_made w g (Central c) s stands law controls moves h none = made_central w g c s stands law controls (grind (arith, record_rules, h)) none
+awaited_made w g (Peripheral n x) A stands law controls moves h none =
     absurd (grind (arith, record_rules, none, side_router-proxy g (record { node = n; serial = x })))
-awaited_made w g (Peripheral n x) B stands law told moves h none = made_inner w g (record { node = n; serial = x }) moves h none
+awaited_made w g (Peripheral n x) B stands law controls moves h none = made_inner w g (record { node = n; serial = x }) moves h none

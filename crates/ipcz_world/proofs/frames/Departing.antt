@@ -16,7 +16,7 @@ use Rattle.ipcz_world.proofs.frames.GivingUp.{counts-gives, ordered-gives, shape
 use Rattle.ipcz_world.proofs.frames.GivenUp.{end_places-gives, books-gives, items-gives, order-gives, proxy_numbers-gives, fresh_numbers-gives}
 use Rattle.ipcz_world.proofs.frames.GivenUp.{conserved-gives, held_once-gives}
 use Rattle.ipcz_world.proofs.frames.GonesKept.{IsGoneRight, right-of, gones-all}
-use Rattle.ipcz_world.proofs.frames.SameMessages.{bypasses-same, told-same, moves-same}
+use Rattle.ipcz_world.proofs.frames.SameMessages.{bypasses-same, controls-same, moves-same}
 use Rattle.ipcz_world.proofs.frames.LeftSides.{not_left}
 use Rattle.std.specs.Prelude.{◌≡◌, ◌≢◌, ◌⊎◌, ◌≤◌, ◌<◌, ◌&&◌, ◌||◌, ℕ, Bool, true, false, cond, Option, Some, None, is_some, List, length}
 use Rattle.std.specs.Prelude.{drop, refl}
@@ -735,7 +735,7 @@ module _ {w v : World} {b : Books} {g : Records} {k : Key} {r : Router} (law : N
     bypasses = bypasses-same w v h (same-messages c.one) (off.bypasses-aside is_off_here w keeps_owners law.bypasses);
     live = off.live-aside is_off_here w law.live;
     stages = stages-departed;
-    told = told-same w v h (same-messages c.one) (off.told-aside is_off_here w law.told);
+    controls = controls-same w v h (same-messages c.one) (off.controls-aside is_off_here w law.controls);
     moves = moves-same w v h (same-messages c.one) (off.moves-aside is_off_here w law.moves);
     end_places = end_places-gives w v h k r None c (off.end_places-aside is_off_here w law.end_places);
     books_kept = books-gives w v b h k r None c (off.books_kept-aside is_off_here w law.books_kept);

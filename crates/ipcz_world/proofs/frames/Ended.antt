@@ -14,7 +14,7 @@ use Rattle.ipcz_world.proofs.frames.Booking.{flag, end_tells, in_router-within, 
 use Rattle.ipcz_world.proofs.frames.Holding.{times-has, times_held-at}
 use Rattle.ipcz_world.proofs.frames.Weighing.{in_router-is, in_places-has, in_message-item}
 use Rattle.ipcz_world.proofs.frames.Aside.{IsAside, KeepsOwners, central_left, peripheral_left, counts-aside, roles-aside}
-use Rattle.ipcz_world.proofs.frames.Aside.{stands-aside, bypasses-aside, live-aside, stages-aside, told-aside, moves-aside, books_kept-aside}
+use Rattle.ipcz_world.proofs.frames.Aside.{stands-aside, bypasses-aside, live-aside, stages-aside, controls-aside, moves-aside, books_kept-aside}
 use Rattle.ipcz_world.proofs.frames.Aside.{items-aside, order-aside, proxy_numbers-aside, fresh_numbers-aside, conserved-aside, held_once-aside}
 
 module _ (v : World) (b : Books) (g : Records) (e : End) (k : Key) (at : g.terminal e ≡ At k) where
@@ -119,7 +119,7 @@ module _ (v : World) (b : Books) (g : Records) (e : End) (k : Key) (at : g.termi
       bypasses = bypasses-aside is_ended v owners law.bypasses;
       live = live-aside is_ended v law.live;
       stages = stages-aside is_ended v law.stages;
-      told = told-aside is_ended v law.told;
+      controls = controls-aside is_ended v law.controls;
       moves = moves-aside is_ended v law.moves;
       end_places = end_places-ended law.end_places;
       books_kept = books_kept-aside is_ended v law.books_kept;

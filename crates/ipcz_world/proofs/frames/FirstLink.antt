@@ -5,7 +5,7 @@ use Rattle.std.proofs.Common.{◌∙◌}
 use Rattle.ipcz_world.proofs.Vocabulary.{Side, End, World, Key, Books, Records, Owner, Terminal, Inv, CentralRecord}
 use Rattle.ipcz_world.proofs.frames.FreshPairs.{IsGrown}
 use Rattle.ipcz_world.proofs.frames.FirstLinkLinks.{counts-grown, ordered-grown, shape-grown, roles-grown, begun-grown}
-use Rattle.ipcz_world.proofs.frames.FirstLinkStages.{stands-grown, words-grown, spares-grown, bypasses-grown, stages-grown, told-grown}
+use Rattle.ipcz_world.proofs.frames.FirstLinkStages.{stands-grown, words-grown, spares-grown, bypasses-grown, stages-grown, controls-grown}
 use Rattle.ipcz_world.proofs.frames.FirstLinkItems.{moves-grown, terminals-grown, end_places-grown, books_kept-grown, items-grown, retired-grown, gones-grown}
 use Rattle.ipcz_world.proofs.frames.FirstLinkItems.{order-grown, proxy_numbers-grown, fresh_numbers-grown, conserved-grown, held_once-grown}
 
@@ -26,7 +26,7 @@ module _ (w v : World) (b : Books) (g : Records) (owner' : ℕ → Owner) (centr
     bypasses = bypasses-grown law is;
     live = live-grown law is;
     stages = stages-grown law is;
-    told = told-grown law is;
+    controls = controls-grown law is;
     moves = moves-grown law is;
     terminals = terminals-grown law is;
     end_places = end_places-grown law is;

@@ -4,7 +4,7 @@ use Rattle.ipcz_world.proofs.frames.LiveLinks.{first_begun}
 use Rattle.ipcz_world.proofs.Vocabulary.{Side, A, B, End, LinkId, Central, Peripheral, Message, has, opposite, Word, empty_word, open_word, Router}
 use Rattle.ipcz_world.proofs.Vocabulary.{World, Key, word_at, router_at, Books, Records, Owner, Terminal, is_linked, is_begun, is_recorded}
 use Rattle.ipcz_world.proofs.Vocabulary.{inner_link, side_router, across_side, key_passes, has_primary, IsUnderWay, Stands, Words, Spares}
-use Rattle.ipcz_world.proofs.Vocabulary.{BypassRecords, Stages, Told, inner_of, of_bypass, control_weight, Inv, LiveLinks, end_at, CentralRecord}
+use Rattle.ipcz_world.proofs.Vocabulary.{BypassRecords, Stages, Controls, inner_of, of_bypass, control_weight, Inv, LiveLinks, end_at, CentralRecord}
 use Rattle.ipcz_world.proofs.Vocabulary.{key_at, spare_of, has_inward_primary, fresh_of, is_left}
 use Rattle.std.proofs.Common.{true≢false}
 use Rattle.ipcz_world.specs.Records.{is_nowhere, side_end}
@@ -289,24 +289,24 @@ module _ {w v : World} {b : Books} {g : Records} {owner' : ℕ → Owner} {centr
           (λ z. node_kept law is (Central o) z (begun_link law is o e))
       go false e = expected_none h f o e ∙ sym (expected_none g f o e)
 
-  pub told-grown : Told v h
-  told-grown = record {
+  pub controls-grown : Controls v h
+  controls-grown = record {
     control = λ o f. under_way-congr (λ from to. of_bypass h o (f from to)) (λ from to. of_bypass g o (f from to)) v
         (λ from to j m u. about_same g h o (f from to) m (bypass_kept law is)) ∙
         under_way-same w v (λ from to. of_bypass g o (f from to)) (same law is) ∙
-        law.told.control o f ∙ sym (control_kept f o);
-    will_stop = λ from to j l s n u. ap is_some (bypass_kept law is l) ∙ law.told.will_stop from to j l s n
+        law.controls.control o f ∙ sym (control_kept f o);
+    will_stop = λ from to j l s n u. ap is_some (bypass_kept law is l) ∙ law.controls.will_stop from to j l s n
         (under-same w v from to j (messages.ProxyWillStop l s n) (same law is) u);
     behind = λ from to j l s old target fresh u e. made-same w v from to j l s (same law is) ∙
-        law.told.behind from to j l s old target fresh
+        law.controls.behind from to j l s old target fresh
         (under-same w v from to j (messages.BypassPeer l s old target fresh) (same law is) u) (router_back l s e);
-    flush_central = λ from to j l s u. law.told.flush_central from to j l s (under-same w v from to j (messages.Flush l s) (same law is) u);
+    flush_central = λ from to j l s u. law.controls.flush_central from to j l s (under-same w v from to j (messages.Flush l s) (same law is) u);
     flush_recorded = λ from to j l s u. recorded_kept law is l (flushed from to j l s u);
-    flush_to = λ from to j l s u. law.told.flush_to from to j l s (under-same w v from to j (messages.Flush l s) (same law is) u) ∙ sym
+    flush_to = λ from to j l s u. law.controls.flush_to from to j l s (under-same w v from to j (messages.Flush l s) (same law is) u) ∙ sym
         (node_kept law is l s (recorded_apart law is l (flushed from to j l s u)));
-    flush_from = λ from to j l s u. law.told.flush_from from to j l s (under-same w v from to j (messages.Flush l s) (same law is) u) ∙ sym
+    flush_from = λ from to j l s u. law.controls.flush_from from to j l s (under-same w v from to j (messages.Flush l s) (same law is) u) ∙ sym
         (node_kept law is l (opposite s) (recorded_apart law is l (flushed from to j l s u)));
   }
     where
       flushed : (from to j : ℕ) (l : LinkId) (s : Side) → IsUnderWay v from to j (messages.Flush l s) → is_recorded w g l ≡ true
-      flushed from to j l s u = law.told.flush_recorded from to j l s (under-same w v from to j (messages.Flush l s) (same law is) u)
+      flushed from to j l s u = law.controls.flush_recorded from to j l s (under-same w v from to j (messages.Flush l s) (same law is) u)

@@ -19,7 +19,7 @@ use Rattle.ipcz_world.proofs.frames.StandingRules.{standing_rules}
 use Rattle.ipcz_world.proofs.frames.Sums.{total_below-same}
 use Rattle.ipcz_world.proofs.frames.Weights.{in_option}
 use Rattle.ipcz_world.proofs.frames.OneRouter.{SameWords, SameButRouter}
-use Rattle.ipcz_world.proofs.frames.SameMessages.{recorded-same, under-same, made-same, bypasses-same, told-same, moves-same}
+use Rattle.ipcz_world.proofs.frames.SameMessages.{recorded-same, under-same, made-same, bypasses-same, controls-same, moves-same}
 use Rattle.ipcz_world.proofs.frames.Views.{IsPart, Seen, GivesUp, seen, next_sent-seen, taking-seen, may_have_sent-seen}
 use Rattle.ipcz_world.proofs.frames.Views.{awaited-seen, gone-seen, standing-seen}
 use Rattle.ipcz_world.proofs.frames.GivingUp.{Gives, IsBare, HasSameFlags, Keeps, same-messages, was, passes-still, passes-primary, counts-gives}
@@ -370,7 +370,7 @@ inv-flags w v b g k r x c bare is law flags = record {
   bypasses = bypasses-same w v g (same-messages c.one) law.bypasses;
   live = law.live;
   stages = flags.stages;
-  told = told-same w v g (same-messages c.one) law.told;
+  controls = controls-same w v g (same-messages c.one) law.controls;
   moves = moves-same w v g (same-messages c.one) law.moves;
   terminals = terminals-gives w v g k r x c bare.no_terminal law.terminals;
   end_places = end_places-gives w v g k r x c law.end_places;

@@ -9,7 +9,7 @@ use Rattle.ipcz_world.proofs.Vocabulary.{Weight, at_end, names_end, times, Side,
 use Rattle.ipcz_world.proofs.Vocabulary.{Message, opposite, has_end, is_central, Router, World, Key, node_at, router_at, Books, Records, is_recorded}
 use Rattle.ipcz_world.proofs.Vocabulary.{inner_link, side_node, side_router, across_side, IsUnderWay, of_end, moves_of, total_below, total_list, view}
 use Rattle.ipcz_world.proofs.Vocabulary.{view_by, router_view, passes, key_passes, next_sent, taking_queue, is_gone, is_awaited, Counts, Ordered}
-use Rattle.ipcz_world.proofs.Vocabulary.{Shape, Stands, Words, Spares, BypassRecords, Stages, Told, of_bypass, inner_of}
+use Rattle.ipcz_world.proofs.Vocabulary.{Shape, Stands, Words, Spares, BypassRecords, Stages, Controls, of_bypass, inner_of}
 use Rattle.ipcz_world.proofs.Vocabulary.{Terminals, EndPlaces, BooksKept, Conserved, HeldOnce, times_held, Items, Order, ProxyNumbers, FreshNumbers}
 use Rattle.ipcz_world.proofs.Vocabulary.{standing_router, Inv, spare_of, may_have_sent, Moves, IsItemUnderWay}
 use Rattle.ipcz_world.specs.Places.{in_message as in_message', in_node as in_node'}
@@ -111,7 +111,7 @@ module _ (w v : World) (g : Records) (p : Passes w v g) where
   peer from to i l s old target fresh u = elim (p.came from to i _ u) [ inl c ↦ c | inr f ↦ absurd (grind (arith, ap is_peer f.is)) ]
 
   -- a Flush is right
-  flush : Told w g → (from to i : ℕ) (l : LinkId) (s : Side) → IsUnderWay v from to i (messages.Flush l s) →
+  flush : Controls w g → (from to i : ℕ) (l : LinkId) (s : Side) → IsUnderWay v from to i (messages.Flush l s) →
       IsFlush w g from to (messages.Flush l s)
   flush law from to i l s u = elim (p.came from to i _ u) [
     | inl c ↦ record {
@@ -229,8 +229,8 @@ module _ (w v : World) (g : Records) (p : Passes w v g) where
     inner_decaying = λ a b. known _ _ ∙ (law o).inner_decaying a b;
   }
 
-  told-passes : Told w g → Told v g
-  told-passes law = record {
+  controls-passes : Controls w g → Controls v g
+  controls-passes law = record {
     control = λ o h. p.totals (λ from to. of_bypass g o (h from to)) (λ from to l s. about-flush g o (h from to) l s) ∙ law.control o h;
     will_stop = λ from to i l s n u. let c = will_stop from to i l s n u in law.will_stop from to c.at l s n c.was;
     behind = λ from to i l s old target fresh u e. let c = peer from to i l s old target fresh u in
@@ -383,7 +383,7 @@ module _ (w v : World) (g : Records) (p : Passes w v g) where
     bypasses = bypasses-passes law.bypasses;
     live = law.live;
     stages = stages-passes law.stages;
-    told = told-passes law.told;
+    controls = controls-passes law.controls;
     moves = moves-passes law.moves;
     terminals = terminals-passes law.terminals;
     end_places = end_places-passes law.end_places;

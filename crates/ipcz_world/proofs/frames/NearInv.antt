@@ -1,6 +1,6 @@
 -- The invariant but for what it says of terminals, of retired ends and of Gone.
 use Rattle.ipcz_world.proofs.Vocabulary.{World, Books, Records, Counts, Ordered, Shape, Links, Positions, Stands, Words, Spares, BypassRecords}
-use Rattle.ipcz_world.proofs.Vocabulary.{Stages, Told, Terminals, EndPlaces, BooksKept, Items, Order, ProxyNumbers, FreshNumbers, Conserved, HeldOnce}
+use Rattle.ipcz_world.proofs.Vocabulary.{Stages, Controls, Terminals, EndPlaces, BooksKept, Items, Order, ProxyNumbers, FreshNumbers, Conserved, HeldOnce}
 use Rattle.ipcz_world.proofs.Vocabulary.{Inv, Moves, LiveLinks, RetiredEnds, Gones}
 use Rattle.ipcz_world.specs.Inv.{HasNoStrays}
 use Rattle.ipcz_world.proofs.frames.Roles.{Roles, BegunRecords}
@@ -18,7 +18,7 @@ pub record NearInv (w : World) (b : Books) (g : Records) : Type 0 where
   pub bypasses : BypassRecords w g
   pub live : LiveLinks g
   pub stages : Stages w g
-  pub told : Told w g
+  pub controls : Controls w g
   pub moves : Moves w g
   pub end_places : EndPlaces w g
   pub books_kept : BooksKept w b g

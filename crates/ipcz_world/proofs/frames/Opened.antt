@@ -1,7 +1,7 @@
 -- The invariant while the moves of an item under way are in the making: all clauses but that an item has one descriptor per end.
 use Rattle.ipcz_world.proofs.Vocabulary.{Side, A, B, End, LinkId, Descriptor, Item, Message, is_central, ends_in, World, Key, Books, Records}
 use Rattle.ipcz_world.proofs.Vocabulary.{is_recorded, inner_link, side_node, side_router, side_end, IsUnderWay, under_way, of_end, moves_of}
-use Rattle.ipcz_world.proofs.Vocabulary.{total_list, Counts, Ordered, Shape, Links, Positions, Stands, Words, Spares, BypassRecords, Stages, Told}
+use Rattle.ipcz_world.proofs.Vocabulary.{total_list, Counts, Ordered, Shape, Links, Positions, Stands, Words, Spares, BypassRecords, Stages, Controls}
 use Rattle.ipcz_world.proofs.Vocabulary.{moving_link, Terminals, EndPlaces, BooksKept, Conserved, HeldOnce, Items, Order, ProxyNumbers, FreshNumbers}
 use Rattle.ipcz_world.proofs.Vocabulary.{Inv, RetiredEnds, Gones, LiveLinks, move_weight}
 use Rattle.std.specs.Prelude.{◌≡◌, ◌≢◌, ℕ, false, true, None, Some, List, [], map, slice_get}
@@ -47,7 +47,7 @@ pub record OpenInv (w : World) (b : Books) (g : Records) : Type 0 where
   pub bypasses : BypassRecords w g
   pub live : LiveLinks g
   pub stages : Stages w g
-  pub told : Told w g
+  pub controls : Controls w g
   pub moves : OpenMoves w g
   pub terminals : Terminals w g
   pub end_places : EndPlaces w g
@@ -75,7 +75,7 @@ opened w b g law = record {
   bypasses = law.bypasses;
   live = law.live;
   stages = law.stages;
-  told = law.told;
+  controls = law.controls;
   moves = assumption law.moves;
   terminals = law.terminals;
   end_places = law.end_places;
@@ -104,7 +104,7 @@ closed w b g law ends = record {
   bypasses = law.bypasses;
   live = law.live;
   stages = law.stages;
-  told = law.told;
+  controls = law.controls;
   moves = assumption law.moves;
   terminals = law.terminals;
   end_places = law.end_places;

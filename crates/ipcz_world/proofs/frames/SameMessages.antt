@@ -2,7 +2,7 @@
 use Rattle.std.specs.Prelude.{◌≡◌, ℕ, take, refl}
 use Rattle.std.proofs.Common.{arith, sym, ◌∙◌, ap}
 use Rattle.ipcz_world.proofs.Vocabulary.{Side, LinkId, Central, Peripheral, Message, World, node_at, flow, Records, is_recorded, IsUnderWay}
-use Rattle.ipcz_world.proofs.Vocabulary.{is_made_before, under_way, total_below, total_list, BypassRecords, Told, is_made_by, Moves}
+use Rattle.ipcz_world.proofs.Vocabulary.{is_made_before, under_way, total_below, total_list, BypassRecords, Controls, is_made_by, Moves}
 use Rattle.ipcz_world.proofs.frames.Sums.{total_below-same}
 use Rattle.ipcz_world.proofs.frames.BypassesKept.{bypasses-still}
 
@@ -37,8 +37,8 @@ under_way-same w v h same =
 pub bypasses-same : (w v : World) (g : Records) → SameMessages w v → BypassRecords w g → BypassRecords v g
 bypasses-same w v g same law = bypasses-still w v g (λ l. recorded-same w v g l same) law
 
-pub told-same : (w v : World) (g : Records) → SameMessages w v → Told w g → Told v g
-told-same w v g same law = record {
+pub controls-same : (w v : World) (g : Records) → SameMessages w v → Controls w g → Controls v g
+controls-same w v g same law = record {
   control = λ o h. under_way-same w v _ same ∙ law.control o h;
   will_stop = λ from to i l s n u. law.will_stop from to i l s n (under-same w v _ _ _ _ same u);
   behind = λ from to i l s old target fresh u e. made-same w v from to i l s same ∙ law.behind from to i l s old target fresh

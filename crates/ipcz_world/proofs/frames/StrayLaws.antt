@@ -83,12 +83,12 @@ module _ (w : World) (b : Books) (g : Records) (law : Inv w b g) where
   finds from to i (messages.Item link s n item moves) u f = item_finds from to i link s (law.items.receiver from to i link s n item moves u)
       (law.items.receiver_there from to i link s n item moves u) (law.items.behind from to i link s n item moves u)
   finds from to i (messages.BypassPeer link s old target fresh) u f =
-      let at = peer_told w g from to i old link s target fresh law.told u in
+      let at = peer_told w g from to i old link s target fresh law.controls u in
       go (side_router g link s) refl at.stage at.on_link at.at_side at.receiver
     where
       go : (o : Option Key) → side_router g link s ≡ o → (g.bypass old).stage ≡ 1 → link ≡ inner_of g old → s ≡ B →
           to ≡ side_node g (inner_of g old) B → (is_named (node_at w to) link s ≡ true) ⊎ (is_made_before w from to i link s ≡ true)
-      go None e st on side at = inr (law.told.behind from to i link s old target fresh u e)
+      go None e st on side at = inr (law.controls.behind from to i link s old target fresh u e)
       go (Some k) e st on side at =
           let p : Passes w (Some k) (has_primary (inner_of g old) B) =
           passes-tells w (Some k) _ ((law.stages old).inner_primary k st (rw (on, side) at e)) in
@@ -97,19 +97,19 @@ module _ (w : World) (b : Books) (g : Records) (law : Inv w b g) where
           inl (named_by w p.key p.router link s to p.here (ap (λ x. x.node) (sym (same_Some _ _ p.known)) ∙ sym
           (at_side ∙ node_of_router g link s k e)) has)
   finds from to i (messages.AcceptBypass old s fresh length) u f =
-      let at = accept_told w g from to i old s fresh length law.told u in
+      let at = accept_told w g from to i old s fresh length law.controls u in
       let p = passes-tells w _ _ ((law.stages old).across_old (grind (arith, at.stage, nat_tests)) (omega (arith, at.stage))) in
       inl (rw (at.at_side) (found_at (Central old) (across_side g old) (has_primary (Central old) (across_side g old)) to p
       (by_primary (Central old) (across_side g old) p.router p.passed) at.receiver))
   finds from to i (messages.StopProxying s old in_length out_length) u f =
-      let at = stop_told w g from to i old s in_length out_length law.told u in
+      let at = stop_told w g from to i old s in_length out_length law.controls u in
       let p = passes-tells w (Some (g.bypass old).proxy) (has_decaying (Central old) (proxy_side g old))
       ((law.stages old).proxy_old (grind (arith, at.stage, nat_tests)) (omega (arith, at.stage))) in
       inl (rw (at.at_side) (named_by w p.key p.router (Central old) (proxy_side g old) to p.here
       (ap (λ x. x.node) (sym (same_Some _ _ p.known)) ∙ sym at.receiver)
       (by_decaying (Central old) (proxy_side g old) p.router p.passed)))
   finds from to i (messages.ProxyWillStop link s in_length) u f =
-      let c = will_stop_told w g from to i link s in_length law.told u in
+      let c = will_stop_told w g from to i link s in_length law.controls u in
       let at = c.2 in
       let p = passes-tells w _ _ ((law.stages c.0).inner_decaying (omega (arith, at.stage)) (omega (arith, at.stage))) in
       inl (named_too link (inner_of g c.0) s B to at.on_link at.at_side
@@ -122,5 +122,5 @@ module _ (w : World) (b : Books) (g : Records) (law : Inv w b g) where
     none = law.no_strays;
     finds = finds;
     sourced = λ from to i old s fresh length u. accept_source w b g to from old s fresh length law
-        (accept_told w g from to i old s fresh length law.told u);
+        (accept_told w g from to i old s fresh length law.controls u);
   }

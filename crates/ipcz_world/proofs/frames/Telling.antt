@@ -3,7 +3,7 @@ use Rattle.std.specs.Prelude.{◌≡◌, ◌⊎◌, ◌≤◌, ℕ, Bool, true, 
 use Rattle.std.proofs.Common.{arith, sym, inl, inr}
 use Rattle.std.proofs.lemmas.Bool.Decides.{nat_tests}
 use Rattle.ipcz_world.proofs.Vocabulary.{Side, B, LinkId, Central, Message, same_side, same_link, World, Records, side_node, bypass_of}
-use Rattle.ipcz_world.proofs.Vocabulary.{is_begun, proxy_side, across_side, IsUnderWay, Told, of_bypass, control_weight, inner_of}
+use Rattle.ipcz_world.proofs.Vocabulary.{is_begun, proxy_side, across_side, IsUnderWay, Controls, of_bypass, control_weight, inner_of}
 use Rattle.ipcz_base.specs.declared.message.Message.TheVariants as messages
 use Rattle.ipcz_world.specs.Laws.{names_old}
 use Rattle.ipcz_world.proofs.facts.Lengths.{same_side-tells, same_link-itself, same_link-tells, same_side-itself}
@@ -72,7 +72,7 @@ pub record IsPeer (g : Records) (from to o : ℕ) (link : LinkId) (side : Side) 
   pub across : target ≡ side_node g (Central o) (across_side g o)
   pub onto : fresh ≡ (g.bypass o).fresh
 
-pub peer_told : (w : World) (g : Records) (from to i o : ℕ) (link : LinkId) (side : Side) (target fresh : ℕ) → Told w g →
+pub peer_told : (w : World) (g : Records) (from to i o : ℕ) (link : LinkId) (side : Side) (target fresh : ℕ) → Controls w g →
     IsUnderWay w from to i (messages.BypassPeer link side o target fresh) → IsPeer g from to o link side target fresh
 unfolding control_weight of_bypass is_peer
 peer_told w g from to i o link side target fresh law u = elim (of_four (g.bypass o).stage _ _ _ _ weight) [
@@ -127,7 +127,7 @@ pub record IsAccept (g : Records) (from to o : ℕ) (side : Side) (fresh length 
   pub onto : fresh ≡ (g.bypass o).fresh
   pub taken : length ≡ (g.bypass o).taken_at
 
-pub accept_told : (w : World) (g : Records) (from to i o : ℕ) (side : Side) (fresh length : ℕ) → Told w g →
+pub accept_told : (w : World) (g : Records) (from to i o : ℕ) (side : Side) (fresh length : ℕ) → Controls w g →
     IsUnderWay w from to i (messages.AcceptBypass o side fresh length) → IsAccept g from to o side fresh length
 unfolding control_weight of_bypass is_accept
 accept_told w g from to i o side fresh length law u = elim (of_four (g.bypass o).stage _ _ _ _ weight) [
@@ -166,7 +166,7 @@ pub record IsStop (g : Records) (from to o : ℕ) (side : Side) (in_length out_l
   pub accepted : in_length ≡ (g.bypass o).accepted_at
   pub taken : out_length ≡ (g.bypass o).taken_at
 
-pub stop_told : (w : World) (g : Records) (from to i o : ℕ) (side : Side) (in_length out_length : ℕ) → Told w g →
+pub stop_told : (w : World) (g : Records) (from to i o : ℕ) (side : Side) (in_length out_length : ℕ) → Controls w g →
     IsUnderWay w from to i (messages.StopProxying side o in_length out_length) → IsStop g from to o side in_length out_length
 unfolding control_weight of_bypass is_stop
 stop_told w g from to i o side in_length out_length law u = elim (of_four (g.bypass o).stage _ _ _ _ weight) [
@@ -212,7 +212,7 @@ pub record IsWillStop (g : Records) (from to o : ℕ) (link : LinkId) (side : Si
   pub at_side : side ≡ B
   pub accepted : in_length ≡ (g.bypass o).accepted_at
 
-will_stop_of_bypass : (w : World) (g : Records) (from to i o : ℕ) (link : LinkId) (side : Side) (in_length : ℕ) → Told w g →
+will_stop_of_bypass : (w : World) (g : Records) (from to i o : ℕ) (link : LinkId) (side : Side) (in_length : ℕ) → Controls w g →
     bypass_of g link ≡ Some o → IsUnderWay w from to i (messages.ProxyWillStop link side in_length) →
     IsWillStop g from to o link side in_length
 unfolding control_weight of_bypass is_will_stop
@@ -253,7 +253,7 @@ will_stop_of_bypass w g from to i o link side in_length law by u = elim (of_four
     )
 
 -- it names a link that some bypass takes away
-pub will_stop_told : (w : World) (g : Records) (from to i : ℕ) (link : LinkId) (side : Side) (in_length : ℕ) → Told w g →
+pub will_stop_told : (w : World) (g : Records) (from to i : ℕ) (link : LinkId) (side : Side) (in_length : ℕ) → Controls w g →
     IsUnderWay w from to i (messages.ProxyWillStop link side in_length) →
     (o : ℕ) × (bypass_of g link ≡ Some o) × IsWillStop g from to o link side in_length
 will_stop_told w g from to i link side in_length law u = go (bypass_of g link) refl (law.will_stop from to i link side in_length u)
@@ -264,7 +264,7 @@ will_stop_told w g from to i link side in_length law u = go (bypass_of g link) r
     go (Some o) e some = (o, e, will_stop_of_bypass w g from to i o link side in_length law e u)
 
 -- what a message names as old is being bypassed
-pub old_begun : (w : World) (g : Records) (from to i : ℕ) (m : Message) (o : ℕ) → Told w g → IsUnderWay w from to i m →
+pub old_begun : (w : World) (g : Records) (from to i : ℕ) (m : Message) (o : ℕ) → Controls w g → IsUnderWay w from to i m →
     names_old o m ≡ true → is_begun (g.bypass o) ≡ true
 unfolding names_old
 old_begun w g from to i (messages.BypassPeer link s old target fresh) o law u e = let at =

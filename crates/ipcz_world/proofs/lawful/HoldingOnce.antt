@@ -146,17 +146,17 @@ module _ (w : World) (b : Books) (g : Routes) (law : Lawful w b g) (i : ℕ) (s 
       (law.word_law.named f t p (messages.AcceptBypass old side fresh len) i u
       (or_right (nat_eq old i) (nat_eq fresh i) (and_first (nat_eq fresh i) (same_side side s) h))))
   of_message f t p f' t' p' (messages.AcceptBypass old side fresh len) (messages.AcceptBypass old' side' fresh' len') u v h k =
-      one_message (λ x. of_bypass rec old (λ y. 1) x) w f t p _ f' t' p' _ u v (law.inv.told.control old (λ from to x. 1) ∙ weight)
+      one_message (λ x. of_bypass rec old (λ y. 1) x) w f t p _ f' t' p' _ u v (law.inv.controls.control old (λ from to x. 1) ∙ weight)
       (ap (λ c. cond c 1 0) (nat_eq-itself old)) (ap (λ c. cond c 1 0) (ap (λ z. nat_eq z old) same ∙ nat_eq-itself old))
     where
       rec : Records
       rec = law.records
 
       at : IsAccept rec f t old side fresh len
-      at = accept_told w rec f t p old side fresh len law.inv.told u
+      at = accept_told w rec f t p old side fresh len law.inv.controls u
 
       at' : IsAccept rec f' t' old' side' fresh' len'
-      at' = accept_told w rec f' t' p' old' side' fresh' len' law.inv.told v
+      at' = accept_told w rec f' t' p' old' side' fresh' len' law.inv.controls v
 
       two : (n : ℕ) → n ≡ 2 → 2 ≤ n
       two n e = omega (arith, e)

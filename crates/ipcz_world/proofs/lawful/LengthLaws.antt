@@ -177,7 +177,7 @@ module _ (w : World) (b : Books) (g : Records) (law : Inv w b g) where
       (p : Key) × (e.link ≡ inner_link p) × (e.side ≡ A) × ((g.peripheral p).by ≡ Some old) × IsStop g from to old side in_length
       out_length
   stopped_inner from to i old side in_length out_length k r e u here has dec =
-      let at : IsStop g from to old side in_length out_length = stop_told w g from to i old side in_length out_length law.told u in
+      let at : IsStop g from to old side in_length out_length = stop_told w g from to i old side in_length out_length law.controls u in
       let begun : is_begun (g.bypass old) ≡ true = grind (arith, at.stage, nat_tests) in
       let mine : HasAt w g k r (Central old) side = has_at w g k r (Central old) side (links-in law) here has in
       let proxy : (g.bypass old).proxy ≡ k = same_Some _ k (sym ((law.bypasses old).proxy_old begun) ∙ rw (at.at_side) at mine.router) in
@@ -241,14 +241,14 @@ module _ (w : World) (b : Books) (g : Records) (law : Inv w b g) where
       at_link g link (inner_link c.link) s B n (g.bypass c.bypass).taken_at (sym on ∙ c.on) (sym at ∙ ap opposite c.side) m.is
       (len_inner_out g c.link c.bypass c.by (omega (arith, m.since)))
   knows link s n (Accepting from to i old side fresh u on at) =
-      let is = accept_told w g from to i old side fresh n law.told u in
+      let is = accept_told w g from to i old side fresh n law.controls u in
       accepting link s n from to old side fresh is (grind (arith, is.stage, nat_tests)) on at
   knows link s n (StoppingIn from to i old side out_length u on at) =
-      let is = stop_told w g from to i old side n out_length law.told u in
+      let is = stop_told w g from to i old side n out_length law.controls u in
       at_link g link (Central old) s (across_side g old) n (g.bypass old).accepted_at (sym on) (sym at ∙ ap opposite is.at_side) is.accepted
       (len_old_across g old (grind (arith, is.stage, nat_tests)) (omega (arith, is.stage)))
   knows link s n (StoppingOut from to i old side in_length u on at) =
-      let is = stop_told w g from to i old side in_length n law.told u in
+      let is = stop_told w g from to i old side in_length n law.controls u in
       at_link g link (Central old) s (proxy_side g old) n (g.bypass old).taken_at (sym on) (sym at ∙ is.at_side) is.taken
       (len_old_proxy g old (grind (arith, is.stage, nat_tests)) (omega (arith, is.stage)))
   knows link s n (StoppingInner from to i old side out_length u k r e here there has dec on at) =
@@ -260,7 +260,7 @@ module _ (w : World) (b : Books) (g : Records) (law : Inv w b g) where
       at_link g link (inner_link c.0) s B n (g.bypass old).taken_at (sym on ∙ c.1) (sym at ∙ ap opposite c.2) c.4.taken
       (len_inner_out g c.0 old c.3 (omega (arith, c.4.stage)))
   knows link s n (Ending from to i l side u on at) =
-      let c = will_stop_told w g from to i l side n law.told u in
+      let c = will_stop_told w g from to i l side n law.controls u in
       at_link g link (inner_of g c.0) s A n (g.bypass c.0).accepted_at (sym on ∙ c.2.on_link) (sym at ∙ ap opposite c.2.at_side)
       c.2.accepted
       (len_inner_in g (g.bypass c.0).inner c.0 ((law.bypasses c.0).inner_by (grind (arith, c.2.stage, nat_tests)))
@@ -445,7 +445,7 @@ module _ (w : World) (b : Books) (g : Records) (law : Inv w b g) where
       weight = rw st refl
 
       x : (from : ℕ) × (to : ℕ) × (i : ℕ) × (m : Message) × IsUnderWay w from to i m × (1 ≤ of_bypass g o counts_stop m)
-      x = found (λ from to. of_bypass g o counts_stop) w (omega (arith, weight, law.told.control o (λ from to m. counts_stop m)))
+      x = found (λ from to. of_bypass g o counts_stop) w (omega (arith, weight, law.controls.control o (λ from to m. counts_stop m)))
 
       none : (b : Bool) → 1 ≤ cond b 0 0 → ⊥
       none true l = absurd (omega (arith, l))
@@ -489,7 +489,7 @@ module _ (w : World) (b : Books) (g : Records) (law : Inv w b g) where
           let st : (g.bypass o).stage ≡ 3 = grind (arith, h, late, nat_tests) in
           let x : StopsAt o = stops_at o st in
           let is : IsStop g x.from x.to o x.side x.in_length x.out_length =
-          stop_told w g x.from x.to x.place o x.side x.in_length x.out_length law.told x.sent in
+          stop_told w g x.from x.to x.place o x.side x.in_length x.out_length law.controls x.sent in
           let old : Passes w (Some (g.bypass o).proxy) (has_decaying (Central o) (proxy_side g o)) =
           passes-tells w _ _ ((law.stages o).proxy_old begun (omega (arith, st))) in
           let same : r ≡ old.router = same_Some _ _ (sym here ∙ ap (router_at w) (sym proxy ∙ same_Some _ _ old.known) ∙ old.here) in

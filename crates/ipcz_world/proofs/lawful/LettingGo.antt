@@ -366,7 +366,7 @@ module _ (w : World) (b : Books) (g : Routes) (law : Lawful w b g) where
         rec = law.records
 
         at : IsAccept rec from to old side fresh len
-        at = accept_told w rec from to place old side fresh len law.inv.told u
+        at = accept_told w rec from to place old side fresh len law.inv.controls u
 
         none : side_router rec (Central (rec.bypass old).fresh) (across_side rec old) ≡ None
         none = (law.inv.bypasses old).fresh_awaited at.stage
@@ -551,7 +551,7 @@ pub accepted_are_held : AcceptedAreHeld
 accepted_are_held w b g n from old side fresh len law ln lf hand =
     let u : IsUnderWay w from n 0 (messages.AcceptBypass old side fresh len) =
     record { sender = lf; receiver = ln; place = hand_flow w from n (mail_at w (way w from n)) _ refl hand } in
-    let at : IsAccept law.records from n old side fresh len = accept_told w law.records from n 0 old side fresh len law.inv.told u in
+    let at : IsAccept law.records from n old side fresh len = accept_told w law.records from n 0 old side fresh len law.inv.controls u in
     let p = passes-tells w _ _ ((law.inv.stages old).across_old (grind (arith, at.stage, nat_tests)) (omega (arith, at.stage))) in
     ByRouter p.key p.router p.here (or_left _ _ (or_left _ _ (or_left _ _
     (subst (λ t. has_link p.router.outward.primary (Central old) t ≡ true) (sym at.at_side) p.passed))))

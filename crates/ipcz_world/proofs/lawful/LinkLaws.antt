@@ -179,11 +179,11 @@ unfolding is_outward
 bypass_law w b g law = record {
   outward = λ k r e i here off on. begun_bypassed w b g i law (begun i (rw on at (((positions-in law).each k r here).decaying e off)));
   inward = λ k r e i here off on. absurd (grind (arith, ((links-in law) k r here).inward_decaying_inward e off, on));
-  message = λ from to i m o u names. begun_bypassed w b g o law (old_begun w g from to i m o law.told u names);
+  message = λ from to i m o u names. begun_bypassed w b g o law (old_begun w g from to i m o law.controls u names);
   source = law.words.source;
-  begun_source = λ from to i link s old target fresh u. let at = peer_told w g from to i old link s target fresh law.told u in
+  begun_source = λ from to i link s old target fresh u. let at = peer_told w g from to i old link s target fresh law.controls u in
       (law.words.each old).begun_source (grind (arith, at.stage, nat_tests)) (omega (arith, at.stage)) ∙ ap Some (sym at.receiver);
-  taken_source = λ from to i old s fresh length u. let at = accept_told w g from to i old s fresh length law.told u in
+  taken_source = λ from to i old s fresh length u. let at = accept_told w g from to i old s fresh length law.controls u in
       (law.words.each old).begun_source (grind (arith, at.stage, nat_tests)) (omega (arith, at.stage)) ∙ ap Some (sym at.sender);
 }
   where

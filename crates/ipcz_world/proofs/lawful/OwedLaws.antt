@@ -74,25 +74,25 @@ module _ (w : World) (b : Books) (g : Records) (law : Inv w b g) where
   taking link o from to i (messages.BypassPeer l s old target fresh) begun (inl is) u h =
       inl (or_right (same_link l link) (same_link (Central old) link) (same_as (Central old) link (ap Central (old_is old o h) ∙ sym is.0)))
   taking link o from to i (messages.BypassPeer l s old target fresh) begun (inr is) u h =
-      let at : IsPeer g from to old l s target fresh = peer_told w g from to i old l s target fresh law.told u in
+      let at : IsPeer g from to old l s target fresh = peer_told w g from to i old l s target fresh law.controls u in
       inl (or_left (same_link l link) (same_link (Central old) link)
       (same_as l link (at.on_link ∙ ap (inner_of g) (old_is old o h) ∙ sym is)))
   taking link o from to i (messages.AcceptBypass old s fresh length) begun (inl is) u h =
       inl (same_as (Central old) link (ap Central (old_is old o h) ∙ sym is.0))
   taking link o from to i (messages.AcceptBypass old s fresh length) begun (inr is) u h =
-      let at : IsAccept g from to old s fresh length = accept_told w g from to i old s fresh length law.told u in
+      let at : IsAccept g from to old s fresh length = accept_told w g from to i old s fresh length law.controls u in
       let e : old ≡ o = old_is old o h in
       inr (o, one_holds (nat_eq old o) h, inner_of_proxy link o is begun (omega (arith, ap (λ z. (g.bypass z).stage) e, at.stage)))
   taking link o from to i (messages.StopProxying s old in_length out_length) begun (inl is) u h =
       inl (same_as (Central old) link (ap Central (old_is old o h) ∙ sym is.0))
   taking link o from to i (messages.StopProxying s old in_length out_length) begun (inr is) u h =
-      let at : IsStop g from to old s in_length out_length = stop_told w g from to i old s in_length out_length law.told u in
+      let at : IsStop g from to old s in_length out_length = stop_told w g from to i old s in_length out_length law.controls u in
       let e : old ≡ o = old_is old o h in
       inr (o, one_holds (nat_eq old o) h, inner_of_proxy link o is begun (omega (arith, ap (λ z. (g.bypass z).stage) e, at.stage)))
   taking link o from to i (messages.ProxyWillStop l s in_length) begun is u h = go is
     where
       told : (p : ℕ) × (bypass_of g l ≡ Some p) × IsWillStop g from to p l s in_length
-      told = will_stop_told w g from to i l s in_length law.told u
+      told = will_stop_told w g from to i l s in_length law.controls u
 
       own : told.0 ≡ o
       own = let f : is_by g l o ≡ true = one_holds (is_by g l o) h in grind (arith, nat_tests, told.1, f)
@@ -106,7 +106,7 @@ module _ (w : World) (b : Books) (g : Records) (law : Inv w b g) where
   unfolding control_weight
   bypassing link o begun early is =
       let weight : control_weight g (λ from to m. 1) o ≡ 1 = one_of_four (g.bypass o).stage (grind (arith, begun, nat_tests)) early in
-      let t = found (λ from to. of_bypass g o (λ m. 1)) w (omega (arith, weight, law.told.control o (λ from to m. 1))) in
+      let t = found (λ from to. of_bypass g o (λ m. 1)) w (omega (arith, weight, law.controls.control o (λ from to m. 1))) in
       record { from = t.0; to = t.1; place = t.2; message = t.3; under_way = t.4; takes = taking link o t.0 t.1 t.2 t.3 begun is t.4 t.5 }
 
   inner_is : (link : LinkId) (p : Key) (o : ℕ) → link ≡ inner_link p → (g.peripheral p).by ≡ Some o → IsTaken link o

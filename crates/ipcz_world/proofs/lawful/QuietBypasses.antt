@@ -27,7 +27,7 @@ module _ (w : World) (b : Books) (g : Records) (law : Inv w b g) (quiet : IsQuie
       go true e =
           let l : (g.bypass o).stage ≤ 4 = grind (arith, e, nat_tests) in
           let weight : control_weight g (λ from to m. 1) o ≡ 1 = one_of_four (g.bypass o).stage first l in
-          let t = found (λ from to. of_bypass g o (λ m. 1)) w (omega (arith, weight, law.told.control o (λ from to m. 1))) in
+          let t = found (λ from to. of_bypass g o (λ m. 1)) w (omega (arith, weight, law.controls.control o (λ from to m. 1))) in
           absurd (nothing-moves w quiet t.0 t.1 t.2 t.3 t.4)
 
   -- no side is awaited
@@ -36,7 +36,7 @@ module _ (w : World) (b : Books) (g : Records) (law : Inv w b g) (quiet : IsQuie
     where
       go : (o : Option Key) → side_router g link s ≡ o → (k : Key) × (side_router g link s ≡ Some k)
       go (Some k) e = (k, e)
-      go None e = absurd (none_made (awaited_made w g link s law.stands law.bypasses law.told (opened w b g law).moves recorded e))
+      go None e = absurd (none_made (awaited_made w g link s law.stands law.bypasses law.controls (opened w b g law).moves recorded e))
         where
           none_made : is_made_by link s (flow w (side_node g link (opposite s)) (side_node g link s)) ≡ true → ⊥
           none_made h =

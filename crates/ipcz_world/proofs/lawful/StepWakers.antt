@@ -196,7 +196,7 @@ module _ (w : World) (b : Books) (g : Records) (law : Inv w b g) (flags : FlagsA
 
     needs : (i : ℕ) (z : Message) → z ≡ m → NeedsHeld i (is_held (word_at w i)) z
     needs i (messages.AcceptBypass old side fresh length) e = λ same.
-        let told : IsAccept g from n old side fresh length = accept_told w g from n 0 old side fresh length law.told
+        let told : IsAccept g from n old side fresh length = accept_told w g from n 0 old side fresh length law.controls
         (subst (λ z. IsUnderWay w from n 0 z) (sym e) (under_way-hand w n from m in_hand)) in
         let begun : is_begun (g.bypass old) ≡ true = grind (arith, told.stage, nat_tests) in
         subst (λ j. is_held (word_at w j) ≡ true) same (held-is (word_at w old) (proxy_side g old)

@@ -41,7 +41,7 @@ module _ (w : World) (b : Books) (g : Records) (law : Inv w b g) where
   fresh_once : (old i : ℕ) → g.owner i ≡ Fresh old → under_way (λ from to m. fresh_count i m) w ≡ 1
   unfolding fresh_count of_bypass control_weight
   fresh_once old i own = under_way-agree w (λ from to m. fresh_count i m) (λ from to m. of_bypass g old (fresh_count i) m) same ∙
-      law.told.control old (λ from to m. fresh_count i m) ∙ one
+      law.controls.control old (λ from to m. fresh_count i m) ∙ one
     where
       stage : (g.bypass old).stage ≡ 1
       stage = law.spares.fresh old i own
@@ -58,7 +58,7 @@ module _ (w : World) (b : Books) (g : Records) (law : Inv w b g) where
       same : (from to j : ℕ) (m : Message) → IsUnderWay w from to j m → fresh_count i m ≡ of_bypass g old (fresh_count i) m
       same from to j (messages.Item link s n item moves) u = refl
       same from to j (messages.BypassPeer link s o target fresh) u =
-          let at : IsPeer g from to o link s target fresh = peer_told w g from to j o link s target fresh law.told u in
+          let at : IsPeer g from to o link s target fresh = peer_told w g from to j o link s target fresh law.controls u in
           go (nat_eq fresh i) (nat_eq o old) refl refl at
         where
           go : (p q : Bool) → nat_eq fresh i ≡ p → nat_eq o old ≡ q → IsPeer g from to o link s target fresh →
@@ -85,12 +85,12 @@ module _ (w : World) (b : Books) (g : Records) (law : Inv w b g) where
   named from to j (messages.Item link s n item moves) i u h = linked_of i
       (subst (λ l. is_recorded w g l ≡ true) (same_central i link h) (law.items.recorded from to j link s n item moves u))
   named from to j (messages.BypassPeer link s o target fresh) i u h =
-      let at = peer_told w g from to j o link s target fresh law.told u in
+      let at = peer_told w g from to j o link s target fresh law.controls u in
       let away = not_peripheral i _ _ link at.on_link in
       let is : o ≡ i = grind (arith, h, away, nat_tests) in
       is_link (g.owner i) (subst (λ x. is_linked (g.owner x) ≡ true) is ((law.bypasses o).old (grind (arith, at.stage, nat_tests))))
   named from to j (messages.AcceptBypass o s fresh length) i u h =
-      let at = accept_told w g from to j o s fresh length law.told u in
+      let at = accept_told w g from to j o s fresh length law.controls u in
       go (or_cases _ _ h) (grind (arith, at.stage, nat_tests)) ((law.bypasses o).fresh_linked (omega (arith, at.stage))) at.onto
     where
       go : (nat_eq o i ≡ true) ⊎ (nat_eq fresh i ≡ true) → is_begun (g.bypass o) ≡ true → g.owner (g.bypass o).fresh ≡ Linked →
@@ -99,14 +99,14 @@ module _ (w : World) (b : Books) (g : Records) (law : Inv w b g) where
           is_link (g.owner i) (subst (λ x. is_linked (g.owner x) ≡ true) is ((law.bypasses o).old begun))
       go (inr e) begun new onto = let is : fresh ≡ i = grind (arith, e, nat_tests) in ap g.owner (sym is ∙ onto) ∙ new
   named from to j (messages.StopProxying s o in_length out_length) i u h =
-      let at = stop_told w g from to j o s in_length out_length law.told u in
+      let at = stop_told w g from to j o s in_length out_length law.controls u in
       let is : o ≡ i = grind (arith, h, nat_tests) in
       is_link (g.owner i) (subst (λ x. is_linked (g.owner x) ≡ true) is ((law.bypasses o).old (grind (arith, at.stage, nat_tests))))
   named from to j (messages.ProxyWillStop link s in_length) i u h =
-      let at = will_stop_told w g from to j link s in_length law.told u in
+      let at = will_stop_told w g from to j link s in_length law.controls u in
       absurd (grind (arith, h, not_peripheral i _ _ link at.2.on_link))
   named from to j (messages.Flush link s) i u h = linked_of i (subst (λ l. is_recorded w g l ≡ true) (same_central i link h)
-      (law.told.flush_recorded from to j link s u))
+      (law.controls.flush_recorded from to j link s u))
 
   -- a link's word isn't 0, or a router has it
   used : (i : ℕ) → g.owner i ≡ Linked → (has (word_at w i).stable A ≡ true) ⊎ IsOnLink w i
@@ -169,7 +169,7 @@ module _ (w : World) (b : Books) (g : Records) (law : Inv w b g) where
     spare_back = law.spares.spare_back;
     opening = law.spares.opening;
     opening_back = law.spares.opening_back;
-    fresh = λ from to j link s old target i u. let at = peer_told w g from to j old link s target i law.told u in
+    fresh = λ from to j link s old target i u. let at = peer_told w g from to j old link s target i law.controls u in
         ap g.owner at.onto ∙ (law.bypasses old).fresh at.stage;
     fresh_back = fresh_once;
     linked = λ k r i s here has. linked_of i (has_at w g k r (Central i) s (links-in law) here has).recorded;

@@ -6,7 +6,7 @@ use Rattle.ipcz_world.proofs.Vocabulary.{opposite_end, has_end, has, place_at, t
 use Rattle.ipcz_world.proofs.Vocabulary.{node_at, word_at, mail_at, router_at, way, flow, messages_in, hand_message, Records, Owner, Spare, Opening}
 use Rattle.ipcz_world.proofs.Vocabulary.{Fresh, Terminal, At, is_linked, is_unclaimed, is_recorded, inner_link, is_nowhere, IsUnderWay, under_way}
 use Rattle.ipcz_world.proofs.Vocabulary.{of_end, moves_of, Counts, Ordered, Shape, Stands, Words, Spares, BypassRecords, Stages}
-use Rattle.ipcz_world.proofs.Vocabulary.{Told, of_bypass, control_weight, Terminals, EndPlaces, BooksKept, Conserved, HeldOnce, times_held, Items}
+use Rattle.ipcz_world.proofs.Vocabulary.{Controls, of_bypass, control_weight, Terminals, EndPlaces, BooksKept, Conserved, HeldOnce, times_held, Items}
 use Rattle.ipcz_world.proofs.Vocabulary.{Order, ProxyNumbers, FreshNumbers, Inv, RetiredEnds, Gones, LiveLinks, no_books, Unclaimed, Nowhere, Retired}
 use Rattle.ipcz_world.proofs.Vocabulary.{is_left, Moves, move_weight}
 use Rattle.ipcz_world.proofs.frames.LiveLinks.{first_begun}
@@ -268,8 +268,8 @@ module _ (w : World) (g : Records) (world : IsBare w) (noted : IsUnnoted g) wher
     inner_decaying = λ h1 h2. absurd (omega (arith, h1, noted.stage o));
   }
 
-  told-bare : Told w g
-  told-bare = record {
+  controls-bare : Controls w g
+  controls-bare = record {
     control = λ o h. totals (λ from to. of_bypass g o (h from to)) ∙ sym (expected-none g h o (noted.stage o));
     will_stop = λ from to i link s n h1. absurd (no_message _ _ _ _ h1);
     behind = λ from to i link s old target fresh h1 h2. absurd (no_message _ _ _ _ h1);
@@ -429,7 +429,7 @@ module _ (w : World) (g : Records) (world : IsBare w) (noted : IsUnnoted g) wher
     bypasses = bypasses-bare;
     live = live-bare;
     stages = stages-bare;
-    told = told-bare;
+    controls = controls-bare;
     moves = moves-bare;
     terminals = terminals-bare;
     end_places = end_places-bare;

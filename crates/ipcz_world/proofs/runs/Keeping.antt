@@ -325,7 +325,7 @@ module _ (w : World) (b : Books) (g : Records) (law : Inv w b g) where
       let m = messages.BypassPeer link side o target fresh in
       let a = asked_at w n from m link side is (named w b g law n from m is refl) in
       let k : Key = record { node = n; serial = a.found.serial } in
-      let at : IsPeer g from n o link side target fresh = peer_told w g from n 0 o link side target fresh law.told
+      let at : IsPeer g from n o link side target fresh = peer_told w g from n 0 o link side target fresh law.controls
       (under_way-hand w n from m is) in
       let fits = peer_fits w b g law n from o link side target fresh is a.found a.is_found a.can a.has in
       let unfit : is_unfit (node_at w n) from m (source_for w m) ≡ false = rw (fits, a.is_found) refl in

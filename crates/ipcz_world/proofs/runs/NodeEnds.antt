@@ -335,10 +335,10 @@ module _ (P : Ends) where
   will_stop-ends x None length law = law
   will_stop-ends x (Some e) length law = ends-push x e.other _ law tt
 
-  told-ends : (o : Option Edge) (a b : ℕ) → InwardEnds P o → InwardEnds P (option_map
+  controls-ends : (o : Option Edge) (a b : ℕ) → InwardEnds P o → InwardEnds P (option_map
       (λ e. set_length_from (set_length_to e a) b) o)
-  told-ends None a b law = tt
-  told-ends (Some e) a b law = law
+  controls-ends None a b law = tt
+  controls-ends (Some e) a b law = law
 
   handle-ends : (x : Node) (sender : ℕ) (m : Message) → NodeEnds P x → MessageEnds P m → ArePeripheral (moves_of m) →
       NodeEnds P (handle x sender m)
@@ -362,7 +362,7 @@ module _ (P : Ends) where
       found-ends x (link_router x (Central old) side) (λ s r. tell (with_router x s (stop_proxying r in_length out_length))
       (will_stop_message (inward_edge r).decaying in_length)) law (λ f h. let r = linked-ends x (Central old) side f law h in
       will_stop-ends _ (inward_edge f.router).decaying in_length
-      (ends-with x f.serial _ law (r.0, (told-ends f.router.inward in_length out_length r.1.0, r.1.1))))
+      (ends-with x f.serial _ law (r.0, (controls-ends f.router.inward in_length out_length r.1.0, r.1.1))))
   handle-ends x sender (messages.ProxyWillStop link side in_length) law is apart =
       found-ends x (link_router x link side) (λ s r. with_router x s (proxy_will_stop r in_length)) law
       (λ f h. ends-with x f.serial _ law (linked-ends x link side f law h))

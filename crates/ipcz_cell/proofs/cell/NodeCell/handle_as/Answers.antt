@@ -5,8 +5,8 @@ use Rattle.ipcz_cell.specs.Mails.{old_named}
 use Rattle.ipcz_cell.proofs.TurnChains.{unnamed, names_none, fits_same, item_handled, item_refused}
 use Rattle.ipcz_cell.proofs.cell.NodeCell.handle_as.Goals as goal
 
-pub handle_alone-requires-clause-known : goal.handle_alone-requires-clause-known
-handle_alone-requires-clause-known g c = λ x is low.
+pub handle_lone-requires-clause-known : goal.handle_lone-requires-clause-known
+handle_lone-requires-clause-known g c = λ x is low.
     let item = c.in-Some.ensures in
     let held : c.args.self.now.part.message ≡ Some item.0 = sym (ap (λ (z : CellState). z.part.message) c.self.view_is) ∙ (c.self.invariant.0.message ∙ item.1) in
     sym (unnamed c.args.from x (names_none c.args.self.now.part.message x is (ap old_named held ∙ item.2)))
@@ -16,17 +16,17 @@ returns g c =
     let old = c.args.self.now in
     let item = c.in-Some.ensures in
     let held : old.part.message ≡ Some item.0 = sym (ap (λ (z : CellState). z.part.message) c.self.view_is) ∙ (c.self.invariant.0.message ∙ item.1) in
-    let done = c.in_ok-handle_alone.ensures in
+    let done = c.in_ok-handle_lone.ensures in
     let fit = done.fit c.if-branch.true in (
       _,
       item.3 old.part.state c.args.from (fits_same old.part.state c.args.from old.part.message fit.0 item.0 fit.1 held fit.2),
-      item_handled g.F.FabricName.table.size c.args.from old c.handle_alone.new.self item.0 held item.2 (done.taken c.if-branch.true) done.seen,
+      item_handled g.F.FabricName.table.size c.args.from old c.handle_lone.new.self item.0 held item.2 (done.taken c.if-branch.true) done.seen,
     )
 
-pub returns-in_err-handle_alone : goal.returns-in_err-handle_alone
-returns-in_err-handle_alone g c =
+pub returns-in_err-handle_lone : goal.returns-in_err-handle_lone
+returns-in_err-handle_lone g c =
     let item = c.in-Some.ensures in
     let held : c.args.self.now.part.message ≡ Some item.0 = sym (ap (λ (z : CellState). z.part.message) c.self.view_is) ∙ (c.self.invariant.0.message ∙ item.1) in
-    let done = c.in_err-handle_alone.ensures in
+    let done = c.in_err-handle_lone.ensures in
     let p = err_from_is_err_and c.from_residual.result c.from_residual.ensures.1 in
-    rw (p.1, p.2) (item_refused g.F.FabricName.table.size c.args.from c.args.self.now c.handle_alone.new.self item.0 _ held item.2 done.why done.err done.seen)
+    rw (p.1, p.2) (item_refused g.F.FabricName.table.size c.args.from c.args.self.now c.handle_lone.new.self item.0 _ held item.2 done.why done.err done.seen)

@@ -1,4 +1,4 @@
-use Rattle.ipcz_world.specs.Carrying.{AreQuiet}
+use Rattle.ipcz_world.specs.FastPath.{AreQuiet}
 use Rattle.ipcz_world.proofs.state.State.first_not_quiet.Given as goal
 
 -- each node so far is quiet

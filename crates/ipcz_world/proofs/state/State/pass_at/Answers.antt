@@ -1,6 +1,6 @@
 use Rattle.std.proofs.Common.{◌∙◌, inl, inr, ap, sym, subst, refl, arith}
 use Rattle.ipcz_world.proofs.Vocabulary.{LinkEnd, World, mail_at, node_at, set_mail, set_node, SendsNext, IsPassing, with_hand}
-use Rattle.ipcz_world.specs.Carrying.{lone_message}
+use Rattle.ipcz_world.specs.FastPath.{lone_message}
 use Rattle.ipcz_world.proofs.code.LoneFinds.{link_is, lowest}
 use Rattle.ipcz_world.proofs.code.Passing.{found-item, handed-passing, has-sent}
 use Rattle.ipcz_world.proofs.code.PassingWithin.{handed-leads, left-leads, sent-passing}
@@ -26,23 +26,23 @@ unfolding node_at
 send_next-number-requires c =
     found-item (subst (λ x. SendsNext x c.in-Some.serial c.in-Some.link) c.node.ensures c.in-Some.ensures.some) c.node_mut.ensures.value
 
-pub hand_alone-requires-clause-lengths : goal.hand_alone-requires-clause-lengths
+pub hand_lone-requires-clause-lengths : goal.hand_lone-requires-clause-lengths
 unfolding set_node
-hand_alone-requires-clause-lengths c =
+hand_lone-requires-clause-lengths c =
     lengths-kept c.self.view_is c.args.n c.send_next-number.new.self.node c.requires.lengths c.requires.here
 
-pub returns-then-hand_alone : goal.returns-then-hand_alone
+pub returns-then-hand_lone : goal.returns-then-hand_lone
 unfolding node_at set_node
-returns-then-hand_alone c =
+returns-then-hand_lone c =
     let there = ap (λ (v : World). node_at v c.args.n) c.self.view_is in
     let sends = subst (λ x. SendsNext x c.in-Some.serial c.in-Some.link) (c.node.ensures ∙ there) c.in-Some.ensures.some in
     let s = c.send_next-number.ensures in
     let sent = has-sent sends (c.node_mut.ensures.value ∙ there) s.node s.number s.item s.serials in
-    let taken = c.hand_alone.ensures.taken c.if-hand_alone.true in
+    let taken = c.hand_lone.ensures.taken c.if-hand_lone.true in
     let after = sent-passing c.self.view_is c.requires c.if-link-n.false sent in
-    let on = handed-leads c.self.view_is c.requires c.if-link-n.false sent c.hand_alone.new.self taken (c.hand_alone.ensures.allowed c.if-hand_alone.true) in
+    let on = handed-leads c.self.view_is c.requires c.if-link-n.false sent c.hand_lone.new.self taken (c.hand_lone.ensures.allowed c.if-hand_lone.true) in
     record {
-      passing = λ _. subst (IsPassing c.hand_alone.new.self c.args.n) c.if-link-n.false (handed-passing _ _ _ _ c.in-Some.link _ _ after taken);
+      passing = λ _. subst (IsPassing c.hand_lone.new.self c.args.n) c.if-link-n.false (handed-passing _ _ _ _ c.in-Some.link _ _ after taken);
       acts = inr (inr refl);
       none = λ e. cc;
       walk = λ _. on.walk;
@@ -57,7 +57,7 @@ leave_in_hand-requires c =
     let sends = subst (λ x. SendsNext x c.in-Some.serial c.in-Some.link) (c.node.ensures ∙ there) c.in-Some.ensures.some in
     let s = c.send_next-number.ensures in
     let sent = has-sent sends (c.node_mut.ensures.value ∙ there) s.node s.number s.item s.serials in
-    let left = (c.hand_alone.ensures.left c.if-hand_alone.false).0 in
+    let left = (c.hand_lone.ensures.left c.if-hand_lone.false).0 in
     let after = subst (λ v. IsPassing v c.args.n c.in-Some.link.other) (sym left) (sent-passing c.self.view_is c.requires c.if-link-n.false sent) in
     record { lengths = after.lengths; here = after.here; there = after.there; hand = after.hand; clear = after.box }
 
@@ -68,7 +68,7 @@ returns c =
     let sends = subst (λ x. SendsNext x c.in-Some.serial c.in-Some.link) (c.node.ensures ∙ there) c.in-Some.ensures.some in
     let s = c.send_next-number.ensures in
     let sent = has-sent sends (c.node_mut.ensures.value ∙ there) s.node s.number s.item s.serials in
-    let left = c.hand_alone.ensures.left c.if-hand_alone.false in
+    let left = c.hand_lone.ensures.left c.if-hand_lone.false in
     let world = c.leave_in_hand.ensures ∙ (λ j. with_hand (left.0 j) c.args.n c.in-Some.link.other
     (lone_message c.in-Some.link c.send_next-number.result.0 (left.1 j))) in
     let on = left-leads c.self.view_is c.requires c.if-link-n.false sent c.leave_in_hand.new.self world in

@@ -8,8 +8,8 @@ node_mut-requires c =
     let w = c.args.self.now in
     let m = c.args.over.now.other in
     let passing = subst (λ v. IsPassing v c.args.n m) (sym c.self-2.view_is)
-    (handed-passing w c.hand_alone.new.self c.args.n m c.args.over.now c.args.number.now c.args.item.now c.requires.passing
-    (c.hand_alone.ensures.taken c.if-not-hand_alone.false)) in
+    (handed-passing w c.hand_lone.new.self c.args.n m c.args.over.now c.args.number.now c.args.item.now c.requires.passing
+    (c.hand_lone.ensures.taken c.if-not-hand_lone.false)) in
     omega (arith, passing.here, passing.lengths.nodes)
 
 pub send_next-next-requires : goal.send_next-next-requires
@@ -18,7 +18,7 @@ send_next-next-requires c =
     let at = λ (v : World). node_at v c.args.n in
     let sends = subst (λ x. SendsNext x c.in-Some.serial c.in-Some.link) (c.node.ensures ∙ ap at c.self.view_is) c.in-Some.ensures.some in
     found-item sends (c.node_mut.ensures.value ∙ ap at c.self-2.view_is
-    ∙ handed-sender _ _ _ _ c.args.over.now _ _ c.requires.passing (c.hand_alone.ensures.taken c.if-not-hand_alone.false) c.requires.apart)
+    ∙ handed-sender _ _ _ _ c.args.over.now _ _ c.requires.passing (c.hand_lone.ensures.taken c.if-not-hand_lone.false) c.requires.apart)
 
 pub returns-clause-passing : goal.returns-clause-passing
 unfolding node_at set_node
@@ -26,8 +26,8 @@ returns-clause-passing c _ =
     let w = c.args.self.now in
     let n = c.args.n in
     let m = c.args.over.now.other in
-    let u = c.hand_alone.new.self in
-    let taken = c.hand_alone.ensures.taken c.if-not-hand_alone.false in
+    let u = c.hand_lone.new.self in
+    let taken = c.hand_lone.ensures.taken c.if-not-hand_lone.false in
     let at = λ (v : World). node_at v n in
     let sends = subst (λ x. SendsNext x c.in-Some.serial c.in-Some.link) (c.node.ensures ∙ ap at c.self.view_is) c.in-Some.ensures.some in
     let there = c.node_mut.ensures.value ∙ ap at c.self-2.view_is ∙ handed-sender w u n m c.args.over.now _ _ c.requires.passing taken c.requires.apart in
@@ -46,14 +46,14 @@ returns-clause-walk c _ w0 acts walk =
     let w = c.args.self.now in
     let n = c.args.n in
     let m = c.args.over.now.other in
-    let u = c.hand_alone.new.self in
-    let taken = c.hand_alone.ensures.taken c.if-not-hand_alone.false in
+    let u = c.hand_lone.new.self in
+    let taken = c.hand_lone.ensures.taken c.if-not-hand_lone.false in
     let at = λ (v : World). node_at v n in
     let sends = subst (λ x. SendsNext x c.in-Some.serial c.in-Some.link) (c.node.ensures ∙ ap at c.self.view_is) c.in-Some.ensures.some in
     let there = c.node_mut.ensures.value ∙ ap at c.self-2.view_is ∙ handed-sender w u n m c.args.over.now _ _ c.requires.passing taken c.requires.apart in
     let s = c.send_next-next.ensures in
     let sent = has-sent sends there s.node s.number s.item s.serials in
     let on = handed-walk w u n m c.args.over.now c.args.number.now c.args.item.now c.requires.passing taken c.requires.apart
-    (c.hand_alone.ensures.allowed c.if-not-hand_alone.false) c.in-Some.serial c.in-Some.link sends c.if-link-to.false sent.low w0 acts walk in
+    (c.hand_lone.ensures.allowed c.if-not-hand_lone.false) c.in-Some.serial c.in-Some.link sends c.if-link-to.false sent.low w0 acts walk in
     subst (λ v. Walk w0 v (acts + 4) (next_node v m))
     (sym (λ j. with_hand (set_node (c.self-2.view_is j) n (sent.behind j)) n m (told sent j))) on

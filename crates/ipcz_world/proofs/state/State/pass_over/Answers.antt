@@ -1,6 +1,6 @@
 use Rattle.std.proofs.Common.{◌≡◌, ◌∙◌, ◌+◌, ap, sym, subst, subst₂, refl, arith}
 use Rattle.ipcz_world.proofs.Vocabulary.{LinkEnd, Node, World, node_at, set_mail, set_node, IsPassing, with_hand, next_node, IsRegular, Walk, the_view}
-use Rattle.ipcz_world.specs.Carrying.{IsLoneSender, lone_message}
+use Rattle.ipcz_world.specs.FastPath.{IsLoneSender, lone_message}
 use Rattle.ipcz_world.proofs.code.LoneWorlds.{quiet_is}
 use Rattle.ipcz_world.proofs.code.Passing.{first-walk, found-item, has-sent, passing-alone, passing-sender}
 use Rattle.ipcz_world.proofs.state.State.pass_over.Goals.{then-loop-acts-test+else-pass_on, else-loop-acts-test}

@@ -1,6 +1,6 @@
 use Rattle.std.proofs.Common.{◌≡◌, ◌≤◌, ◌+◌, ◌*◌, ◌-◌, ℕ}
 use Rattle.ipcz_world.proofs.Vocabulary.{IsPassing, with_hand, next_node, Walk}
-use Rattle.ipcz_world.specs.Carrying.{lone_message}
+use Rattle.ipcz_world.specs.FastPath.{lone_message}
 use Rattle.ipcz_world.proofs.state.State.pass_over.Given as goal
 
 -- so many laps were made, and the visits so far lead to the world with the item's message in the taker's hand

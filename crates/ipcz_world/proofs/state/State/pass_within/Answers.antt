@@ -2,7 +2,7 @@ use Rattle.std.specs.Prelude.{nat_eq, true}
 use Rattle.std.proofs.Common.{◌≡◌, ◌∙◌, ◌≤◌, ◌+◌, ◌⊎◌, ℕ, inl, inr, sym, subst, refl, arith}
 use Rattle.std.proofs.lemmas.Bool.Decides.{nat_tests}
 use Rattle.ipcz_world.proofs.Vocabulary.{World, next_node, Walk}
-use Rattle.ipcz_world.specs.Carrying.{IsLap}
+use Rattle.ipcz_world.specs.FastPath.{IsLap}
 use Rattle.ipcz_world.specs.Visiting.{IsPlace}
 use Rattle.ipcz_world.proofs.code.Visiting.{next-place, on_way-start, walked}
 use Rattle.ipcz_world.proofs.state.State.pass_within.Goals.{then-more-eq4, else-more-eq4}

@@ -1,7 +1,7 @@
 use Rattle.std.proofs.Common.{◌≤◌, ℕ, subst}
 use Rattle.ipcz_base.specs.declared.link_end.LinkEnd.{LinkEnd}
 use Rattle.ipcz_world.proofs.Vocabulary.{IsLone}
-use Rattle.ipcz_world.specs.Carrying.{IsCarried}
+use Rattle.ipcz_world.specs.FastPath.{IsCarried}
 use Rattle.ipcz_world.proofs.code.Kept.{walk-lawful}
 use Rattle.ipcz_world.proofs.code.Regular.{lawful-regular}
 use Rattle.ipcz_world.proofs.world.World.carry.Goals as goal

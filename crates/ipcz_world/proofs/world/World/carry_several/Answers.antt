@@ -1,6 +1,6 @@
 use Rattle.std.proofs.Common.{◌≤◌, ℕ, subst}
 use Rattle.ipcz_base.specs.declared.link_end.LinkEnd.{LinkEnd}
-use Rattle.ipcz_world.specs.Carrying.{IsLoneSender}
+use Rattle.ipcz_world.specs.FastPath.{IsLoneSender}
 use Rattle.ipcz_world.proofs.code.Kept.{walk-lawful}
 use Rattle.ipcz_world.proofs.code.Regular.{lawful-regular}
 use Rattle.ipcz_world.proofs.world.World.carry_several.Goals as goal

@@ -7,7 +7,7 @@ ghost use Rattle.ipcz_base.specs.Sides.{opposite};
 ghost use Rattle.ipcz_node.specs.Acts.{is_quiet};
 ghost use Rattle.ipcz_node.specs.Hands.{deliver, message_lacks_serials};
 ghost use Rattle.ipcz_node.specs.Lone.{RestsNext, SendsNext};
-ghost use Rattle.ipcz_world.specs.Carrying.{AreQuiet, IsCarried, IsLap, IsLone, IsLoneNode, IsLoneSender, IsPassing, lone_message, with_hand};
+ghost use Rattle.ipcz_world.specs.FastPath.{AreQuiet, IsCarried, IsLap, IsLone, IsLoneNode, IsLoneSender, IsPassing, lone_message, with_hand};
 ghost use Rattle.ipcz_world.specs.Settling.{next_node};
 ghost use Rattle.ipcz_world.specs.Soundness.{HasLengths};
 ghost use Rattle.ipcz_world.specs.World.{World, node_at, mail_at, set_node, way};
@@ -217,7 +217,7 @@ impl State {
         if link.other != to {
             return false;
         }
-        if !self.hand_alone(n, over, *number, item) {
+        if !self.hand_lone(n, over, *number, item) {
             return false;
         }
         let (next, sent) = self.nodes.node_mut(n).send_next(serial);
@@ -305,7 +305,7 @@ impl State {
             return 0;
         }
         let (number, mut item) = self.nodes.node_mut(n).send_next(serial);
-        if self.hand_alone(n, &link, number, &mut item) {
+        if self.hand_lone(n, &link, number, &mut item) {
             return 4;
         }
         self.leave_in_hand(n, link, number, item);
@@ -315,7 +315,7 @@ impl State {
     // Hands an item without ends to the node at the other end of its link, and tells whether it was taken: `item` counts for nothing then. Else
     // all stays as it is.
     #[inline(always)]
-    fn hand_alone(&mut self, n: u8, over: &LinkEnd, number: u64, item: &mut Item) -> bool
+    fn hand_lone(&mut self, n: u8, over: &LinkEnd, number: u64, item: &mut Item) -> bool
         requires lengths { HasLengths self.old }
         requires there { over.now.other < self.old.count }
         ensures taken { result ≡ true → (source : Option ℕ) → self.new ≡ set_node self.old over.now.other
@@ -327,7 +327,7 @@ impl State {
         let across = over.side.opposite();
         let moves = Moves::from_vec(Vec::new(self.alloc));
         let node = self.nodes.node_mut(over.other);
-        match node.take_alone(n, over.link, across, number, item, &moves) {
+        match node.take_lone(n, over.link, across, number, item, &moves) {
             Ok(taken) => taken,
             Err(_) => false,
         }

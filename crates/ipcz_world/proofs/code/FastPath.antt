@@ -18,7 +18,7 @@ use Rattle.ipcz_node.specs.Lone.{TakesItem}
 use Rattle.ipcz_node.proofs.Carrying.{rests_without}
 use Rattle.ipcz_node.proofs.LoneNodes.{OnlyFlagged, none_flagged, rested, stands, still_flagged, takes_freely, takes_it}
 use Rattle.ipcz_world.specs.declared.mail.Mail.TheVariants.{Hand}
-use Rattle.ipcz_world.specs.Carrying.{HasCome}
+use Rattle.ipcz_world.specs.FastPath.{HasCome}
 use Rattle.ipcz_world.proofs.code.LoneWorlds.{sends-last, Quiet, quiet_is, own_act, pair, pair-box}
 use Rattle.ipcz_world.proofs.code.LoneWorlds.{node-sender, node-taker, none-elsewhere, none-to}
 use Rattle.ipcz_world.proofs.code.LoneWorlds.{write-sender, write-taker}

@@ -13,8 +13,8 @@ use Rattle.ipcz_node.specs.Events.{event_of}
 use Rattle.ipcz_node.specs.Preparing.{outlook_at}
 use Rattle.ipcz_node.specs.contracts.state.NodeState.{the_view}
 use Rattle.ipcz_node.proofs.AtRouter.{taken}
-use Rattle.ipcz_node.proofs.Carrying.{committed_alone, event_alone, lacks_none}
-use Rattle.ipcz_node.proofs.state.NodeState.send_alone.Goals as goal
+use Rattle.ipcz_node.proofs.Carrying.{committed_lone, event_lone, lacks_none}
+use Rattle.ipcz_node.proofs.state.NodeState.send_lone.Goals as goal
 
 pub returns-then-is_err-clause-allowed : goal.returns-then-is_err-clause-allowed
 returns-then-is_err-clause-allowed c =
@@ -33,7 +33,7 @@ returns-clause-ok c =
     let queued = c.push.ensures ∙ ap (λ ms. put_place [] ms c.args.to (place_at [] ms c.args.to ++ c.send_out-message.result ∷ []))
     c.reserve.ensures.messages in
     (λ j. record v.node { routers = (filed j).routers; held = (filed j).held; next_router = (filed j).next; outboxes = queued j })
-    ∙ committed_alone v.node c.args.serial here.0 c.args.to c.send_out-message.result here.1
+    ∙ committed_lone v.node c.args.serial here.0 c.args.to c.send_out-message.result here.1
     (subst (λ x. outlook_at (router_in x.node c.args.serial) SendOut ≡ Item c.args.to 0) (sym c.self.view_is) c.requires.alone)
     (c.send_out-message.ensures.message here.0 here.1)
     ∙ ap (λ x. commit x.node (OfRouter c.args.serial SendOut) Plain) c.self.view_is
@@ -44,7 +44,7 @@ returns-clause-sent c =
     let here = taken (router_in v.node c.args.serial) (λ (r : Router). may_take r SendOut ≡ true)
     (subst (λ x. IsSomeAnd (router_in x.node c.args.serial) (λ (r : Router). may_take r SendOut ≡ true)) (sym c.self.view_is)
     c.requires.possible) in
-    event_alone v.node c.args.serial here.0 c.args.to c.send_out-message.result c.sent_as-sent.result here.1
+    event_lone v.node c.args.serial here.0 c.args.to c.send_out-message.result c.sent_as-sent.result here.1
     (subst (λ x. outlook_at (router_in x.node c.args.serial) SendOut ≡ Item c.args.to 0) (sym c.self.view_is) c.requires.alone)
     (c.send_out-message.ensures.message here.0 here.1) c.sent_as-sent.ensures
     ∙ ap (λ x. event_of x.node (OfRouter c.args.serial SendOut) Plain) c.self.view_is

@@ -8,7 +8,7 @@ use Rattle.ipcz_cell.specs.Seats.{mine_of}
 use Rattle.ipcz_cell.proofs.Seating.{number_is, number_inside, own_sound}
 use Rattle.ipcz_cell.proofs.Posting.{handed_cell}
 use Rattle.ipcz_cell.proofs.Slotting.{none_then}
-use Rattle.ipcz_cell.proofs.cell.NodeCell.handle_alone.Goals as goal
+use Rattle.ipcz_cell.proofs.cell.NodeCell.handle_lone.Goals as goal
 
 pub returns-in-Err-clause-why : goal.returns-in-Err-clause-why
 returns-in-Err-clause-why g c =

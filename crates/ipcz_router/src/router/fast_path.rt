@@ -31,7 +31,7 @@ impl Router {
     pub fn next_way(&self) -> Option<LinkEnd>
         ensures { result ≡ next_link self.now.router }
     {
-        if !self.is_settled() || !self.sends_alone() {
+        if !self.is_settled() || !self.sends_lone() {
             return None;
         }
         self.outward.primary()
@@ -57,7 +57,7 @@ impl Router {
     // Whether the current item of the out queue has come and carries no ends.
     #[inline(always)]
     #[tactic(auto, unfolding(crate::specs::Acts::item_passes))]
-    fn sends_alone(&self) -> bool
+    fn sends_lone(&self) -> bool
         ensures { result ≡ item_passes (λ item. nat_eq (length (ends_in item)) 0) (current_item self.now.router.out_queue) }
     {
         match self.out_queue.next() {

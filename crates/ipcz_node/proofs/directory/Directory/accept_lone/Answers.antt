@@ -10,7 +10,7 @@ use Rattle.ipcz_node.proofs.Refiling.{StaysFiled, flag_room, flag_changed, accep
 use Rattle.ipcz_node.proofs.Dryness.{dry_kept, accept_dry}
 use Rattle.ipcz_node.proofs.Readiness.{HasCome, accept_comes, holds_at, ready_has_room, ready_noted}
 use Rattle.ipcz_node.proofs.Written.{insert_same}
-use Rattle.ipcz_node.proofs.directory.Directory.accept_alone.Goals as goal
+use Rattle.ipcz_node.proofs.directory.Directory.accept_lone.Goals as goal
 
 none_of : (b : Bool) (es : List End) → es ≡ [] → (if b then length es else 0) ≡ 0
 none_of true es none = ap length none

@@ -3,7 +3,7 @@ use Rattle.ipcz_base.specs.declared.message.Message.TheVariants as messages
 use Rattle.ipcz_world.proofs.Vocabulary.{World, node_at, set_node, deliver, the_view}
 use Rattle.ipcz_node.specs.Hands.{message_lacks_serials}
 use Rattle.ipcz_world.proofs.code.Passing.{rewritten}
-use Rattle.ipcz_world.proofs.state.State.hand_alone.Goals as goal
+use Rattle.ipcz_world.proofs.state.State.hand_lone.Goals as goal
 
 pub returns-in-Ok-clause-taken : goal.returns-in-Ok-clause-taken
 unfolding node_at set_node
@@ -30,11 +30,11 @@ unfolding node_at set_node
 returns-in-Ok-clause-left c kept =
     let left = c.in-Ok.ensures.left kept in
     let same = ap (λ k. k.node) left.1 ∙ c.node_mut-node.ensures.value in
-    (rewritten c.self.view_is c.args.over.now.other c.take_alone.new.self.node c.requires.lengths c.requires.there same, left.0)
+    (rewritten c.self.view_is c.args.over.now.other c.take_lone.new.self.node c.requires.lengths c.requires.there same, left.0)
 
 pub returns-clause-left : goal.returns-clause-left
 unfolding node_at set_node
 returns-clause-left c _ =
     let left = c.in-Err.ensures.err in
     let same = left.1 ∙ c.node_mut-node.ensures.value in
-    (rewritten c.self.view_is c.args.over.now.other c.take_alone.new.self.node c.requires.lengths c.requires.there same, left.0)
+    (rewritten c.self.view_is c.args.over.now.other c.take_lone.new.self.node c.requires.lengths c.requires.there same, left.0)

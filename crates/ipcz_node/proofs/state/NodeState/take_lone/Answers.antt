@@ -12,14 +12,14 @@ use Rattle.ipcz_node.proofs.AtRouter.{taken}
 use Rattle.ipcz_node.proofs.Telling.{room_for_item}
 use Rattle.ipcz_node.proofs.Carrying.{lone_without_place, lone_without_router, not_lone, place_refused, place_wanted}
 use Rattle.ipcz_node.proofs.Carrying.{stays_at_once, takes_at_once, wants_at_once}
-use Rattle.ipcz_node.proofs.state.NodeState.take_alone.Goals.{in-OutOfMemory, in_default-why}
-use Rattle.ipcz_node.proofs.state.NodeState.take_alone.Goals as goal
+use Rattle.ipcz_node.proofs.state.NodeState.take_lone.Goals.{in-OutOfMemory, in_default-why}
+use Rattle.ipcz_node.proofs.state.NodeState.take_lone.Goals as goal
 
-pub returns-then-not-is_alone-clause-tried : goal.returns-then-not-is_alone-clause-tried
-returns-then-not-is_alone-clause-tried c source =
+pub returns-then-not-is_lone_item-clause-tried : goal.returns-then-not-is_lone_item-clause-tried
+returns-then-not-is_lone_item-clause-tried c source =
     let a = c.args in
     stays_at_once a.self.now a.self.now a.from (messages.Item a.link a.side a.n a.item.now a.moves.now) source
-    (not_lone a.self.now.node a.from a.link a.side a.n a.item.now a.moves.now source (sym c.is_alone.ensures.same ∙ c.if-not-is_alone.true))
+    (not_lone a.self.now.node a.from a.link a.side a.n a.item.now a.moves.now source (sym c.is_lone_item.ensures.same ∙ c.if-not-is_lone_item.true))
 
 pub returns-in_default-clause-tried : goal.returns-in_default-clause-tried
 returns-in_default-clause-tried c source =
@@ -36,7 +36,7 @@ returns-in-Ok-clause-tried c source =
     (subst (λ x. IsSomeAnd (router_in x.node c.in-Some.serial) (λ (r : Router). link_router x.node a.link a.side ≡ Some (found c.in-Some.serial r)))
     (sym c.self.view_is) c.in-Some.ensures.found) in
     let filed = c.in-Ok.ensures.ok t.0 t.1 in
-    let alone = c.if-not-is_alone.ensures.alone refl in
+    let alone = c.if-not-is_lone_item.ensures.alone refl in
     subst (λ (k : RoomyNode). IsTakenAtOnce k a.from (messages.Item a.link a.side a.n a.item.now a.moves.now) source _ c.free_hand.new.self)
     c.self.view_is
     (takes_at_once v c.free_hand.new.self a.from a.link a.side a.n a.item.now a.moves.now source c.in-Some.serial t.0 t.2
@@ -58,8 +58,8 @@ returns-after-why-clause-tried c source =
     let stands : router_has t.0 a.link a.side ≡ true = subst (λ o. IsSomeAnd o (λ (r : Router). router_has r a.link a.side ≡ true)) t.1
     (subst (λ x. IsSomeAnd (router_in x.node c.in-Some.serial) (λ (r : Router). router_has r a.link a.side ≡ true)) (sym c.self.view_is)
     c.in-Some.ensures.stands) in
-    let alone = c.if-not-is_alone.ensures.alone refl in
-    let after = the_view (record c.self.inside { routers = c.accept_alone.new.self }) in
+    let alone = c.if-not-is_lone_item.ensures.alone refl in
+    let after = the_view (record c.self.inside { routers = c.accept_lone.new.self }) in
     elim c.match-why.branch [
       | in-OutOfMemory w ↦ rw w.result-is
           (subst (λ (k : RoomyNode). IsTakenAtOnce k a.from m source (Err c.in-Err.why) after) c.self.view_is

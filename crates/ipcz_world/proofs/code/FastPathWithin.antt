@@ -19,7 +19,7 @@ use Rattle.ipcz_node.proofs.LoneNodes.{lowest_flagged, none_flagged, rests, stan
 use Rattle.ipcz_node.proofs.LoneNodes.{written_elsewhere}
 use Rattle.ipcz_node.proofs.Written.{insert_twice}
 use Rattle.ipcz_world.specs.declared.mail.Mail.TheVariants.{Hand}
-use Rattle.ipcz_world.specs.Carrying.{HasCome}
+use Rattle.ipcz_world.specs.FastPath.{HasCome}
 use Rattle.ipcz_world.proofs.acts.Updating.{node-here, set-twice}
 use Rattle.ipcz_world.proofs.code.LoneWorlds.{sends-last, own_act}
 use Rattle.ipcz_world.proofs.code.Visiting.{OnWay}
