@@ -155,9 +155,6 @@ module _ (n first : ℕ) (words : List ℕ) (slots : List Batch) (old hands afte
         (λ other. weaken to (was.hands_are to lt) (after_at to other));
   }
 
-pub none_read : (n first : ℕ) (words : List ℕ) (slots : List Batch) (hands : List (Option Message)) (boxes : List Mail) → AreRead n first words slots hands hands 0 boxes
-none_read n first words slots hands boxes = record { boxes_are = λ mail rs j below. absurd (omega (arith, below)); hands_are = λ to lt. inl refl }
-
 -- places of slots, of which one is emptied
 pub empties : (fs : List Bool) (k : ℕ) → get_or (set fs k false) k false ≡ false
 empties [] k = refl

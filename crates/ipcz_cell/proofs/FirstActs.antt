@@ -1,7 +1,6 @@
 -- What the loads of a turn have found, and which act comes first by it.
-use Rattle.std.specs.Prelude.{◌≡◌, ◌≢◌, ◌⊎◌, ◌≤◌, ◌<◌, ◌+◌, ℕ, zero, suc, Bool, true, false, ◌&&◌, List, [], ◌∷◌, ◌++◌, ◌||◌, replicate, eqb, unwrap_or, MatchBool, MatchOption, Option, Some, None}
+use Rattle.std.specs.Prelude.{◌≡◌, ◌≢◌, ◌⊎◌, ◌≤◌, ◌<◌, ◌+◌, ℕ, zero, suc, Bool, true, false, ◌&&◌, List, [], ◌∷◌, ◌++◌, ◌||◌, replicate, unwrap_or, MatchBool, MatchOption, Option, Some, None}
 use Rattle.std.proofs.Common.{inl, inr, ⊎_elim, ap, sym, subst, ◌∙◌, refl, arith, append_assoc, append-nil}
-use Rattle.std.proofs.lemmas.Bool.Decides.{nat_tests}
 use Rattle.std.specs.Int.{bit_at}
 use mathlib.Core.Logic.{dite}
 use native.Mathlib.Decide.{ℕ_discrete, dec_lt}
@@ -99,15 +98,6 @@ pub record LooksFull (t : TableName) (old now : CellState) (inbox end : ℕ) : T
   pub looked : HasLooked found old now
   pub none : NoneLoaded t old.part.node end found
   pub clear : (from : ℕ) → bit_at inbox from ≡ 0 → WasFoundClear t old.part.node from found
-
--- at first the inbox is loaded
-pub full_none : (t : TableName) (a b : CellState) (node n : ℕ) → node ≡ a.part.node → HasSeen (inbox_word t node) n a b → LooksFull t a b n 0
-full_none t a b node n own h = record {
-  found = (inbox_word t node, n) ∷ [];
-  looked = looked_one (inbox_word t node) n a b h;
-  none = λ sender low. absurd (omega (arith, low));
-  clear = λ sender bit. record { at = n; clear = bit; load = record { before = []; after = []; there = λ j. (inbox_word t (own j), n) ∷ [] } };
-}
 
 -- senders whose bits aren't set
 pub full_pass : (t : TableName) (a b : CellState) (inbox end next : ℕ) → LooksFull t a b inbox end → ((j : ℕ) → end ≤ j → j < next → bit_at inbox j ≡ 0) → LooksFull t a b inbox next
@@ -232,24 +222,6 @@ empty_pass t a b end next l nothing = record {
 pub empty_end : (t : TableName) (a b : CellState) (end : ℕ) → t.count ≤ end → LooksEmpty t a b end → FindsEmpty t a None b
 empty_end t a b end all l = record { found = l.found; looked = l.looked; first = λ to low. l.none to (omega (arith, low, all)) }
 
--- whether a message can be posted to a node that one waits for
-pub post_probed : (t : TableName) (to : ℕ) (a : CellState) → has_mail_for a.part.state to ≡ true → has_number a.part.probed to ≡ true → CanPost t to a true a
-post_probed t to a mail e = record { found = []; looked = looked_none a; can = record { mail = mail; free = λ f. absurd (let bad = sym e ∙ f in cc) } }
-
-pub post_loaded : (t : TableName) (to n node : ℕ) (a b : CellState) → node ≡ a.part.node → has_mail_for a.part.state to ≡ true → has_number a.part.probed to ≡ false → HasSeen (mail_word t node to) n a b →
-    (r : Bool) → r ≡ eqb n 0 → CanPost t to a r b
-post_loaded t to n node a b own mail free h r is = subst (λ (z : Bool). CanPost t to a z b) (sym is) (record { found = one; looked = looked_one (mail_word t a.part.node to) n a b seen; can = go (eqb n 0) refl })
-  where
-    seen : HasSeen (mail_word t a.part.node to) n a b
-    seen = subst (λ (k : ℕ). HasSeen (mail_word t k to) n a b) own h
-
-    one : Loads
-    one = (mail_word t a.part.node to, n) ∷ []
-
-    go : (z : Bool) → eqb n 0 ≡ z → MatchBool z (IsOpen t a.part to one) (IsShut t a.part to one)
-    go true e = record { mail = mail; free = λ f. record { before = []; last = let zero_found : n ≡ 0 = grind (arith, nat_tests) in λ j. (mail_word t a.part.node to, zero_found j) ∷ [] } }
-    go false e = λ m. (free, record { at = n; other = λ z. let bad : n ≡ 0 = z in grind (arith, nat_tests); load = record { before = []; after = []; there = refl } })
-
 -- no number passes a test that none passes
 none_passes : (test : ℕ → Bool) → ((k : ℕ) → test k ≡ false) → (i count : ℕ) → first_number test i count ≡ None
 none_passes test fails i zero = refl
@@ -275,15 +247,6 @@ unfolding close_turn router_turn
 rest_first t p found act (e ∷ ends) o h is = subst (IsFirst t p found) (sym is) (subst (IsFirstElse t p found) is h)
 rest_first t p found act [] None h is = subst (IsFirst t p found) (sym is) (subst (IsFirstElse t p found) is h)
 rest_first t p found act [] (Some f) h is = subst (IsFirst t p found) (sym is) (subst (IsFirstElse t p found) is h)
-
--- the first act, by what was found
-pub hand_chosen : (t : TableName) (a : CellState) (from : ℕ) → a.part.state.hand ≡ Some from → Chooses t a (acts.Hand from) a
-hand_chosen t a sender e = record { found = []; looked = looked_none a; first = e }
-
-pub look_chosen : (t : TableName) (a b : CellState) (from : ℕ) (o : Option ℕ) → o ≡ Some from → a.part.state.hand ≡ None → FindsFull t a o b → Chooses t a (acts.Look from) b
-look_chosen t a b sender o is idle found_full =
-    let h = subst (λ (z : Option ℕ). FindsFull t a z b) is found_full in
-    record { found = h.found; looked = h.looked; first = record { inside = h.first.0; idle = idle; none = h.first.1; full = h.first.2 } }
 
 module _ (t : TableName) (a b c : CellState) (o q : Option ℕ) (none : o ≡ None) (idle : a.part.state.hand ≡ None) (full : FindsFull t a o b) (empty : FindsEmpty t b q c) where
   before : FindsFull t a None b

@@ -1,5 +1,5 @@
 -- The kinds of step, in the forms that the calls of a cell use.
-use Rattle.std.specs.Prelude.{not, ◌≡◌, ℕ, Bool, true, false, [], ◌∷◌, Option, Some, None, IsSomeAnd, Result, Ok, Err, OnOk, is_ok}
+use Rattle.std.specs.Prelude.{not, ◌≡◌, ℕ, Bool, true, false, [], ◌∷◌, Option, Some, None, IsSomeAnd}
 use Rattle.std.proofs.Common.{sym, subst, refl}
 use Rattle.ipcz_base.specs.declared.end.End.{End}
 use Rattle.ipcz_base.specs.declared.parcel.Parcel as parcels
@@ -45,8 +45,3 @@ pub acts_touch : (all : Bool) (count size slots id i : ℕ) (m : BatchMine) (p :
 acts_touch all count size slots id i m p (acts.Router serial act) is touch may serials none = let a = actor p.state serial act may serials in touches_acts (not all) all count size slots id i m p serial a.0 act is a.1 touch none
 acts_touch all count size slots id i m p (acts.Close e) is touch may serials none = pending_closes (not all) all count size slots id i m p e is may
 acts_touch all count size slots id i m p other is touch may serials none = absurd cc
-
--- what holds of an answer that is Ok
-pub holds_of_ok : {A B : Type 0} {P : Type 0} (r : Result A B) → is_ok r ≡ true → OnOk r P → P
-holds_of_ok (Ok a) e h = h
-holds_of_ok (Err b) e h = absurd cc

@@ -1,5 +1,5 @@
 -- A seat looks for a slot, all round from one on: what it has looked at in vain.
-use Rattle.std.specs.Prelude.{◌≡◌, ◌≢◌, ◌≤◌, ◌<◌, ◌⊎◌, ◌+◌, ℕ, true, List, [], ◌∷◌, ◌++◌, refl}
+use Rattle.std.specs.Prelude.{◌≡◌, ◌≢◌, ◌≤◌, ◌<◌, ◌⊎◌, ◌+◌, ℕ, true, List, ◌∷◌, ◌++◌}
 use Rattle.std.proofs.Common.{arith, ap, ◌∙◌, inl, inr, ⊎_elim}
 use mathlib.Core.Logic.{dite}
 use native.Mathlib.Decide.{ℕ_discrete}
@@ -18,16 +18,6 @@ IsBehind slots first tried p = (p ≡ first + tried) ⊎ (p + slots ≡ first + 
 abbrev pub HasLooked : (slots first tried : ℕ) → List ℕ → List ℕ → Type 0
 HasLooked slots first tried old new =
     (more : List ℕ) × (new ≡ more ++ old) × ((p : ℕ) → p < slots → IsAmong slots first tried p → has_number more p ≡ true)
-
-pub none_looked : (slots first : ℕ) (old : List ℕ) → first < slots → HasLooked slots first 0 old old
-none_looked slots first old inside = (
-  [],
-  refl,
-  λ p low among. absurd (⊎_elim
-      (λ (h : (first ≤ p) × (p < first + 0)). let a = h.0 in let b = h.1 in omega (arith, a, b))
-      (λ (h : p + slots < first + 0). omega (arith, h, inside))
-      among),
-)
 
 -- the next one is another, or the slot behind them
 among_more : (slots first tried at p : ℕ) → p < slots → at < slots → IsBehind slots first tried at → IsAmong slots first (tried + 1) p → p ≢ at → IsAmong slots first tried p

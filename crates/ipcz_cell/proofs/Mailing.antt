@@ -202,13 +202,3 @@ look_tells {l} i i' k sender found x xs me m1 m3 room room' old view one at none
           (ap (λ (v : View). v.seen) same ∙ (ap (λ (m : BatchMine). m.0.seen) done ∙ (λ j. me.0.seen ++ (at j, one j) ∷ []))),
     ) in
     subst (λ (o : CellState). HasTaken i sender o new) view here
-
--- and what one tells that took the next message of a batch
-pub look_on_tells : (i from : ℕ) (old new : CellState) → has_batch old.part from ≡ true → new.part ≡ looked_on_part from old.part → new.seen ≡ old.seen → HasTaken i from old new
-look_on_tells i sender old new left part seen =
-    let w = has_more (batch_from old.part sender) left in (
-      w.0,
-      w.1,
-      part ∙ ap (λ (b : Batch). part_looked_on sender b old.part) w.2,
-      subst (λ (b : Bool). MatchBool b ((batch_from old.part sender ≡ w.0 ∷ w.1) × (new.seen ≡ old.seen)) (new.seen ≡ old.seen ++ (i, 1) ∷ [])) (sym left) (w.2, seen),
-    )

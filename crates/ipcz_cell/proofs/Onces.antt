@@ -152,11 +152,6 @@ set_without s later xs y is less = λ n small. less n small ∙ dite (ℕ_discre
     (λ other. (let e : nat_eq y n ≡ false = grind (arith, nat_tests, other) in ap (λ (b : Bool). not b && has_node s n) e)
     ∙ (is n small ∙ sym (without_other xs y n other)))
 
--- the lowest node of a set is the lowest number of its list
-pub set_lowest : (s : NodeSet) (xs : List ℕ) (low : ℕ) → AreBelow 64 xs → IsSetOf s xs → ((n : ℕ) → 0 ≤ n → n < low → has_node s n ≡ false) →
-    (j : ℕ) → has_number xs j ≡ true → low ≤ j
-set_lowest s xs low below is none j has = dite (dec_lt j low) (λ less. absurd (let no = sym (none j (omega arith) less) ∙ (in_set s xs j below is ∙ has) in cc)) (λ more. omega (arith, more))
-
 -- a set without nodes is that of no number
 pub set_empty : (s : NodeSet) (xs : List ℕ) → AreBelow 64 xs → IsSetOf s xs → ((n : ℕ) → 0 ≤ n → n < 64 → has_node s n ≡ false) → xs ≡ []
 set_empty s [] below is none = refl

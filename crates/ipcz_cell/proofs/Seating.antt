@@ -49,12 +49,6 @@ module _ (t : TableName) (n : Node) (id : TableId) (me : BatchMine) (was : IsSea
         sound = sound;
       }
 
-  -- the same seat
-  pub stays_seated : (n' : Node) (id' : TableId) (me' : BatchMine) → id' ≡ id → me' ≡ me → n' ≡ n → IsSeated t n' id' me'
-  stays_seated n' id' me' same done state =
-      let named : IsSeated t n id' me = record { named = same ∙ was.named; whole = was.whole; state = was.state; sound = was.sound } in
-      subst (λ (m : BatchMine). IsSeated t n' id' m) (sym done) (subst (λ (z : Node). IsSeated t z id' me) (sym state) named)
-
 -- a cell is sound
 pub cell_sound : (t : TableName) (n : Node) (hand : Option Message) (tos senders : List ℕ) (id : TableId) (me : BatchMine) (c : CellState) → IsCell t n hand tos senders id me → part_in me.0 ≡ c.part → IsSoundCell t c
 cell_sound t n hand tos senders id me c was is = record {

@@ -26,7 +26,7 @@ use Rattle.ipcz_cell.specs.TableNames.{TableName, IsLaidOut}
 use Rattle.ipcz_cell.specs.CellStates.{part_in}
 use Rattle.ipcz_cell.specs.Cells.{AreSound}
 use Rattle.ipcz_cell.specs.Words.{CanWord}
-use Rattle.ipcz_cell.specs.Seats.{mine_of, sizes_of, Keeps, IsSlotted, Taken, Emptied, Returned, HasNoSlots}
+use Rattle.ipcz_cell.specs.Seats.{mine_of, sizes_of, Keeps, IsSlotted, Taken, Emptied, Returned}
 use Rattle.ipcz_cell.proofs.Telling.{tells, at_inside, sound_at}
 
 -- what a step tells of a seat, and that its slots stay
@@ -156,10 +156,6 @@ slots_are n w k r slots word z t id m f told dirty free looked en ew ek er es at
 -- a seat that has no slot has none where its slots stay
 pub none_then : {d f l d' f' l' : List ℕ} → (d' ≡ d) × (f' ≡ f) × (l' ≡ l) → (d ≡ []) × (f ≡ []) → (d' ≡ []) × (f' ≡ [])
 none_then stay none = (stay.0 ∙ none.0, stay.1 ∙ none.1)
-
--- nor where its view stays
-pub none_with : (o : Own View) (m : Me Batch (Own View)) (held : List (ℕ × Batch)) → m ≡ (o, held) → HasNoSlots o → HasNoSlots m.0
-none_with o m held e none = subst (λ (q : Me Batch (Own View)). HasNoSlots q.0) (sym e) none
 
 -- nor behind a claim that found its count
 pub none_claimed : (k count : ℕ) (A B : Type 0) → k ≡ count → MatchBool (eqb k count) A B → A

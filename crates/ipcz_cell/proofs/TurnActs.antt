@@ -114,14 +114,6 @@ post_acts t to old mid new h part seen =
     let k = probed_there t (has_number old.part.probed to) word to old mid refl h in
     acts_whole t (acts.Post to) old new (events.Post to) (probe_seen (has_number old.part.probed to) word) (seen ∙ k.0) tt (record { answer = answers.Plain; answered = (refl, refl); part = part ∙ k.1; event_is = refl })
 
-pub post_lost : (t : TableName) (to : ℕ) (old new : CellState) → Probes (mail_word t old.part.node to) to old false new → Acts t (acts.Post to) old (Err refusals.Raced) new
-post_lost t to old new h = record {
-  found = (mail_word t old.part.node to, h.1.0) ∷ [];
-  seen = h.1.2.seen;
-  looks = tt;
-  outcome = (h.1.2.part, LostIt refl (h.1.0, h.1.1, h.0, refl));
-}
-
 -- an act that touches no word and no mailbox is answered nothing and sees nothing
 touch_done : (t : TableName) (p p' : Part) (act : Act) (event : Happened) → is_touch_act act ≡ true → p' ≡ act_part act answers.Plain p → event ≡ event_of p.state act answers.Plain → IsDone t p act event p' []
 touch_done t p p' (acts.Close end) event touch part is = record { answer = answers.Plain; answered = (refl, refl); part = part; event_is = is }
@@ -225,15 +217,6 @@ pub wake_refused : (t : TableName) (serial : ℕ) (old new : CellState) (why : R
     Acts t (acts.Router serial router_acts.Wake) old (Err why) new
 unfolding stand_in
 wake_refused t serial old new why part seen is grows = prepare_refused t (acts.Router serial router_acts.Wake) old new why refl refl (λ g. g) refl part seen is grows
-
--- a begin or a retire that is refused wants serials
-pub held_refused : (t : TableName) (serial : ℕ) (act : RouterAct) (old new : CellState) (why : Refusal) → why ≢ refusals.OutOfMemory → new.part ≡ old.part → new.seen ≡ old.seen →
-    why ≡ (if act_lacks_serials old.part.state (acts.Router serial act) then refusals.NumbersEnd else refusals.OutOfMemory) → Acts t (acts.Router serial act) old (Err why) new
-held_refused t serial act old new why not part seen is = record { found = []; seen = seen ∙ sym (append-nil old.seen); looks = looks_none t (acts.Router serial act) old.looked new.looked; outcome = (part, go (act_lacks_serials old.part.state (acts.Router serial act)) refl) }
-  where
-    go : (b : Bool) → act_lacks_serials old.part.state (acts.Router serial act) ≡ b → IsRefused t.size old.part (acts.Router serial act) (IsLost t old.part (acts.Router serial act) []) why []
-    go true e = NoSerials (is ∙ ap (λ (b : Bool). if b then refusals.NumbersEnd else refusals.OutOfMemory) e) e refl
-    go false e = absurd (not (is ∙ ap (λ (b : Bool). if b then refusals.NumbersEnd else refusals.OutOfMemory) e))
 
 -- a begin and a retire are done under the lock: each is a touch, and an unlock stands in for it
 pub held_touch : (act : RouterAct) → (act ≡ router_acts.Begin) ⊎ (act ≡ router_acts.Retire) → is_wordless act ≡ true

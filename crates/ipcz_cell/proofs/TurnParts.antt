@@ -122,17 +122,6 @@ claim_dries t serial old new why dry may (HadNoSlot c e again less part seen non
     })
 claim_dries t serial old new why dry may (WasLost n found e other part seen) = absurd (let bad : refusals.NoWord ≡ refusals.Raced = sym dry ∙ ap (refusal_in why) e in cc)
 
-pub claim_lost : (t : TableName) (serial : ℕ) (old new : CellState) (why : Refusal) → why ≢ refusals.NoWord → Answered t serial old new (Err why) → Acts t (acts.Router serial router_acts.Claim) old (Err why) new
-claim_lost t serial old new why not (Claimed c n e number reached part seen) = cc
-claim_lost t serial old new why not (WasDry e part seen) = absurd (not (ap (refusal_in why) e))
-claim_lost t serial old new why not (HadNoSlot c e again less part seen none) = absurd (not (ap (refusal_in why) e))
-claim_lost t serial old new why not (WasLost n found e other part seen) = record {
-  found = (t.size, n) ∷ (t.size, found) ∷ [];
-  seen = seen ∙ seen_two old.seen (t.size, n) (t.size, found);
-  looks = λ k e low. cc;
-  outcome = (part, LostIt (ap (refusal_in why) e) (n, found, other, refl));
-}
-
 -- an act that was lost to another thread ends with a load and an exchange of one word
 ends_with : (t : TableName) (p : Part) (loads found before : Seen) (word n m : ℕ) → IsWaitedFor t.count t.size p word n → m ≢ n → loads ≡ before ++ (word, n) ∷ [] →
     found ≡ (word, m) ∷ [] → EndsRaced t p (loads ++ found)

@@ -1,10 +1,9 @@
 -- What a turn tells of an act on a link's word: its event, its answer and what was seen.
-use Rattle.std.specs.Prelude.{◌≡◌, ℕ, List, [], ◌∷◌, ◌++◌, Option, Some, None, option_map, Ok, Err}
+use Rattle.std.specs.Prelude.{◌≡◌, ℕ, List, [], ◌∷◌, ◌++◌, Option, Some, None, option_map, Ok}
 use Rattle.std.proofs.Common.{ap, sym, ◌∙◌, refl, inl, append_assoc}
 use Rattle.ipcz_base.specs.declared.link_end.LinkEnd.{LinkEnd}
 use Rattle.ipcz_base.specs.declared.link_id.LinkId.{LinkId}
 use Rattle.ipcz_base.specs.declared.link_id.LinkId.TheVariants.{Central, Peripheral}
-use Rattle.ipcz_base.specs.declared.refusal.Refusal.{Refusal}
 use Rattle.ipcz_base.specs.declared.side.Side.{Side}
 use Rattle.ipcz_word.specs.Layout.{word_of_bits, bits_of, plan_bits}
 use Rattle.ipcz_word.specs.Word.{Word, Plan, Locks, Waits, Refuses, plan_of, word_by_plan, lock, wait}
@@ -28,7 +27,7 @@ use Rattle.ipcz_cell.specs.TableNames.{TableName}
 use Rattle.ipcz_cell.specs.CellStates.{CellState}
 use Rattle.ipcz_cell.specs.Words.{ActsOnWord, LocksWord, lock_seen}
 use Rattle.ipcz_cell.specs.declared.words.LockTry.{LockTry}
-use Rattle.ipcz_cell.specs.TurnEnds.{try_event, FoundWord, IsAnswered, LostIt, LooksFor, Acts}
+use Rattle.ipcz_cell.specs.TurnEnds.{try_event, FoundWord, IsAnswered, LooksFor, Acts}
 
 abbrev Loads : Type 0
 Loads = List (ℕ × ℕ)
@@ -183,14 +182,4 @@ lock_acts t serial old new try event h e =
           event_is = e ∙ ((λ j. try_event serial (told.0 j) (told.1 j) (tried.0 j)) ∙ lock_event old.part.state serial h.word h.loaded (source_in old.part.state serial) h.side h.named h.is_word);
         };
       };
-    }
-
-pub lock_lost : (t : TableName) (serial : ℕ) (old new : CellState) (why : Refusal) → LocksWord t.size serial old (Err why) new → Acts t (acts.Router serial router_acts.Lock) old (Err why) new
-lock_lost t serial old new why h =
-    let tried = h.tried in
-    let seen = (h.word, h.loaded) ∷ (h.word, tried.1.0) ∷ [] in record {
-      found = seen;
-      seen = tried.1.3 ∙ seen_two old.seen (h.word, h.loaded) (h.word, tried.1.0);
-      looks = tt;
-      outcome = (tried.1.2, LostIt tried.0 (h.word, h.loaded, tried.1.0, h.side, h.named, h.inside, tried.1.1, refl));
     }

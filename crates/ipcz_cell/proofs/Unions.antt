@@ -1,13 +1,11 @@
 -- Cells that are taken apart, one after the other, into one seat.
 use Rattle.std.specs.Prelude.{◌≡◌, List, [], ◌∷◌, ◌++◌, map, Option, Some, option_to_list}
-use Rattle.std.proofs.Common.{ap, ◌∙◌, sym, append-nil, append_assoc}
-use Rattle.std.proofs.lemmas.List.{map-append}
+use Rattle.std.proofs.Common.{ap, ◌∙◌, sym}
 use Rattle.ipcz_base.specs.declared.message.Message.{Message}
 use Rattle.ipcz_node.specs.Node.{Node}
 use Rattle.ipcz_node.specs.RoomyNodes.{RoomyNode}
 use Rattle.ipcz_rule.specs.declared.view.View.{View}
 use Rattle.ipcz_rule.specs.declared.view.Part.{Part}
-use Rattle.ipcz_rule.specs.Kinds.{together}
 use Rattle.ipcz_rule.specs.End.{rested, states_of}
 use Rattle.ipcz_cell.specs.CellStates.{CellState}
 use Rattle.ipcz_cell.specs.Ending.{parts_of}
@@ -33,36 +31,6 @@ union_first all left c v states new_states hands new_hands k m is at no_states n
   messages = ap (λ (l : List (Option Message)). l ++ messages_of (parts_of left)) (more_hands ∙ ap (λ (l : List (Option Message)). l ++ m ∷ []) no_hands)
       ∙ (ap (λ (o : Option Message). o ∷ messages_of (parts_of left)) message ∙ ap (λ (l : List CellState). messages_of (parts_of l)) (sym is));
 }
-
--- one cell more
-pub union_more : (all old left : List CellState) (c : CellState) (v w u : View) (states new_states : List RoomyNode) (hands new_hands : List (Option Message)) (k : RoomyNode) (m : Option Message) →
-    IsUnion all old v states hands → old ≡ c ∷ left → w.parts ≡ rested c.part ∷ [] → u ≡ together v w → k.node ≡ c.part.state → m ≡ c.part.message →
-    new_states ≡ states ++ k ∷ [] → new_hands ≡ hands ++ m ∷ [] → IsUnion all left u new_states new_hands
-union_more all old left c v w u states new_states hands new_hands k m was is at joined node message more_states more_hands = record {
-  parts = ap (λ (z : View). z.parts ++ map rested (parts_of left)) joined ∙ (ap (λ (l : List Part). (v.parts ++ l) ++ map rested (parts_of left)) at
-      ∙ (append_assoc v.parts (rested c.part ∷ []) (map rested (parts_of left))
-      ∙ (ap (λ (l : List CellState). v.parts ++ map rested (parts_of l)) (sym is) ∙ was.parts)));
-  nodes = ap (λ (l : List RoomyNode). nodes_of l ++ states_of (parts_of left)) more_states
-      ∙ (ap (λ (l : List Node). l ++ states_of (parts_of left)) (map-append (λ (x : RoomyNode). x.node) states (k ∷ []))
-      ∙ (append_assoc (nodes_of states) (k.node ∷ []) (states_of (parts_of left))
-      ∙ (ap (λ (n : Node). nodes_of states ++ n ∷ states_of (parts_of left)) node
-      ∙ (ap (λ (l : List CellState). nodes_of states ++ states_of (parts_of l)) (sym is) ∙ was.nodes))));
-  messages = ap (λ (l : List (Option Message)). l ++ messages_of (parts_of left)) more_hands
-      ∙ (append_assoc hands (m ∷ []) (messages_of (parts_of left))
-      ∙ (ap (λ (o : Option Message). hands ++ o ∷ messages_of (parts_of left)) message
-      ∙ (ap (λ (l : List CellState). hands ++ messages_of (parts_of l)) (sym is) ∙ was.messages)));
-}
-
--- none is left
-pub union_all : (all left : List CellState) (v : View) (states : List RoomyNode) (hands : List (Option Message)) → IsUnion all left v states hands → left ≡ [] →
-    (v.parts ≡ map rested (parts_of all)) × ((nodes_of states ≡ states_of (parts_of all)) × (hands ≡ messages_of (parts_of all)))
-union_all all left v states hands was none_left = (
-  sym (append-nil v.parts) ∙ (ap (λ (l : List CellState). v.parts ++ map rested (parts_of l)) (sym none_left) ∙ was.parts),
-  (
-    sym (append-nil (nodes_of states)) ∙ (ap (λ (l : List CellState). nodes_of states ++ states_of (parts_of l)) (sym none_left) ∙ was.nodes),
-    sym (append-nil hands) ∙ (ap (λ (l : List CellState). hands ++ messages_of (parts_of l)) (sym none_left) ∙ was.messages),
-  ),
-)
 
 -- the first cell is taken out
 pub cell_taken : (old new : List CellState) (r : Option CellState) (c : CellState) → old ≡ option_to_list r ++ new → r ≡ Some c → old ≡ c ∷ new

@@ -76,19 +76,6 @@ hand_found w n name found o is there same (acts.Hand sender) e can =
     ap (option_map acts.Hand) (sym same ∙ there ∙ hand_there w n sender can)
 hand_found w n name found o is there same act e can = absurd (omega (arith, ap letter (e ∙ is)))
 
--- and each other name is of one act
-abbrev pub act_as : Named → Option Act
-act_as named.Hand = None
-act_as (named.Look sender) = Some (acts.Look sender)
-act_as (named.Post to) = Some (acts.Post to)
-act_as (named.Close end) = Some (acts.Close end)
-act_as (named.Router serial act) = Some (acts.Router serial act)
-act_as named.Idle = Some acts.Idle
-
-pub named_act : (name : Named) (a : Act) → act_as name ≡ Some a → (act : Act) → name_of act ≡ name → Some a ≡ Some act
-named_act name a is (acts.Hand sender) e = absurd (let none : None ≡ Some a = ap act_as e ∙ is in cc)
-named_act name a is act e = sym is ∙ ap act_as (sym e)
-
 -- of the acts that can be taken there, each has a name of its own
 act_one : (w : World) (n : ℕ) (a b : Act) → name_of a ≡ name_of b → can_take w n a ≡ true → can_take w n b ≡ true → a ≡ b
 act_one w n (acts.Hand i) (acts.Hand j) name one two =

@@ -15,9 +15,6 @@ module _ (n : Node) (node : ℕ) (before : List PortalValue) where
     pub portals : now ≡ before ++ portals_at node ends
     pub all : (rest : List End) → AreHeldFrom n from rest → AreHeldFrom n 0 (ends ++ rest)
 
-  pub walk_start : IsWalked 0 before
-  walk_start = record { ends = []; portals = sym (append-nil before); all = λ rest h. h }
-
   pub walk_more : (from serial : ℕ) (end : End) (now after : List PortalValue) → IsWalked from now → IsNextHeld n from (Some (serial, end)) →
       after ≡ now ++ portal_at node end ∷ [] → IsWalked (serial + 1) after
   walk_more from serial end now after w next more = record {

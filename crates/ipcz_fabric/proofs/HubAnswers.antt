@@ -1,5 +1,5 @@
 -- What the calls of a hub answer, if the calls of its cells answer so.
-use Rattle.std.specs.Prelude.{◌≡◌, ◌<◌, ◌≤◌, ◌⊎◌, ℕ, List, Bool, true, false, if◌then◌else◌, Option, Some, None, Result, Ok, Err, IfOk, IfErr, unwrap_or}
+use Rattle.std.specs.Prelude.{◌≡◌, ◌<◌, ℕ, Bool, true, false, if◌then◌else◌, Option, Some, None, Result, Ok, Err, IfOk, IfErr, unwrap_or}
 use Rattle.std.proofs.Common.{arith, ap, sym, subst, ◌∙◌, inl, inr}
 use Rattle.ipcz_base.specs.declared.end.End.{End}
 use Rattle.ipcz_base.specs.declared.refusal.Refusal.{Refusal}
@@ -7,11 +7,7 @@ use Rattle.ipcz_base.specs.declared.refusal.Refusal.TheVariants as refusals
 use Rattle.ipcz_base.specs.Limits.{has_serials}
 use Rattle.ipcz_cell.specs.CellStates.{CellState}
 use Rattle.ipcz_cell.specs.TableNames.{TableName}
-use Rattle.ipcz_node.specs.declared.act.Act.{Act}
-use Rattle.ipcz_rule.specs.declared.view.Part.{Part}
-use Rattle.ipcz_cell.specs.TurnEnds.{IsRefused, NoSerials, NoMemory, LostIt}
-use Rattle.ipcz_cell.specs.TurnChains.{IsIdleTurn, RunsTurns}
-use Rattle.ipcz_fabric.specs.Hubs.{ArePair, IsOpenRefusal, IsTurnRefusal, LeavesOpened, OpensPortals, opened_portals}
+use Rattle.ipcz_fabric.specs.Hubs.{ArePair, IsOpenRefusal, LeavesOpened, OpensPortals, opened_portals}
 use Rattle.ipcz_cell.specs.Opens.{OpensPair, OpensWord, UnderWay, Fresh, NoneLeft, NoSlot, Unready, Lost}
 use Rattle.ipcz_fabric.specs.Portals.{PortalValue, portal_at}
 
@@ -102,22 +98,3 @@ pub portals_node : (size node : ℕ) (answer : Result (PortalValue × PortalValu
     IfOk answer (λ (p : PortalValue × PortalValue). (p.0.node ≡ node) × (p.1.node ≡ node))
 portals_node size node (Ok portals) pair = (ap (λ (p : PortalValue × PortalValue). p.0.node) pair.are, ap (λ (p : PortalValue × PortalValue). p.1.node) pair.are)
 portals_node size node (Err why) pair = tt
-
--- a turn is refused for one of these
-turn_why : (size : ℕ) (p : Part) (act : Act) (L : Type 0) (why : Refusal) (seen : List (ℕ × ℕ)) → IsRefused size p act L why seen → IsTurnRefusal why
-turn_why size p act L why seen (NoSerials e lacks before) = inl e
-turn_why size p act L why seen (NoMemory e lacks grows alone before) = inr (inl e)
-turn_why size p act L why seen (LostIt e lost) = inr (inr e)
-
--- so are turns one after the other, which are no more than their limit
-pub turns_refused : (t : TableName) (limit : ℕ) (old new : CellState) (answer : Result ℕ Refusal) → RunsTurns t limit old answer new → IfErr answer IsTurnRefusal
-turns_refused t limit old new (Ok number) runs = tt
-turns_refused t limit old new (Err why) runs = let last = runs.end.1 in turn_why t.size runs.last.part last.act _ why last.found last.outcome.1
-
-pub turns_few : (t : TableName) (limit : ℕ) (old new : CellState) (answer : Result ℕ Refusal) → RunsTurns t limit old answer new → IfOk answer (λ n. n ≤ limit)
-turns_few t limit old new (Ok number) runs = few runs.end.1
-  where
-    few : ((number ≡ limit) × (new ≡ runs.last)) ⊎ ((number < limit) × IsIdleTurn t runs.last new) → number ≤ limit
-    few (inl full) = let is = full.0 in omega (arith, is)
-    few (inr idle) = let below = idle.0 in omega (arith, below)
-turns_few t limit old new (Err why) runs = tt

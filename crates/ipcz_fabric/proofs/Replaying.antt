@@ -1,5 +1,5 @@
 -- A call more that is written down: what was reached, and what its caller knows.
-use Rattle.std.proofs.Common.{◌≡◌, ◌<◌, ℕ, List, [], ◌∷◌, ◌++◌, refl, sym, subst, ap, ◌∙◌, append_assoc}
+use Rattle.std.proofs.Common.{◌≡◌, ℕ, List, [], ◌∷◌, ◌++◌, refl, sym, subst, ap, ◌∙◌, append_assoc}
 use Rattle.std.proofs.lemmas.List.{append-nil}
 use Rattle.std.specs.Prelude.{None, Some, Result, Ok, Err, MatchResult, OnOk, OnErr, IfOk, IfErr, unwrap_or}
 use Rattle.ipcz_base.specs.declared.end.End.{End}
@@ -16,7 +16,6 @@ use Rattle.ipcz_rule.specs.Histories.{entry_of, noted}
 use Rattle.ipcz_rule.specs.Steps.{put_part, close_part}
 use Rattle.ipcz_cell.specs.Callers.{IsWritten}
 use Rattle.ipcz_cell.specs.CellStates.{CellState}
-use Rattle.ipcz_cell.specs.Cells.{IsSoundCell}
 use Rattle.ipcz_cell.specs.Parts.{got_part}
 use Rattle.ipcz_cell.specs.TableNames.{TableName}
 use Rattle.ipcz_fabric.specs.Places.{IsCellOf, IsRefusedInOrder}
@@ -159,10 +158,3 @@ noted_node e p q is = ap (λ (x : Part). x.node) is
 
 pub here_is : (o old : CellState) → o ≡ old → o.part.node ≡ old.part.node
 here_is o old is = ap (λ (x : CellState). x.part.node) is
-
--- the node of a cell is the one that it is of
-pub own_cell : (t : TableName) (node : ℕ) (c : CellState) → IsCellOf t node c → IsCellOf t c.part.node c
-own_cell t node c here = record { node_is = refl; inside = subst (λ (n : ℕ). n < t.count) (sym here.node_is) here.inside; sound = here.sound }
-
-pub sound_cell : (t : TableName) (c : CellState) → IsSoundCell t c → IsCellOf t c.part.node c
-sound_cell t c sound = record { node_is = refl; inside = sound.inside; sound = sound }

@@ -1,5 +1,5 @@
 -- A walk over the routers of a node that lets each dry one ask again.
-use Rattle.std.proofs.Common.{◌≡◌, ◌⊎◌, ◌≤◌, ◌<◌, ◌+◌, ℕ, suc, Bool, true, false, cond, Some, None, refl, sym, ◌∙◌, ap, subst, arith, inl, inr}
+use Rattle.std.proofs.Common.{◌≡◌, ◌⊎◌, ◌≤◌, ◌<◌, ◌+◌, ℕ, suc, Bool, true, false, cond, Some, refl, sym, ◌∙◌, ap, subst, arith, inl, inr}
 use Rattle.std.specs.Ordering.{nat_cmp, eq_by_cmp}
 use Rattle.std.specs.Cmp.{nat_cmp_total}
 use Rattle.std.specs.FinMap.{get, get-insert}
@@ -9,7 +9,7 @@ use Rattle.ipcz_seq.proofs.Pairs.{one_or_two}
 use Rattle.ipcz_router.specs.Router.{Router}
 use Rattle.ipcz_router.specs.ActEffects.{rewet}
 use Rattle.ipcz_node.specs.Node.{Node, router_in, with_router, on_router}
-use Rattle.ipcz_node.specs.Finding.{IsNext, rewet_node, LetAsk, HasNoDry}
+use Rattle.ipcz_node.specs.Finding.{IsNext, rewet_node, LetAsk}
 
 -- so many have been let ask, and none below a serial is dry now
 pub record IsAskedTo (n : Node) (end count from : ℕ) (m : Node) : Type 0 where
@@ -61,10 +61,3 @@ asked_more n end count from m s e is next low = record {
       | inl t ↦ is.wet q x t at
       | inr t ↦ absurd (other (omega (arith, below, next.first q x t at e)))
     ]
-
--- none is left
-pub asked_all : (n : Node) (end count from : ℕ) (m : Node) → IsAskedTo n end count from m → IsNext (router_in m) (λ r. r.dry) from None → HasNoDry m
-asked_all n end count from m is next = λ s r at. elim (cases_lt s from) [
-  | inl t ↦ is.wet s r t at
-  | inr t ↦ next s r t at
-]

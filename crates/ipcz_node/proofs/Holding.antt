@@ -1,22 +1,18 @@
 -- That there is room to hold the ends which wait in the in queues, after each change of a router.
 use Rattle.std.proofs.Common.{◌≡◌, ℕ, ◌+◌, ◌-◌, ◌<◌, ◌≤◌, Bool, true, false, if◌then◌else◌, length, Option, Some, None, refl, sym, ◌∙◌, ap}
 use Rattle.std.proofs.Common.{arith, true≢false}
-use Rattle.std.specs.Prelude.{is_none, is_some, nat_le, nat_lt}
-use Rattle.std.proofs.lemmas.Bool.Decides.{nat_tests}
+use Rattle.std.specs.Prelude.{is_none, nat_le, nat_lt}
 use Rattle.std.specs.Ordering.{nat_cmp}
 use Rattle.std.specs.Cmp.{nat_cmp_total}
 use Rattle.std.specs.FinMap.{FinMap, get, insert, remove, empty, nat_cmp-IsAntisymmetric}
-use Rattle.ipcz_base.specs.declared.side.Side.{Side}
-use Rattle.ipcz_base.specs.declared.link_id.LinkId.{LinkId}
 use Rattle.ipcz_base.specs.declared.item.Item.{Item}
-use Rattle.ipcz_base.specs.declared.refusal.Refusal.TheVariants.{OutOfMemory, Stranger}
 use Rattle.ipcz_base.specs.Items.{ends_in}
 use Rattle.ipcz_base.specs.Limits.{no_number}
 use Rattle.ipcz_base.specs.Totals.{total}
 use Rattle.ipcz_base.proofs.Totals.{total-insert, total-insert_new, total-remove, total-empty}
-use Rattle.ipcz_seq.specs.Queue.{Queue, queue_from, current_item, item_at, has_place, push_refusal}
-use Rattle.ipcz_router.specs.Router.{Router, outward_has, inward_has}
-use Rattle.ipcz_router.specs.Calls.{has_place_for, accept, accept_refusal, take_item}
+use Rattle.ipcz_seq.specs.Queue.{Queue, queue_from, current_item, has_place}
+use Rattle.ipcz_router.specs.Router.{Router}
+use Rattle.ipcz_router.specs.Calls.{has_place_for, accept, take_item}
 use Rattle.ipcz_router.specs.Acts.{way_in}
 use Rattle.ipcz_router.specs.ActEffects.{apply, output_of, item_output, discard_output}
 use Rattle.ipcz_router.specs.declared.act.RouterAct.{RouterAct}
@@ -25,7 +21,7 @@ use Rattle.ipcz_router.specs.declared.act.RouterAct.TheVariants.{Lock}
 use Rattle.ipcz_router.specs.declared.act.Answer.{Answer}
 use Rattle.ipcz_router.specs.declared.act.Answer.TheVariants.{Plain}
 use Rattle.ipcz_node.specs.Directories.{CanHold, ends_inside, ends_brought, ends_taken, takes_inside, ends_given}
-use Rattle.ipcz_node.proofs.Refiling.{first_of_both, second_of_both}
+use Rattle.ipcz_node.proofs.Refiling.{second_of_both}
 use Rattle.ipcz_node.proofs.Written.{remove_absent}
 use Rattle.ipcz_base.specs.declared.link_end.LinkEnd.{LinkEnd}
 
@@ -153,24 +149,3 @@ act_inside r Mark Plain = omega arith
 act_inside r Claim Plain = omega arith
 act_inside r Lock Plain = omega arith
 act_inside r other a = omega arith
-
--- if ends are to come, only memory is wanted
-pub brought_refusal : (r : Router) (link : LinkId) (side : Side) (n : ℕ) (item : Item) →
-    0 < ends_brought r (outward_has r link side) n item → OutOfMemory ≡ accept_refusal r link side n
-brought_refusal r link side n item some = go (outward_has r link side) some
-  where
-    free : (q : Queue Item) → has_place q n ≡ true → push_refusal q n ≡ OutOfMemory
-    free q h =
-        let low : nat_lt n q.current ≡ false = (let le = first_of_both (nat_le q.current n) _ h in grind (arith, nat_tests)) in
-        let none : is_some (item_at q n) ≡ false = ap is_some (free_number q n h) in
-        rw (low, none) refl
-
-    go : (b : Bool) → 0 < ends_brought r b n item → OutOfMemory ≡
-        (if b then push_refusal r.in_queue n else if inward_has r link side then push_refusal r.out_queue n else Stranger)
-    go false some = absurd (omega (arith, some))
-    go true some = at (has_place_for r true n) refl some
-      where
-        at : (p : Bool) → has_place_for r true n ≡ p → 0 < (if p then length (ends_in item) else 0) →
-            OutOfMemory ≡ push_refusal r.in_queue n
-        at false is some = absurd (omega (arith, some))
-        at true is some = sym (free r.in_queue (second_of_both (nat_lt n no_number) _ is))

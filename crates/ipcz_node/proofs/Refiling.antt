@@ -297,9 +297,6 @@ same_links f = omega (arith, own_outward f, own_outward_decaying f, own_inward f
 pub same_standing : (r : Router) → FilesWithin 0 r r
 same_standing r = record { few = omega (arith, same_links (filing_of r)); closes = λ h. h; stays = refl }
 
-pub put_standing : (r : Router) (item : Item) → FilesWithin 0 r (put_item r item)
-put_standing r item = record { few = omega (arith, same_links (filing_of r)); closes = λ h. h; stays = refl }
-
 pub accept_standing : (r : Router) (from_outward : Bool) (n : ℕ) (item : Item) → FilesWithin 0 r (accept r from_outward n item)
 unfolding accept
 accept_standing r true n item = record { few = omega (arith, same_links (filing_of r)); closes = λ h. h; stays = refl }

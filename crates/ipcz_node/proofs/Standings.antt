@@ -6,7 +6,6 @@ use Rattle.ipcz_base.specs.declared.message.Message.TheVariants as messages
 use Rattle.ipcz_base.specs.Links.{central_end}
 use Rattle.ipcz_edge.specs.Edge.{Edge}
 use Rattle.ipcz_router.specs.Router.{Router, is_terminal}
-use Rattle.ipcz_router.specs.Calls.{take_item}
 use Rattle.ipcz_router.specs.Closing.{close_router}
 use Rattle.ipcz_router.specs.Filings.{filing_of}
 use Rattle.ipcz_router.specs.Bypass.{accept_bypass, stop_proxying, proxy_will_stop}
@@ -76,9 +75,6 @@ pub hear_inside : (r : Router) (sender : ℕ) (m : Message) → ends_inside (hea
 unfolding hear
 hear_inside r sender (messages.Item link side number item moves) = refl
 hear_inside r sender other = refl
-
-pub take_standing : (r : Router) → FilesWithin 0 r (take_item r)
-take_standing r = record { few = omega (arith, same_links (filing_of r)); closes = λ h. h; stays = refl }
 
 pub close_standing : (r : Router) → FilesWithin 0 r (close_router r)
 close_standing r = record { few = omega (arith, same_links (filing_of r)); closes = λ h. closed (is_terminal r); stays = refl }

@@ -6,14 +6,6 @@ use Rattle.ipcz_script.specs.Labels.{Labels, bind_pair, bind_pairs}
 use Rattle.ipcz_script.specs.Sessions.{Session}
 use Rattle.ipcz_script.specs.Sessions as sessions
 
--- the pairs of a node with none, or with some
-pub pairs-none : (i j left : ℕ) → left ≡ 0 → pairs_from i j left ≡ []
-pairs-none i j left e = ap (pairs_from i j) e
-
-pub pairs-some : (i j left : ℕ) → (left ≡ 0 → ⊥) → pairs_from i j left ≡ (i, j) ∷ pairs_from i (j + 1) (left - 1)
-pairs-some i j zero some = absurd (some refl)
-pairs-some i j (suc left) some = let one : suc left - 1 ≡ left = omega arith in ap (λ n. (i, j) ∷ pairs_from i (j + 1) n) (sym one)
-
 length-pairs : (i j left : ℕ) → length (pairs_from i j left) ≡ left
 length-pairs i j zero = refl
 length-pairs i j (suc left) = ap suc (length-pairs i (j + 1) left)
@@ -25,10 +17,6 @@ bind_pairs-append s pair (x ∷ xs) ys =
     let more : pair + 1 + length xs ≡ pair + length (x ∷ xs) = omega arith in
     bind_pairs-append (bind_pair s pair x.0 x.1) (pair + 1) xs ys
     ∙ ap (λ n. bind_pairs (bind_pairs (bind_pair s pair x.0 x.1) (pair + 1) xs) n ys) more
-
--- the first pairs among no nodes, or among some
-pub first-none : (s : Labels) (pair i left : ℕ) → left ≡ 0 → bind_pairs s pair (first_pairs_from i left) ≡ s
-first-none s pair i left e = ap (λ n. bind_pairs s pair (first_pairs_from i n)) e
 
 pub first-some : (s : Labels) (pair i left : ℕ) → (left ≡ 0 → ⊥) →
     bind_pairs s pair (first_pairs_from i left) ≡ bind_pairs (bind_pairs s pair (pairs_from i (i + 1) (left - 1))) (pair + (left - 1))

@@ -1,6 +1,6 @@
 -- The claimed words, one after the other.
 use Rattle.std.proofs.Common.{◌≡◌, ◌∙◌, ◌++◌, ◌+◌, ◌-◌, ◌<◌, ◌≤◌, ap, sym, refl, ℕ, suc, List, [], ◌∷◌, map, Some, arith, append_assoc}
-use Rattle.std.proofs.Common.{append-nil, nat_lt, true}
+use Rattle.std.proofs.Common.{nat_lt, true}
 use Rattle.std.proofs.lemmas.Bool.Decides.{nat_tests}
 use Rattle.ipcz_word.specs.Layout.{bits_of}
 use Rattle.ipcz_world.specs.World.{World, word_at, numbers_from}
@@ -33,7 +33,3 @@ shown-more w i word words new below is more all =
   where
     some_is : (x y : ℕ) → Some x ≡ Some y → x ≡ y
     some_is x y e = cc
-
--- all words are shown
-pub shown-all : (w : World) (i : ℕ) (words : List ℕ) → w.claimed ≤ i → words ++ words_left w i ≡ shown_words w → words ≡ shown_words w
-shown-all w i words past all = sym (append-nil words) ∙ ap (λ l. words ++ l) (sym (left-none w i past)) ∙ all

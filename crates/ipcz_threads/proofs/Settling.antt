@@ -10,11 +10,6 @@ abbrev pub GoesOn : Gates → TableName → ℕ → ℕ → List WorkerState →
 GoesOn gates t limit left ws us =
     (rounds : ℕ) (quiet : Bool) (vs : List WorkerState) → TakesRounds gates t rounds left us quiet vs → Settles gates t limit ws quiet vs
 
--- before the first round
-pub settles-start : (gates : Gates) (t : TableName) (limit left : ℕ) (ws us : List WorkerState) → left ≡ limit → us ≡ ws → GoesOn gates t limit left ws us
-settles-start gates t limit left ws us whole same rounds quiet vs is =
-    (rounds, subst (λ n. TakesRounds gates t rounds n ws quiet vs) whole (subst (λ x. TakesRounds gates t rounds left x quiet vs) same is))
-
 -- after the last round
 pub settles-end : (gates : Gates) (t : TableName) (limit left : ℕ) (ws us vs : List WorkerState) (quiet : Bool) → GoesOn gates t limit left ws us →
     AreAsked t (length us) 0 us quiet vs → (quiet ≡ false → left ≡ 0) → Settles gates t limit ws quiet vs

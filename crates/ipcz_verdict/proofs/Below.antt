@@ -30,9 +30,6 @@ pub record IsBelow (a j : Account) : Type 0 where
   pub is : a ≡ lower j closed
   pub fewer : (e : End) → closed e ≡ true → j.closed e ≡ true
 
-pub below_itself : (a : Account) → IsBelow a a
-below_itself a = record { closed = a.closed; is = refl; fewer = λ e h. h }
-
 -- ---- turns
 
 dropped_up : (j : Account) (closed : End → Bool) (e : End) → ((e : End) → closed e ≡ true → j.closed e ≡ true) → IsDropped (lower j closed) e → IsDropped j e

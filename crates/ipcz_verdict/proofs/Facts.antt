@@ -42,10 +42,6 @@ side_itself : (s : Side) → same_side s s ≡ true
 side_itself A = refl
 side_itself B = refl
 
-side_other : (s : Side) → same_side (opposite s) s ≡ false
-side_other A = refl
-side_other B = refl
-
 pub end_tells : (d e : End) → same_end d e ≡ true → d ≡ e
 end_tells d e h =
     let t = and_parts (nat_eq d.pair e.pair) (same_side d.side e.side) h in
@@ -65,9 +61,6 @@ end_is d e = go (same_end d e) refl
     go : (c : Bool) → same_end d e ≡ c → ((same_end d e ≡ true) × (d ≡ e)) ⊎ ((same_end d e ≡ false) × (d ≡ e → ⊥))
     go true h = inl (h, end_tells d e h)
     go false h = inr (h, λ q. both (same_end d e) (end_same d e q) h)
-
-pub pair_apart : (d e : End) → (d.pair ≡ e.pair → ⊥) → same_end d e ≡ false
-pair_apart d e h = let n : nat_eq d.pair e.pair ≡ false = grind (arith, nat_tests, h) in ap (λ c. c && same_side d.side e.side) n
 
 -- ---- bools
 
@@ -120,11 +113,6 @@ get_more [] y x zero h = inr (refl, same_some h)
 get_more [] y x (suc n) h = cc
 get_more (z ∷ xs) y x zero h = inl h
 get_more (z ∷ xs) y x (suc n) h = elim (get_more xs y x n h) [ inl t ↦ inl t | inr t ↦ inr (ap suc t.0, t.1) ]
-
-pub get_old : {X : Type 0} (xs : List X) (y x : X) (n : ℕ) → slice_get xs n ≡ Some x → slice_get (xs ++ y ∷ []) n ≡ Some x
-get_old [] y x n h = cc
-get_old (z ∷ xs) y x zero h = h
-get_old (z ∷ xs) y x (suc n) h = get_old xs y x n h
 
 pub get_last : {X : Type 0} (xs : List X) (y : X) → slice_get (xs ++ y ∷ []) (length xs) ≡ Some y
 get_last [] y = refl

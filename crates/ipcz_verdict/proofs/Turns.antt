@@ -1,6 +1,6 @@
 -- Turns one after the other, and logs with one line more.
 use Rattle.std.specs.Prelude.{ℕ, List, [], ◌∷◌, ◌++◌, map, refl}
-use Rattle.std.proofs.Common.{◌∙◌, subst}
+use Rattle.std.proofs.Common.{subst}
 use Rattle.ipcz_base.specs.declared.profile.Profile.{Profile}
 use Rattle.ipcz_node.specs.declared.happened.Happened.{Happened}
 use Rattle.ipcz_world.specs.declared.step.Step.TheVariants.{Turn}
@@ -27,14 +27,6 @@ one_turn a b n event may = (n ∷ [], event ∷ [], (b, may, refl))
 
 pub no_rest : (l : Ledger) → MayRest l l
 no_rest l = (no_turn l.account, refl, refl)
-
-pub rests_on : (k l m : Ledger) → MayRest k l → MayRest l m → MayRest k m
-rests_on k l m first then = (turns_on k.account l.account m.account first.0 then.0, then.1 ∙ first.1, then.2 ∙ first.2)
-
--- a log, and then some turns
-pub log_rests : (profile : Profile) (k l m : Ledger) (log : List Line) → MayLog profile k log l → MayRest l m → MayLog profile k log m
-log_rests profile k l m [] may rest = rests_on k l m may rest
-log_rests profile k l m (line ∷ log) may rest = (may.0, may.1, may.2, may.3, log_rests profile may.1 l m log may.4 rest)
 
 -- one line more
 pub log_more : (profile : Profile) (k l m n : Ledger) (log : List Line) (line : Line) → MayLog profile k log l → MayLine profile l line m → MayRest m n →

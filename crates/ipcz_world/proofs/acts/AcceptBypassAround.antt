@@ -1,6 +1,6 @@
 -- Who stands around a bypass when the router across has the message that asks it to accept.
 use Rattle.ipcz_world.proofs.frames.LeftSides.{not_left}
-use Rattle.std.specs.Prelude.{◌≡◌, ◌≢◌, ◌<◌, ◌≤◌, ℕ, Bool, true, false, cond, ◌&&◌, nat_eq, is_some, Option, Some, None, refl}
+use Rattle.std.specs.Prelude.{◌≡◌, ◌<◌, ◌≤◌, ℕ, Bool, true, false, cond, ◌&&◌, nat_eq, is_some, Option, Some, None, refl}
 use Rattle.std.proofs.Common.{arith, ap, ◌∙◌, sym}
 use Rattle.std.proofs.lemmas.Bool.Decides.{nat_tests}
 use Rattle.std.proofs.lemmas.Option.{none-some, same_Some}
@@ -9,7 +9,7 @@ use Rattle.ipcz_world.proofs.Vocabulary.{Router, router_has, inward_edge, World,
 use Rattle.ipcz_world.proofs.Vocabulary.{is_begun, is_linked, is_recorded, side_node, side_router, proxy_side, across_side, side_length, Standing}
 use Rattle.ipcz_world.proofs.Vocabulary.{view, next_sent, taking_queue, sending_queue, fed_queue, has_primary, has_decaying, has_inward_decaying}
 use Rattle.ipcz_world.proofs.Vocabulary.{key_passes, under_way, total_below, total_list, Controls, of_bypass, control_weight, inner_of, has_passed}
-use Rattle.ipcz_world.proofs.Vocabulary.{key_at, Awaited, link_in, accept_bypass}
+use Rattle.ipcz_world.proofs.Vocabulary.{key_at, Awaited, accept_bypass}
 use Rattle.ipcz_base.specs.declared.message.Message.TheVariants as messages
 use Rattle.ipcz_world.specs.declared.mail.Mail.TheVariants as mails
 use Rattle.ipcz_world.proofs.frames.RecordRules.{is_recorded-central}
@@ -20,7 +20,7 @@ use Rattle.ipcz_world.proofs.frames.Handing.{flow-hand}
 use Rattle.ipcz_world.proofs.frames.Viewing.{Stood, stood}
 use Rattle.ipcz_world.proofs.facts.Lengths.{opposite-twice, side_is, same_side-itself, same_side-tells, has_link-tells, HasEnd, passed}
 use Rattle.ipcz_world.proofs.facts.Lengths.{is_attached-central, is_attached-proxy, is_attached-inner, view-standing, view-awaited}
-use Rattle.ipcz_world.proofs.facts.Lengths.{length-old, length-proxy, length-inner, known_from-no, known_from-yes, has_passed-none}
+use Rattle.ipcz_world.proofs.facts.Lengths.{length-old, length-proxy, known_from-no, has_passed-none}
 use Rattle.ipcz_world.proofs.frames.Sealing.{Sealed, Closed, opened, stands_of, counts_of, shape_of, links_of, positions_of, stages_of}
 use Rattle.ipcz_world.proofs.frames.Sealing.{controls_of, bypasses_of, order_of, proxy_numbers_of, fresh_numbers_of}
 use Rattle.ipcz_world.proofs.frames.Telling.{never}
@@ -274,10 +274,6 @@ module _ {w : World} {b : Books} {g : Records} {from : ℕ} {k : Key} {r : Route
   pub z_end : HasEnd z.outward.decaying (inner_of g o) B
   z_end = has_link-tells z.outward.decaying (inner_of g o) B z_inner
 
-  z_primary : link_in z.outward.primary ≡ Some (Central fresh)
-  z_primary = rw (← is.on_word) at (((positions_of law).each zk z z_here).inner_fresh z_end.end (g.bypass o).inner o z_end.there z_end.on_link
-      by_o)
-
   z_to : z.outward.length_to ≡ Some length
   z_to = rw (← is.taken) at (((positions_of law).each zk z z_here).inner_to z_end.end (g.bypass o).inner o z_end.there z_end.on_link by_o)
 
@@ -305,9 +301,6 @@ module _ {w : World} {b : Books} {g : Records} {from : ℕ} {k : Key} {r : Route
         (bypasses_of law fresh).proxy_old q,
         side_is side (proxy_side g fresh),
       ))
-
-  fresh_other : fresh ≢ o
-  fresh_other p = grind (arith, fresh_live, begun, p)
 
   -- what stands at the sides of the three links
   pub view_x : view w g (Central o) side ≡ Standing r
@@ -352,9 +345,6 @@ module _ {w : World} {b : Books} {g : Records} {from : ℕ} {k : Key} {r : Route
     known_from-no 3 (g.bypass o).stage (g.bypass o).accepted_at,
     is.stage,
   )
-
-  some_inner : side_length g (inner_of g o) B ≡ Some (g.bypass o).taken_at
-  some_inner = grind (arith, length-inner g (g.bypass o).inner o by_o, known_from-yes 2 (g.bypass o).stage (g.bypass o).taken_at, is.stage)
 
   old_recorded : is_recorded w g (Central o) ≡ true
   old_recorded = is_recorded-central w g o ∙ (bypasses_of law o).old begun

@@ -25,7 +25,7 @@ use Rattle.ipcz_world.proofs.acts.AcceptBypassAround.{y_stood, y_here, z_known_s
 use Rattle.ipcz_world.proofs.acts.AcceptBypassAround.{fresh_awaited, fresh_known, view_x, view_z, sends, y_out, x_in, x_items, y_in}
 use Rattle.ipcz_world.proofs.acts.AcceptBypassAround.{y_items, z_in, z_items, z_fresh, z_out}
 use Rattle.ipcz_world.proofs.acts.AcceptBypassViews.{at_o, like, changed, agree, was, is_new, same_view_at, Grown, Same, FromProxy}
-use Rattle.ipcz_world.proofs.acts.AcceptBypassViews.{FromAcross, Inward, taken_after, same_bypass, grown, is_new-here, new_at, view_new}
+use Rattle.ipcz_world.proofs.acts.AcceptBypassViews.{FromAcross, Inward, taken_after, grown, is_new-here, new_at, view_new}
 use Rattle.ipcz_world.proofs.acts.AcceptBypassViews.{makes_new, not_from_new, limit, some_grown, opposite-same, not_passed_before}
 use Rattle.ipcz_world.proofs.acts.AcceptBypassViews.{fresh_none, none_before, after_inner, after_old, not_new-old, not_new-inner}
 use Rattle.ipcz_world.proofs.acts.AcceptBypassViews.{view_z_after}
@@ -201,9 +201,6 @@ module _ {w : World} {b : Books} {g : Records} {from : ℕ} {k : Key} {r : Route
           (order_of law).stored link s u q n item (sym (is_recorded-kept w v g h k r x (changed law can) (agree law can) link) ∙ rec)
           (sym (same_view_at law can link (opposite s) m).next ∙ f) (sym (same_view_at law can link s e').taking ∙ t) at
           (not_passed_before law can link (opposite s) n (grown law can link (opposite s)) notyet)
-
-  stage_j : (j : ℕ) → nat_eq j o ≡ false → (h.bypass j).stage ≡ (g.bypass j).stage
-  stage_j j e' = ap (λ c. c.stage) (same_bypass law can j e')
 
   pub router_j : (q : Key) → router_at v q ≡ cond (same_key q k) (Some x) (router_at w q)
   router_j = (changed law can).router

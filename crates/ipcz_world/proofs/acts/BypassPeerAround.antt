@@ -354,9 +354,6 @@ module _ {w : World} {b : Books} {g : Records} {from : ℕ} {k : Key} {r : Route
   pub was_router : (q : Key) (t : Router) → router_at v q ≡ Some t → WasLike w q t
   was_router = was_like changed like refl
 
-  known_apart : (l : LinkId) → is_recorded w g l ≡ true → (s : Side) (q : Key) → side_router g l s ≡ Some q → side_router h l s ≡ Some q
-  known_apart l rec s q m = router_same l s (apart l rec) ∙ m
-
   pub new_recorded : (d : LinkEnd) → d ≡ record { link = Central fresh; side = r.end.side; other = target } → IsRecorded v h k x d
   unfolding is_linked
   new_recorded d m = rw m (record {

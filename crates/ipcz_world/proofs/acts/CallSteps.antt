@@ -6,7 +6,7 @@ use Rattle.ipcz_world.proofs.Vocabulary.{open_with, open_on, open_step, close_st
 use Rattle.ipcz_world.proofs.Vocabulary.{has_unclaimed_word}
 use Rattle.ipcz_world.proofs.facts.Lost.{not_lost}
 use Rattle.std.specs.Prelude.{◌≡◌, ◌<◌, ◌+◌, ℕ, Bool, true, false, cond, nat_eq, nat_lt, Option, Some, None, List, refl}
-use Rattle.std.proofs.Common.{arith, ap, subst, ◌∙◌, sym, inl, inr}
+use Rattle.std.proofs.Common.{arith, ap, subst, ◌∙◌, sym}
 use Rattle.std.proofs.lemmas.Bool.Decides.{nat_tests}
 use Rattle.ipcz_base.specs.declared.parcel.Parcel as parcels
 use Rattle.ipcz_base.specs.declared.refusal.Refusal.TheVariants as refusals
@@ -14,7 +14,7 @@ use Rattle.ipcz_node.specs.Calls.{put_number}
 use Rattle.ipcz_world.specs.declared.step.Step.TheVariants.{Open, Get, Close}
 use Rattle.ipcz_world.specs.declared.step.Reply.TheVariants as replies
 use Rattle.ipcz_world.specs.Steps.{put_of, put_step, got_reply, get_reply, get_step}
-use Rattle.ipcz_world.specs.Steps.{Scheduler, StepBy, Gives}
+use Rattle.ipcz_world.specs.Steps.{Gives}
 use Rattle.ipcz_world.specs.Routes.{add_link}
 use Rattle.ipcz_world.proofs.facts.RecordsAfter.{set_owner, set_central, at_side}
 use Rattle.ipcz_world.proofs.facts.RecordsAfter.{opening_records, open_records, records_after}
@@ -190,23 +190,3 @@ module _ (w : World) (b : Books) (g : Records) (law : Inv w b g) where
   pub open-kept : (n : ℕ) → Keeps (Open n) (open_step w n)
   open-kept n = cond_by (nat_lt n w.count) (open_on w n (node_at w n).opening) (refuse w refusals.Stranger) (Keeps (Open n))
       (λ l. on_word n (grind (arith, l, nat_tests)) (node_at w n).opening refl) (open_refused n refusals.Stranger)
-
--- a caller's step
-pub step-open : (May : Scheduler) (w : World) (b : Books) (g : Records) (n : ℕ) (reply : Reply) (v : World) → Inv w b g →
-    StepBy May w (Open n) reply v → Follows w v b g (Open n) reply
-step-open May w b g n reply v law step = elim step [
-  | inl gives ↦ given w b g law (Open n) (open_step w n) reply v (open-kept w b g law n) gives
-  | inr want ↦ given w b g law (Open n) (refuse w refusals.OutOfMemory) reply v (open_refused w b g law n refusals.OutOfMemory) want.1
-]
-
-pub step-get : (May : Scheduler) (w : World) (b : Books) (g : Records) (n : ℕ) (at : End) (reply : Reply) (v : World) → Inv w b g →
-    StepBy May w (Get n at) reply v → Follows w v b g (Get n at) reply
-step-get May w b g n at reply v law step = given w b g law (Get n at) (get_step w n at) reply v (get-kept w b g law n at) step
-
-pub step-close : (May : Scheduler) (w : World) (b : Books) (g : Records) (n : ℕ) (at : End) (reply : Reply) (v : World) → Inv w b g →
-    StepBy May w (Close n at) reply v → Follows w v b g (Close n at) reply
-step-close May w b g n at reply v law step = elim step [
-  | inl gives ↦ given w b g law (Close n at) (close_step w n at) reply v (close-kept w b g law n at) gives
-  | inr want ↦ given w b g law (Close n at) (refuse w refusals.OutOfMemory) reply v (close_refused w b g law n at refusals.OutOfMemory)
-      want.1
-]

@@ -335,9 +335,6 @@ module _ (w v : World) (b : Books) (g : Records) (q : Key) (r : Router) (a : ℕ
       moved : h.terminal r.end ≡ Moving d
       moved = grind (arith, same_end-itself r.end)
 
-  new_length : (s : Side) → side_length h (inner_link p) s ≡ None
-  new_length s = length_same (inner_link p) s ∙ unbypassed w v b g q r a law is t s
-
   pub order-extended : Order v h
   order-extended = record {
     current = λ link s u z rec sent taken short. elim (recorded_back law is t link rec) [

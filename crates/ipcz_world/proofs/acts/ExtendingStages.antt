@@ -3,11 +3,11 @@ use Rattle.ipcz_world.proofs.Vocabulary.{IsOrdered, LinkId, same_link, A, B, Wor
 use Rattle.ipcz_world.proofs.Vocabulary.{is_terminal, inward_edge, World, Key, same_key, router_at, Books, Records, At, is_linked, is_begun}
 use Rattle.ipcz_world.proofs.Vocabulary.{inner_link, side_router, side_end, proxy_side, across_side, is_nowhere, key_passes, has_primary}
 use Rattle.ipcz_world.proofs.Vocabulary.{has_decaying, has_inward_decaying, Ordered, Stands, Words, Spares, BypassRecords, Stages, inner_of}
-use Rattle.ipcz_world.proofs.Vocabulary.{Terminals, is_left, descriptor_of, Moving, spare_of, has_inward_primary, is_begun_router, fresh_of}
+use Rattle.ipcz_world.proofs.Vocabulary.{Terminals, is_left, descriptor_of, spare_of, has_inward_primary, is_begun_router, fresh_of}
 use Rattle.ipcz_world.proofs.frames.EachKept.{each-one}
 use Rattle.ipcz_world.proofs.acts.ExtendingAround.{left_same, bypass_same}
 use Rattle.ipcz_world.proofs.frames.Sourcing.{sourced-by, had-one}
-use Rattle.std.specs.Prelude.{◌≡◌, ◌≤◌, ℕ, Bool, true, false, not, cond, ◌&&◌, Some, None, is_some, refl}
+use Rattle.std.specs.Prelude.{◌≡◌, ◌≤◌, ℕ, Bool, true, false, not, ◌&&◌, Some, None, is_some, refl}
 use Rattle.std.proofs.Common.{arith, ap, subst, ◌∙◌, sym, inl, inr}
 use Rattle.ipcz_world.proofs.frames.Frames.{same_key_tells, same_key-itself}
 use Rattle.ipcz_world.proofs.frames.RecordRules.{side_router-proxy, side_router-inner}
@@ -171,11 +171,6 @@ module _ {w v : World} {b : Books} {g : Records} {q : Key} {r : Router} {a : ℕ
       peripheral_same : (o : ℕ) → is_begun (g.bypass o) ≡ true → h.peripheral (g.bypass o).inner ≡ g.peripheral (g.bypass o).inner
       peripheral_same o e = grind (arith, other_key law is t (g.bypass o).inner ((law.bypasses o).inner e))
 
-  across_router : (o : ℕ) → is_begun (g.bypass o) ≡ true → side_router h (Central o) (across_side h o) ≡ side_router g (Central o)
-      (across_side g o)
-  across_router o e = ap (λ s. side_router h (Central o) (opposite s)) (side_same law is t o e) ∙
-      router_same law is t (Central o) (across_side g o) refl
-
   pub not_begun : is_begun_router r ≡ true → ⊥
   not_begun f = grind (arith, f, no_inward law is t)
 
@@ -225,9 +220,6 @@ module _ {w v : World} {b : Books} {g : Records} {q : Key} {r : Router} {a : ℕ
     inner_decaying = λ e s. inner_passes o (has_decaying (inner_of g o) B) (since o 2 (omega arith) e) (λ f. f)
         ((law.stages o).inner_decaying e s);
   }
-
-  term_is : (e : End) → h.terminal e ≡ cond (same_end e r.end) (Moving (descriptor_of r (inner_link p))) (g.terminal e)
-  term_is e = refl
 
   pub nowhere_same : (e : End) → is_nowhere (h.terminal e) ≡ is_nowhere (g.terminal e)
   nowhere_same e = go (same_end e r.end) refl

@@ -104,12 +104,6 @@ module _ (w : World) (b : Books) (g : Records) (n i : ℕ) (law : Inv w b g) (l 
   word_here : word_at v i ≡ open_word
   word_here = grind (arith, frames, nat_tests)
 
-  a_router : Router
-  a_router = new_end i A (node_at w n).number
-
-  b_router : Router
-  b_router = new_end i B (node_at w n).number
-
   found : (q : ℕ) → get x.routers q ≡ cond (nat_eq q (s + 1)) (Some (new_end i B (node_at w n).number))
       (cond (nat_eq q s) (Some (new_end i A (node_at w n).number)) (get (node_at w n).routers q))
   found q = get_inserted (insert (node_at w n).routers s (new_end i A (node_at w n).number)) (s + 1) (new_end i B (node_at w n).number) q

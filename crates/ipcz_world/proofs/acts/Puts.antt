@@ -27,7 +27,7 @@ use Rattle.ipcz_world.proofs.facts.Finding.{IsTerminalOf, terminal_tells, found_
 use Rattle.ipcz_world.proofs.frames.Holding.{times-has, has-times, times-holds, times-without_ends, are_held-times, holds-without_ends}
 use Rattle.ipcz_world.proofs.frames.Holding.{pair_ends, times_held-at, same_end-turned}
 use Rattle.ipcz_world.proofs.frames.Calling.{IsCall, call-touched, call-hands, call-flows, call-places, call-held, call-pending, call-times}
-use Rattle.ipcz_world.proofs.frames.Calling.{held_most, held_unclosed}
+use Rattle.ipcz_world.proofs.frames.Calling.{held_unclosed}
 use Rattle.ipcz_world.proofs.acts.Putting.{IsPut, inv-put_by}
 use Rattle.ipcz_world.proofs.acts.Moved.{terminal_at, passes_tells}
 use Rattle.ipcz_world.proofs.facts.LinkTests.{same_end-itself, same_end-tells}
@@ -88,9 +88,6 @@ open_alike w b g k r y law here t unclosed end outward inward spare marked holds
 module _ (w : World) (b : Books) (g : Records) (k : Key) (r : Router) (law : Inv w b g) (here : router_at w k ≡ Some r) where
   on_node : k.node < w.count
   on_node = law.counts.on_node k r here
-
-  node_most : (d : End) → held_times d (node_at w k.node).held + times d (node_at w k.node).pending ≤ 1
-  node_most d = omega (arith, times_held-at w k.node d on_node, held_most w b g d law.held_once)
 
   module _ (p : parcels.Parcel) (can : CanPut (node_at w k.node) r p) where
     abbrev put : Node

@@ -16,7 +16,7 @@ use Rattle.ipcz_world.specs.Routes.{add_link, add_peripheral, add_peripherals}
 use Rattle.ipcz_world.specs.Records.{PeripheralRecord}
 use Rattle.ipcz_world.proofs.facts.RecordsAfter.{set_owner}
 use Rattle.ipcz_world.proofs.facts.RecordsAfter.{set_central, set_peripheral, set_bypass}
-use Rattle.ipcz_world.proofs.facts.RecordsAfter.{open_records, claim_records, begin_records, taken_records, accepted_records, told_records}
+use Rattle.ipcz_world.proofs.facts.RecordsAfter.{claim_records, begin_records, taken_records, accepted_records, told_records}
 use Rattle.ipcz_world.proofs.facts.RecordsAfter.{ended_records, move_records, found_records, moves_records, made_at, made_records}
 use Rattle.ipcz_world.proofs.frames.Frames.{same_key-apart}
 use Rattle.ipcz_world.proofs.facts.Finding.{found_there, terminal_tells}
@@ -106,10 +106,6 @@ next_not_lost w b g law = not_lost (g.owner w.claimed) (law.counts.unclaimed w.c
 pub routes-claim : (w : World) (b : Books) (g : Records) (k : Key) → Inv w b g → routes_of (claim_records g k w.claimed) ≡ routes_of g
 unfolding is_linked is_lost_owner
 routes-claim w b g k law = routes-owner g w.claimed (Spare k) (next_not_linked w b g law) refl (next_not_lost w b g law) refl
-
-pub routes-open : (g : Records) (n i serial : ℕ) → is_lost_owner (g.owner i) ≡ false →
-    routes_of (open_records g n i serial) ≡ add_link (routes_of g) i i
-routes-open g n i serial free = routes-link g i _ free
 
 pub routes-begin : (g : Records) (k : Key) (o fresh : ℕ) (inner : Key) → g.owner fresh ≡ Spare k →
     routes_of (begin_records g k o fresh inner) ≡ routes_of g

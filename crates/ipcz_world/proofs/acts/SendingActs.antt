@@ -4,7 +4,7 @@ use Rattle.ipcz_world.proofs.Vocabulary.{Key, node_at, router_at, after_act, can
 use Rattle.ipcz_world.proofs.Vocabulary.{send_on, apply, item_output, is_rest, on_router, move_ends, moved_ends, send, send_item, commit_router}
 use Rattle.ipcz_world.proofs.Vocabulary.{keep_or_drop, after_router_act, may_act, touch}
 use Rattle.std.specs.Prelude.{◌≡◌, ◌≢◌, ℕ, Bool, true, false, ◌&&◌, nat_eq, if◌then◌else◌, Option, Some, None, is_some, refl, []}
-use Rattle.std.proofs.Common.{arith, subst, ◌∙◌, sym, inl}
+use Rattle.std.proofs.Common.{arith, ◌∙◌, sym, inl}
 use Rattle.std.proofs.lemmas.Bool.Decides.{nat_tests}
 use Rattle.ipcz_router.specs.declared.act.RouterAct.TheVariants as acts
 use Rattle.ipcz_node.specs.declared.act.Act.TheVariants.{Router as OfRouter}
@@ -100,22 +100,3 @@ in_chosen w k can = go (router_at w k) refl can
         let item = some_is (current_item r.in_queue) (and_first (is_some (current_item r.in_queue)) (is_some (way_in r)) p) in
         let e = some_is (way_in r) (and_second (is_some (current_item r.in_queue)) (is_some (way_in r)) p) in
         (r, e.0, item.0, q, e.1, item.1)
-
--- each send that a node may take keeps all that holds
-pub step-send_out : (w : World) (b : Books) (g : Records) (n s : ℕ) → Inv w b g → can_take w n (OfRouter s acts.SendOut) ≡ true →
-    (h : Records) × Inv (after_act w n (OfRouter s acts.SendOut)) b h
-step-send_out w b g n s law can =
-    let k : Key = record { node = n; serial = s } in let c = out_chosen w k can in (
-      sent_records w g k (pop_out c.0) c.1 c.2,
-      subst (λ v. Inv v b (sent_records w g k (pop_out c.0) c.1 c.2))
-          (sym (acted-sent_out w k c.0 c.1 c.2 c.3 c.4 c.5)) (inv-sent_out w b g k c.0 c.1 c.2 law c.3 c.4 c.5),
-    )
-
-pub step-send_in : (w : World) (b : Books) (g : Records) (n s : ℕ) → Inv w b g → can_take w n (OfRouter s acts.SendIn) ≡ true →
-    (h : Records) × Inv (after_act w n (OfRouter s acts.SendIn)) b h
-step-send_in w b g n s law can =
-    let k : Key = record { node = n; serial = s } in let c = in_chosen w k can in (
-      sent_records w g k (send_on c.0) c.1 c.2,
-      subst (λ v. Inv v b (sent_records w g k (send_on c.0) c.1 c.2))
-          (sym (acted-sent_in w k c.0 c.1 c.2 c.3 c.4 c.5)) (inv-sent_in w b g k c.0 c.1 c.2 law c.3 c.4 c.5),
-    )

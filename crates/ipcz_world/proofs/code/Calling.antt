@@ -115,10 +115,6 @@ pub put-gives : (w v : World) (n : ℕ) (done : Effect) (reply : Reply) → n < 
 put-gives w v n done reply l (inl gives) = inl gives
 put-gives w v n done reply l (inr none) = inr (l, none.1)
 
--- a put that finds no memory for its lists
-pub put-starved : (w : World) (n : ℕ) (done : Effect) → n < w.count → PutGives w n done (Refused OutOfMemory) w
-put-starved w n done l = inr (l, (refl, refl))
-
 got-is : (number k : ℕ) (p q : parcels.Parcel) → ◌≡◌ {A = Option (ℕ × parcels.Parcel)} (Some (k, q)) (Some (number, p)) →
     Got k q ≡ Got number p
 got-is number k p q e = ap (λ (o : Option (ℕ × parcels.Parcel)). got_of o) e

@@ -359,13 +359,6 @@ kept-taken ms hs now k full kept is l many e =
     let one = ap {B = ℕ} (λ (b : Bool). cond b 1 0) e in
     kept-mark ms hs now k full (full - 1) kept is l many (omega (arith, one, full-least ms hs now k full kept is e))
 
--- the message in hand is out
-pub down-written : (ms : List Mail) (hs : List Bool) (now : List Mail) (k : ℕ) (x y : Mail) → as_they_stand ms hs ≡ now → k < length ms →
-    k < length hs → x ≡ get_or ms k x → as_marked (get_or hs k false) y ≡ put_down (as_marked (get_or hs k false) x) →
-    as_marked (place_at false hs k) y ≡ put_down (place_at Empty now k)
-down-written ms hs now k x y is l many at put =
-    ap (λ (h : Bool). as_marked h y) (sym (get-place false false hs k many)) ∙ put ∙ ap put_down (sym (seen-read ms hs now k x is l many at))
-
 found : {X : Type 0} (d : X) (xs : List X) (i : ℕ) (y : X) → place_at d (put_place d xs i y) i ≡ y
 unfolding place_at put_place
 found d [] zero y = refl

@@ -80,14 +80,6 @@ pub record IsRetriedBelow (w : World) (n told : ℕ) (u : World) : Type 0 where
   pub count : u.count ≡ w.count
   pub nodes : length u.nodes ≡ w.count
 
-pub retried_none : (w : World) → length w.nodes ≡ w.count → IsRetriedBelow w 0 0 w
-retried_none w long = record {
-  asked = (0, refl, refl);
-  wet = λ k r low here. absurd (omega (arith, low));
-  count = refl;
-  nodes = long;
-}
-
 long-set : (u : World) (n : ℕ) (x : Node) → n < length u.nodes → length (set_node u n x).nodes ≡ length u.nodes
 unfolding set_node
 long-set u n x low = length-put (bare_node 0 0) u.nodes n x low

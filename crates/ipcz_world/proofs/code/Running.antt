@@ -9,10 +9,6 @@ use Rattle.ipcz_world.specs.Settling.{AreVisits}
 use Rattle.ipcz_world.specs.FirstRuns.{AreSteps, KeepsLaw, Leads, turns_of, replies_of}
 use Rattle.ipcz_world.proofs.code.Kept.{keeps, plainly}
 
--- no step
-pub run-none : (w : World) → KeepsLaw w [] [] w
-run-none w b g law = (refl, law)
-
 -- one step more
 steps-more : (w v u : World) (steps : List Step) (replies : List Reply) (step : Step) (reply : Reply) → AreSteps w steps replies v →
     StepFirst v step reply u → AreSteps w (steps ++ step ∷ []) (replies ++ reply ∷ []) u
@@ -35,9 +31,6 @@ leads-more w v u b g (x ∷ xs) (r ∷ rs) step reply (m, first, law, allowed, r
 pub record IsRun (w : World) (steps : List Step) (replies : List Reply) (v : World) : Type 0 where
   pub are : AreSteps w steps replies v
   pub law : KeepsLaw w steps replies v
-
-pub no-run : (w : World) → IsRun w [] [] w
-no-run w = record { are = refl; law = run-none w }
 
 -- the same of the steps as a loop goes over them
 pub run-next : (w v u : World) (all : List Step) (i : ℕ) (replies more : List Reply) (step : Step) (reply : Reply) →

@@ -22,9 +22,6 @@ pub record IsTallied (sum : Option ℕ) (left whole : ℕ) : Type 0 where
   pub told : Tells sum so_far
   pub whole_is : so_far + left ≡ whole
 
-pub tallied-none : (whole : ℕ) → IsTallied (Some 0) whole whole
-tallied-none whole = record { so_far = 0; told = refl; whole_is = omega arith }
-
 pub tallied-more : (sum next one : Option ℕ) (n was left whole : ℕ) → IsTallied sum was whole →
     ((m n : ℕ) → Tells sum m → Tells one n → Tells next (m + n)) → Tells one n → was ≡ n + left → IsTallied next left whole
 tallied-more sum next one n was left whole so plus told e = record {

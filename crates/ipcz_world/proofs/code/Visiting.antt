@@ -248,17 +248,3 @@ refused limit acts n m w u x why on l busy step = subst (λ v. IsRefusedSettle l
 
     same : x ≡ u
     same = left-by u x m why step
-
--- whether a reply is one to a turn
-abbrev pub answers_turn : Reply → Bool
-answers_turn (replies.Turned event) = true
-answers_turn (replies.Refused why) = true
-answers_turn other = false
-
--- a turn has no other reply
-pub no-other : (u x : World) (n : ℕ) (reply : Reply) → StepFirst u (Turn n) reply x → answers_turn reply ≡ true
-no-other u x n reply step = go (turned u n reply x step)
-  where
-    go : IsTurnReply u reply x → answers_turn reply ≡ true
-    go (Turns e r c) = ap answers_turn r
-    go (Refuses why r s) = ap answers_turn r

@@ -1,6 +1,6 @@
 -- A word becomes a pair's first link: what the records say of the links and bypasses that were there, and of the new link.
 use Rattle.ipcz_word.specs.SideSets.{has, has-none}
-use Rattle.ipcz_world.proofs.Vocabulary.{Side, A, B, End, LinkId, Central, Peripheral, LinkEnd, opposite, Router, World, Key, router_at, Books}
+use Rattle.ipcz_world.proofs.Vocabulary.{Side, A, B, End, LinkId, Central, Peripheral, LinkEnd, Router, World, Key, router_at, Books}
 use Rattle.ipcz_world.proofs.Vocabulary.{Records, Owner, Terminal, is_linked, is_begun, is_recorded, inner_link, bypass_of, side_router, side_node}
 use Rattle.ipcz_world.proofs.Vocabulary.{side_end, side_length, terminal_descriptor, is_nowhere, proxy_side, view, view_by, router_view, key_passes}
 use Rattle.ipcz_world.proofs.Vocabulary.{Inv, is_left, CentralRecord, key_at, length_by, bypass_length, awaited_view}
@@ -174,9 +174,6 @@ module _ {w v : World} {b : Books} {g : Records} {owner' : ℕ → Owner} {centr
 
   pub begun_link : (o : ℕ) → is_begun (g.bypass o) ≡ true → Central o ≢ Central i
   begun_link o s e = begun_apart o s (central_one o i e)
-
-  fresh_end : Side → LinkEnd
-  fresh_end s = record { link = Central i; side = s; other = (at (opposite s)).node }
 
   pub no_end : (o : Option LinkEnd) (e : LinkEnd) → o ≡ None → o ≡ Some e → ⊥
   no_end o e a c = cc

@@ -10,10 +10,6 @@ total_list-at h [] i x e = grind (arith, e)
 total_list-at h (y ∷ ys) zero x e = grind (arith, e)
 total_list-at h (y ∷ ys) (suc i) x e = omega (arith, total_list-at h ys i x e)
 
-pub total_list-plus : {X : Type 0} (f h : X → ℕ) (xs : List X) → total_list (λ x. f x + h x) xs ≡ total_list f xs + total_list h xs
-total_list-plus f h [] = refl
-total_list-plus f h (x ∷ xs) = omega (arith, total_list-plus f h xs)
-
 pub total_list-place : {X : Type 0} (h : X → ℕ) (d : X) (xs : List X) (i : ℕ) → h d ≡ 0 → h (place_at d xs i) ≤ total_list h xs
 unfolding place_at
 total_list-place h d [] i z = omega (arith, z)

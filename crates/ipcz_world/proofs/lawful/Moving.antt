@@ -28,9 +28,6 @@ in-both [] ys zs f j x h = f j x h
 in-both (y ∷ xs) ys zs f zero x h = h
 in-both (y ∷ xs) ys zs f (suc j) x h = in-both xs ys zs f j x h
 
-keeps-itself : (n : Node) → Keeps n n
-keeps-itself n to j x h = h
-
 -- if one node sends more and mailboxes are as they were
 pub stays-node : (w v : World) (n : ℕ) (x : Node) → v.count ≡ w.count → ((j : ℕ) → node_at v j ≡ cond (nat_eq j n) x (node_at w j)) →
     ((k : ℕ) → mail_at v k ≡ mail_at w k) → Keeps (node_at w n) x → Stays Never w v

@@ -1,5 +1,5 @@
 -- What each act of a router makes of its worth.
-use Rattle.std.specs.Prelude.{◌≡◌, ◌⊎◌, ◌≤◌, ◌<◌, ℕ, ◌+◌, ◌*◌, ◌-◌, Bool, true, false, not, cond, ◌&&◌, Option, Some, None}
+use Rattle.std.specs.Prelude.{◌≡◌, ◌⊎◌, ◌≤◌, ◌<◌, ℕ, ◌+◌, ◌*◌, ◌-◌, Bool, true, false, not, ◌&&◌, Option, Some, None}
 use Rattle.std.specs.Prelude.{is_some, is_none, refl}
 use Rattle.std.proofs.Common.{arith, ap, ◌∙◌, inl, inr}
 use Rattle.ipcz_world.proofs.facts.Tests.{not_both, and_first}
@@ -24,11 +24,6 @@ use Rattle.ipcz_world.specs.Ranks.{worth_left, is_unbegun}
 pub worth-most : (n : ℕ) (b : Bool) → worth n b ≤ n
 worth-most n true = omega arith
 worth-most n false = omega arith
-
--- a worth that a test may have
-pub cond-most : (n : ℕ) (b : Bool) → cond b n 0 ≤ n
-cond-most n true = omega arith
-cond-most n false = omega arith
 
 -- a number that passes is worth a pair's price
 pub passed-out : (p a x y : ℕ) → x < a → p * ((a - (x + 1)) + y) + p ≤ p * ((a - x) + y)

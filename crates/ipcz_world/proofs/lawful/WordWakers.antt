@@ -132,10 +132,6 @@ module _ (w v : World) (b : Books) (g : Records) (law : Inv w b g) (flags : Flag
     | inr e ↦ e.1
   ]
 
-  -- the side of this one is across from the other
-  back_over : (s : Side) → s ≡ opposite t → opposite s ≡ t
-  back_over s e = ap opposite e ∙ opposite_opposite t
-
   -- who passes a test on this router's side is this router
   own_passes : (s : Side) (test : Router → Bool) → opposite s ≡ t → PrimaryPasses w i (opposite s) test → test r ≡ true
   own_passes s test e p =

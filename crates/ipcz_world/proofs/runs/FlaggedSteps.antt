@@ -1,14 +1,14 @@
 -- In every world that steps lead to, a router with a possible act is flagged.
-use Rattle.std.specs.Prelude.{◌≡◌, ◌<◌, ℕ, zero, suc, Bool, true, false, cond, nat_eq, List, [], ◌∷◌}
+use Rattle.std.specs.Prelude.{ℕ, zero, suc, Bool, true, false, cond, nat_eq, List, [], ◌∷◌}
 use Rattle.std.proofs.Common.{sym, subst}
-use Rattle.ipcz_world.proofs.Vocabulary.{place_at, Word, Act, Node, bare_node, Reply, World, node_at, router_at, set_node, set_word, set_claimed}
-use Rattle.ipcz_world.proofs.Vocabulary.{set_mail, answer_of, after_act, can_take, Books, Records, Inv, Mail, Step, new_world, numbers_from, StepAny}
+use Rattle.ipcz_world.proofs.Vocabulary.{place_at, Word, Node, bare_node, Reply, World, node_at, router_at, set_node, set_word, set_claimed}
+use Rattle.ipcz_world.proofs.Vocabulary.{set_mail, answer_of, Books, Records, Inv, Mail, Step, new_world, numbers_from, StepAny}
 use Rattle.ipcz_world.proofs.Vocabulary.{claim_for_open, AreFlagged}
 use Rattle.ipcz_world.specs.World.{new_nodes}
 use Rattle.ipcz_world.proofs.frames.Frames.{node-set_node, node-set_word, node-set_claimed, node-set_mail}
 use Rattle.ipcz_world.proofs.runs.Flagging.{AreAwake, awake-router, awake-pending, awake-put, awake-get, awake-close_node, awake-open}
 use Rattle.ipcz_world.proofs.runs.Flagging.{awake-new, awake-bare, awake-deliver}
-use Rattle.ipcz_world.proofs.runs.NodeSteps.{IsKept, kept-acted, kept-claim_for_open, kept-step}
+use Rattle.ipcz_world.proofs.runs.NodeSteps.{IsKept, kept-claim_for_open, kept-step}
 
 -- each node's routers are so
 abbrev IsAwakeWorld : World → Type 0
@@ -56,12 +56,6 @@ awake-kept = record {
   router = λ w b g n s act r law ln is here may. awake-router (node_at w n) s act r (answer_of w r act) (is n) here may;
   deliver = awake-deliver;
 }
-
--- an act that may be taken
-pub flagged-acted : (w : World) (b : Books) (g : Records) (n : ℕ) (act : Act) → Inv w b g → n < w.count → can_take w n act ≡ true →
-    AreFlagged w → AreFlagged (after_act w n act)
-flagged-acted w b g n act law ln can is = from-nodes (after_act w n act)
-    (kept-acted IsAwakeWorld AreAwake awake-kept w b g n act law ln can (to-nodes w is))
 
 -- the first half of an open
 pub flagged-claim_for_open : (w : World) (n : ℕ) → AreFlagged w → AreFlagged (claim_for_open w n)
