@@ -31,6 +31,7 @@ loads_none size from old named = record {
   found = [];
   loaded = subst (λ (o : Option ℕ). OldLoaded size o []) (sym named) refl;
   part = refl;
+  room = refl;
   seen = sym (append-nil old.seen);
   told = refl;
   known = λ x e inside. trusted_none from x (ap old_named (sym e) ∙ named);
@@ -38,11 +39,12 @@ loads_none size from old named = record {
 
 -- the old link's word was loaded, and names the sender
 pub loads_one : (size from i n : ℕ) (old new : CellState) (source : Option ℕ) → old_named old.part.message ≡ Some i → i < size → IsLinkNumber n → (word_of_bits n).source ≡ Some from →
-    source ≡ (word_of_bits n).source → new.part ≡ old.part → new.seen ≡ old.seen ++ (i, n) ∷ [] → LoadsSource size from old source new
-loads_one size from i n old new source named inside is sender told part seen = record {
+    source ≡ (word_of_bits n).source → new.part ≡ old.part → new.room ≡ old.room → new.seen ≡ old.seen ++ (i, n) ∷ [] → LoadsSource size from old source new
+loads_one size from i n old new source named inside is sender told part room seen = record {
   found = (i, n) ∷ [];
   loaded = subst (λ (o : Option ℕ). OldLoaded size o ((i, n) ∷ [])) (sym named) (hit (nat_lt i size) below);
   part = part;
+  room = room;
   seen = seen;
   told = told;
   known = λ x e within. told ∙ (sender ∙ trusted_sender from i x (ap old_named (sym e) ∙ named));

@@ -19,6 +19,7 @@ use Rattle.ipcz_node.specs.declared.happened.Happened.TheVariants as events
 use Rattle.ipcz_node.specs.Acts.{act_lacks_serials, stand_in}
 use Rattle.ipcz_node.specs.Preparing.{act_grows}
 use Rattle.ipcz_node.specs.Events.{event_of}
+use Rattle.ipcz_node.specs.RoomyNodes.{IsReadyFor}
 use Rattle.ipcz_rule.specs.declared.view.Part.{Part}
 use Rattle.ipcz_base.specs.declared.message.Message.{Message}
 use Rattle.ipcz_rule.specs.Rule.{has_number}
@@ -26,10 +27,10 @@ use Rattle.ipcz_rule.specs.Batches.{batch_from}
 use Rattle.ipcz_cell.specs.Cells.{has_batch}
 use Rattle.ipcz_rule.specs.Steps.{act_part, probe_part}
 use Rattle.ipcz_cell.specs.TableNames.{TableName}
-use Rattle.ipcz_cell.specs.CellStates.{CellState}
+use Rattle.ipcz_cell.specs.CellStates.{CellState, roomy}
 use Rattle.ipcz_rule.specs.Steps.{is_touch_act}
 use Rattle.ipcz_cell.specs.Mails.{Probes, IsProbed, Looks, IsTold, mail_word, posted_part}
-use Rattle.ipcz_cell.specs.TurnEnds.{IsAnswered, IsDone, IsTaken, IsLost, IsRefused, NoSerials, NoMemory, LostIt, lacks_serials, IsSeenBefore, may_grow, LooksFor, Acts}
+use Rattle.ipcz_cell.specs.TurnEnds.{IsAnswered, IsDone, IsTaken, IsLost, IsRefused, NoSerials, NoMemory, LostIt, lacks_serials, IsSeenBefore, may_grow, HasRoom, LooksFor, Acts}
 
 abbrev Seen : Type 0
 Seen = List (ℕ × ℕ)
@@ -61,7 +62,7 @@ looks_none t other l l' = tt
 
 -- an act that was done whole
 pub acts_whole : (t : TableName) (act : Act) (old new : CellState) (event : Happened) (seen : Seen) → new.seen ≡ old.seen ++ seen → LooksFor t act seen old.looked new.looked → IsDone t old.part act event new.part seen → Acts t act old (Ok event) new
-acts_whole t act old new event seen e looks done = record { found = seen; seen = e; looks = looks; outcome = record { taken = act; which = inl refl; done = done } }
+acts_whole t act old new event seen e looks done = record { found = seen; seen = e; looks = looks; outcome = record { taken = act; which = inl refl; done = done }; full = λ room. done }
 
 -- a look: what it has seen, and which message it has taken
 abbrev look_seen : Bool → ℕ → Seen
@@ -80,12 +81,17 @@ look_acts t sender old new h =
     let k = look_at b word sender old new h.0 h.1 refl h.3 in
     acts_whole t (acts.Look sender) old new (events.Look sender) (look_seen b word) k.0 tt (record { answer = answers.Plain; answered = (refl, refl); part = (h.0, h.1, h.2, k.1); event_is = refl })
 
+-- what was lost to another thread doesn't want memory
+pub raced_only : (why : Refusal) → why ≡ refusals.Raced → why ≢ refusals.OutOfMemory
+raced_only why raced starved = let bad : refusals.Raced ≡ refusals.OutOfMemory = sym raced ∙ starved in cc
+
 pub look_lost : (t : TableName) (from : ℕ) (old new : CellState) → Looks (mail_word t from old.part.node) from old false new → Acts t (acts.Look from) old (Err refusals.Raced) new
 look_lost t sender old new h = record {
   found = (mail_word t sender old.part.node, h.1) ∷ [];
   seen = h.3.seen;
   looks = tt;
   outcome = (h.3.part, LostIt refl (h.1, h.2, h.0, refl));
+  full = λ room. raced_only refusals.Raced refl;
 }
 
 -- a post: the mailbox is probed, and then has the message
@@ -143,45 +149,54 @@ touch_sees : (size : ℕ) (p : Part) (act : Act) → is_touch_act act ≡ true �
 touch_sees size p (acts.Hand sender) e = cc
 touch_sees size p other e = refl
 
-touch_grows : (p : Part) (act : Act) → is_touch_act act ≡ true → act_grows p.state act ≡ true → may_grow p act ≡ true
-touch_grows p (acts.Hand sender) e g = refl
+touch_grows : (p : Part) (act : Act) → is_touch_act act ≡ true → act_grows p.state act ≡ true → may_grow p act [] ≡ true
+touch_grows p (acts.Hand sender) e g = cc
 touch_grows p other e g = g
+
+never : {A : Type 0} → false ≡ true → A
+never e = cc
 
 grown : (b : Bool) → (b ≡ false → false ≡ true) → b ≡ true
 grown true h = refl
 grown false h = h refl
 
-pub prepare_refused : (t : TableName) (act : Act) (old new : CellState) (why : Refusal) → lacks_serials old.part act [] ≡ act_lacks_serials old.part.state act → IsSeenBefore t.size old.part act [] → (act_grows old.part.state act ≡ true → may_grow old.part act ≡ true) → act ≡ stand_in act → new.part ≡ old.part → new.seen ≡ old.seen →
-    why ≡ (if act_lacks_serials old.part.state act then refusals.NumbersEnd else refusals.OutOfMemory) → (act_grows old.part.state act ≡ false → false ≡ true) → Acts t act old (Err why) new
-prepare_refused t act old new why lacks none may alone part seen is grows = record {
+pub prepare_refused : (t : TableName) (act : Act) (old new : CellState) (why : Refusal) → lacks_serials old.part act [] ≡ act_lacks_serials old.part.state act → IsSeenBefore t.size old.part act [] → (act_grows old.part.state act ≡ true → may_grow old.part act [] ≡ true) → act ≡ stand_in act → new.part ≡ old.part → new.seen ≡ old.seen →
+    why ≡ (if act_lacks_serials old.part.state act then refusals.NumbersEnd else refusals.OutOfMemory) → (act_grows old.part.state act ≡ false → false ≡ true) → (HasRoom old act [] → false ≡ true) → Acts t act old (Err why) new
+prepare_refused t act old new why lacks none may alone part seen is grows full = record {
   found = [];
   seen = seen ∙ sym (append-nil old.seen);
   looks = looks_none t act old.looked new.looked;
   outcome = (part, go (act_lacks_serials old.part.state act) refl);
+  full = λ room. never (full room);
 }
   where
     go : (b : Bool) → act_lacks_serials old.part.state act ≡ b → IsRefused t.size old.part act (IsLost t old.part act []) why []
     go true e = NoSerials (is ∙ ap (λ (b : Bool). if b then refusals.NumbersEnd else refusals.OutOfMemory) e) (lacks ∙ e) none
     go false e = NoMemory (is ∙ ap (λ (b : Bool). if b then refusals.NumbersEnd else refusals.OutOfMemory) e) (lacks ∙ e) (may (grown (act_grows old.part.state act) grows)) alone none
 
+touch_ready : (c : CellState) (act : Act) → is_touch_act act ≡ true → HasRoom c act [] → IsReadyFor (roomy c) act
+touch_ready c (acts.Hand sender) e room = cc
+touch_ready c other e room = room
+
 pub touch_refused : (t : TableName) (act : Act) (old new : CellState) (why : Refusal) → is_touch_act act ≡ true → act ≡ stand_in act → new.part ≡ old.part → new.seen ≡ old.seen →
-    why ≡ (if act_lacks_serials old.part.state act then refusals.NumbersEnd else refusals.OutOfMemory) → (act_grows old.part.state act ≡ false → false ≡ true) → Acts t act old (Err why) new
-touch_refused t act old new why touch alone part seen is grows = prepare_refused t act old new why (touch_lacks old.part act touch) (touch_sees t.size old.part act touch) (touch_grows old.part act touch) alone part seen is grows
+    why ≡ (if act_lacks_serials old.part.state act then refusals.NumbersEnd else refusals.OutOfMemory) → (act_grows old.part.state act ≡ false → false ≡ true) → (IsReadyFor (roomy old) act → false ≡ true) → Acts t act old (Err why) new
+touch_refused t act old new why touch alone part seen is grows full =
+    prepare_refused t act old new why (touch_lacks old.part act touch) (touch_sees t.size old.part act touch) (touch_grows old.part act touch) alone part seen is grows (λ room. full (touch_ready old act touch room))
 
 -- an act that is made ready and done in one go
 pub told_acts : {X : Type 0} (tells : Tells X) (t : TableName) (act : Act) (old new : CellState) (r : Result X Refusal) → is_touch_act act ≡ true → act ≡ stand_in act →
     IfOk r (tells (event_of old.part.state act answers.Plain)) → OnOk r (new.part ≡ act_part act answers.Plain old.part) →
     IfErr r (λ e. e ≡ (if act_lacks_serials old.part.state act then refusals.NumbersEnd else refusals.OutOfMemory)) →
-    (act_grows old.part.state act ≡ false → IsOk r) → OnErr r (new.part ≡ old.part) → new.seen ≡ old.seen → IsTold tells (λ done. Acts t act old done new) r
-told_acts tells t act old new (Ok told) touch alone is part why grows same seen =
+    (act_grows old.part.state act ≡ false → IsOk r) → (IsReadyFor (roomy old) act → IsOk r) → OnErr r (new.part ≡ old.part) → new.seen ≡ old.seen → IsTold tells (λ done. Acts t act old done new) r
+told_acts tells t act old new (Ok told) touch alone is part why grows full same seen =
     (event_of old.part.state act answers.Plain, is, touch_acts t act old old new (event_of old.part.state act answers.Plain) touch refl refl refl part seen)
-told_acts tells t act old new (Err e) touch alone is part why grows same seen = touch_refused t act old new e touch alone same seen why grows
+told_acts tells t act old new (Err e) touch alone is part why grows full same seen = touch_refused t act old new e touch alone same seen why grows full
 
 -- a begin or a retire that found no memory is an unlock
-pub stood_in : (t : TableName) (serial : ℕ) (act : RouterAct) (old mid new : CellState) (event : Happened) → acts.Router serial router_acts.Unlock ≡ stand_in (acts.Router serial act) → (act_grows old.part.state (acts.Router serial act) ≡ false → false ≡ true) →
+pub stood_in : (t : TableName) (serial : ℕ) (act : RouterAct) (old mid new : CellState) (event : Happened) → acts.Router serial router_acts.Unlock ≡ stand_in (acts.Router serial act) → (act_grows old.part.state (acts.Router serial act) ≡ false → false ≡ true) → (IsReadyFor (roomy old) (acts.Router serial act) → false ≡ true) →
     mid.part ≡ old.part → mid.seen ≡ old.seen → Acts t (acts.Router serial router_acts.Unlock) mid (Ok event) new → Acts t (acts.Router serial act) old (Ok event) new
 unfolding stand_in
-stood_in t serial act old mid new event in_place grows same kept h = record {
+stood_in t serial act old mid new event in_place grows full same kept h = record {
   found = h.found;
   seen = h.seen ∙ ap (λ (l : Seen). l ++ h.found) kept;
   looks = looks act in_place;
@@ -190,6 +205,7 @@ stood_in t serial act old mid new event in_place grows same kept h = record {
     which = inr (in_place, grown (act_grows old.part.state (acts.Router serial act)) grows);
     done = subst (λ (p : Part). IsDone t p (acts.Router serial router_acts.Unlock) event new.part h.found) same (subst (λ (a : Act). IsDone t mid.part a event new.part h.found) (unlocked h.outcome.which) h.outcome.done);
   };
+  full = λ room. never (full room);
 }
   where
     looks : (act : RouterAct) → acts.Router serial router_acts.Unlock ≡ stand_in (acts.Router serial act) → LooksFor t (acts.Router serial act) h.found old.looked new.looked
@@ -201,22 +217,23 @@ stood_in t serial act old mid new event in_place grows same kept h = record {
     unlocked (inl e) = e
     unlocked (inr e) = e.0
 
--- the same act, after a preparation
+-- the same act, after a preparation that has made room for it
 pub after_same : (t : TableName) (act : Act) (old mid new : CellState) (answer : Result Happened Refusal) → mid.part ≡ old.part → mid.seen ≡ old.seen →
-    ((seen : Seen) → LooksFor t act seen old.looked new.looked) → Acts t act mid answer new → Acts t act old answer new
-after_same t act old mid new answer same kept looks h = record {
+    ((seen : Seen) → LooksFor t act seen old.looked new.looked) → ((seen : Seen) → HasRoom mid act seen) → Acts t act mid answer new → Acts t act old answer new
+after_same t act old mid new answer same kept looks room h = record {
   found = h.found;
   seen = h.seen ∙ ap (λ (l : Seen). l ++ h.found) kept;
   looks = looks h.found;
   outcome = subst (λ (p : Part). Rattle.std.specs.Prelude.MatchResult answer (λ event. IsTaken t p act event new.part h.found) (λ why. (new.part ≡ p) × IsRefused t.size p act (IsLost t p act h.found) why h.found)) same h.outcome;
+  full = λ was. subst (λ (p : Part). Rattle.std.specs.Prelude.MatchResult answer (λ event. IsDone t p act event new.part h.found) (λ why. why ≢ refusals.OutOfMemory)) same (h.full (room h.found));
 }
 
 -- a wake, for which there was no room
 pub wake_refused : (t : TableName) (serial : ℕ) (old new : CellState) (why : Refusal) → new.part ≡ old.part → new.seen ≡ old.seen →
-    why ≡ (if act_lacks_serials old.part.state (acts.Router serial router_acts.Wake) then refusals.NumbersEnd else refusals.OutOfMemory) → (act_grows old.part.state (acts.Router serial router_acts.Wake) ≡ false → false ≡ true) →
+    why ≡ (if act_lacks_serials old.part.state (acts.Router serial router_acts.Wake) then refusals.NumbersEnd else refusals.OutOfMemory) → (act_grows old.part.state (acts.Router serial router_acts.Wake) ≡ false → false ≡ true) → (IsReadyFor (roomy old) (acts.Router serial router_acts.Wake) → false ≡ true) →
     Acts t (acts.Router serial router_acts.Wake) old (Err why) new
 unfolding stand_in
-wake_refused t serial old new why part seen is grows = prepare_refused t (acts.Router serial router_acts.Wake) old new why refl refl (λ g. g) refl part seen is grows
+wake_refused t serial old new why part seen is grows full = prepare_refused t (acts.Router serial router_acts.Wake) old new why refl refl (λ g. g) refl part seen is grows full
 
 -- a begin and a retire are done under the lock: each is a touch, and an unlock stands in for it
 pub held_touch : (act : RouterAct) → (act ≡ router_acts.Begin) ⊎ (act ≡ router_acts.Retire) → is_wordless act ≡ true
@@ -252,7 +269,7 @@ plain_acts other mark wake claim lock begin retire unlock = (refl, λ s. refl)
 
 -- nor does one for a close
 pub close_refused : (t : TableName) (e : End) (old new : CellState) (why : Refusal) → new.part ≡ old.part → new.seen ≡ old.seen →
-    why ≡ (if act_lacks_serials old.part.state (acts.Close e) then refusals.NumbersEnd else refusals.OutOfMemory) → (act_grows old.part.state (acts.Close e) ≡ false → false ≡ true) →
+    why ≡ (if act_lacks_serials old.part.state (acts.Close e) then refusals.NumbersEnd else refusals.OutOfMemory) → (act_grows old.part.state (acts.Close e) ≡ false → false ≡ true) → (IsReadyFor (roomy old) (acts.Close e) → false ≡ true) →
     Acts t (acts.Close e) old (Err why) new
 unfolding stand_in
-close_refused t e old new why part seen is grows = touch_refused t (acts.Close e) old new why refl refl part seen is grows
+close_refused t e old new why part seen is grows full = touch_refused t (acts.Close e) old new why refl refl part seen is grows full

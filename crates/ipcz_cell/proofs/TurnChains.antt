@@ -16,9 +16,9 @@ use Rattle.ipcz_node.specs.Events.{event_of, hand_event}
 use Rattle.ipcz_node.specs.Hands.{is_unfit, message_lacks_serials}
 use Rattle.ipcz_rule.specs.Steps.{old_word, trusted}
 use Rattle.ipcz_cell.specs.TableNames.{TableName}
-use Rattle.ipcz_cell.specs.CellStates.{CellState}
+use Rattle.ipcz_cell.specs.CellStates.{CellState, roomy}
 use Rattle.ipcz_cell.specs.Parts.{handed_part, part_handed}
-use Rattle.ipcz_cell.specs.Mails.{Handles, OldLoaded, old_named}
+use Rattle.ipcz_cell.specs.Mails.{HasRoomToHandle, Handles, OldLoaded, old_named}
 use Rattle.ipcz_cell.specs.Turns.{Chooses}
 use Rattle.ipcz_cell.specs.TurnEnds.{Acts, IsDone}
 use Rattle.ipcz_node.specs.declared.node_set.NodeSet.{NodeSet}
@@ -53,18 +53,21 @@ item_handled size sender old new x is none part seen = record {
   loaded = subst (λ (o : Option ℕ). OldLoaded size o []) (sym none) refl;
   seen = seen ∙ sym (append-nil old.seen);
   outcome = (refl, part ∙ ap (λ (o : Option Message). part_handed sender None o old.part) is);
+  full = λ room. tt;
 }
 
 -- nor one for which no memory is found
 pub item_refused : (size from : ℕ) (old new : CellState) (x : Message) (why : Refusal) → old.part.message ≡ Some x → old_word x ≡ None →
-    (y : Message) × (old.part.message ≡ Some y) × (why ≡ OutOfMemory) × (message_lacks_serials old.part.state from y None ≡ false) → new.part ≡ old.part → new.seen ≡ old.seen → Handles size from old (Err why) new
-item_refused size sender old new x why is none h part seen = record {
+    (y : Message) × (old.part.message ≡ Some y) × (why ≡ OutOfMemory) × (message_lacks_serials old.part.state from y None ≡ false) →
+    ((y : Message) → old.part.message ≡ Some y → HasRoomToHandle (roomy old) from y None → false ≡ true) → new.part ≡ old.part → new.seen ≡ old.seen → Handles size from old (Err why) new
+item_refused size sender old new x why is none h full part seen = record {
   message = h.0;
   in_hand = h.1;
   found = [];
   loaded = subst (λ (o : Option ℕ). OldLoaded size o []) (sym (ap old_named (sym h.1 ∙ is) ∙ none)) refl;
   seen = seen ∙ sym (append-nil old.seen);
   outcome = (h.2 ∙ sym (ap (λ (b : Bool). if b then NumbersEnd else OutOfMemory) h.3), part);
+  full = λ room. absurd (let bad = full h.0 h.1 room in cc);
 }
 
 module _ (t : TableName) (first : CellState) (before : NodeSet) where

@@ -1,7 +1,8 @@
 -- A turn from its parts: the choice of an act, and the act.
-use Rattle.std.specs.Prelude.{◌≡◌, ◌≢◌, ℕ, Bool, true, false, if◌then◌else◌, List, [], ◌∷◌, ◌++◌, Option, Some, None, Result, Ok, Err, MatchBool, MatchResult}
+use Rattle.std.specs.Prelude.{◌≡◌, ◌≢◌, ◌<◌, ◌||◌, not, ℕ, Bool, true, false, if◌then◌else◌, List, [], ◌∷◌, ◌++◌, Option, Some, None, Result, Ok, Err, IfSome, MatchBool, MatchResult}
 use Rattle.std.proofs.Common.{ap, sym, subst, ◌∙◌, refl, inl, inr, arith, append_assoc, append-nil}
 use Rattle.ipcz_base.specs.declared.message.Message.{Message}
+use Rattle.ipcz_base.specs.declared.message.Message.TheVariants as messages
 use Rattle.ipcz_base.specs.declared.refusal.Refusal.{Refusal}
 use Rattle.ipcz_base.specs.declared.refusal.Refusal.TheVariants as refusals
 use Rattle.ipcz_router.specs.Router.{Router}
@@ -14,18 +15,19 @@ use Rattle.ipcz_node.specs.declared.happened.Happened.{Happened}
 use Rattle.ipcz_node.specs.declared.happened.Happened.TheVariants as events
 use Rattle.ipcz_node.specs.Node.{Node, router_in}
 use Rattle.ipcz_node.specs.Acts.{commit, stand_in}
-use Rattle.ipcz_node.specs.RoomyNodes.{IsPossibleAct}
+use Rattle.ipcz_node.specs.RoomyNodes.{IsPossibleAct, IsReadyFor, NodeRoom, RoomyNode}
 use Rattle.ipcz_node.specs.Events.{event_of, event_at, router_event, word_event, link_of}
-use Rattle.ipcz_node.specs.Hands.{message_lacks_serials}
+use Rattle.ipcz_node.specs.Hands.{fits, grows_where_it_fits, message_grows, message_lacks_serials}
+use Rattle.ipcz_node.specs.Telling.{HasRoomFor}
 use Rattle.ipcz_rule.specs.declared.view.Part.{Part}
 use Rattle.ipcz_cell.specs.TableNames.{TableName}
-use Rattle.ipcz_cell.specs.CellStates.{CellState}
+use Rattle.ipcz_cell.specs.CellStates.{CellState, roomy}
 use Rattle.ipcz_rule.specs.Steps.{old_word}
 use Rattle.ipcz_cell.specs.Claims.{FindsNone, Answered, Got as Claimed, Dry as WasDry, Slotless as HadNoSlot, Lost as WasLost}
-use Rattle.ipcz_cell.specs.Mails.{mail_word, old_named, OldLoaded, source_found, Handles}
+use Rattle.ipcz_cell.specs.Mails.{mail_word, old_named, OldLoaded, source_found, HasRoomToHandle, Handles}
 use Rattle.ipcz_cell.specs.Turns.{IsFirst, IsLast, Chooses, IsInside}
 use Rattle.ipcz_rule.specs.Races.{IsWaitedFor}
-use Rattle.ipcz_cell.specs.TurnEnds.{IsTaken, IsLost, IsRefused, NoSerials, NoMemory, LostIt, hand_lacks_serials, LooksFor, Acts, EndsRaced, IsLostTurn, Turns, Got, Dry, NoSlot}
+use Rattle.ipcz_cell.specs.TurnEnds.{hand_grows, IsDone, IsTaken, IsLost, IsRefused, NoSerials, NoMemory, LostIt, hand_lacks_serials, HasRoom, LooksFor, Acts, EndsRaced, IsLostTurn, Turns, Got, Dry, NoSlot}
 use Rattle.ipcz_cell.proofs.TurnWords.{seen_two}
 use Rattle.ipcz_cell.proofs.TurnActs.{acts_whole}
 
@@ -36,6 +38,22 @@ Seen = List (ℕ × ℕ)
 pub hand_loaded : (size : ℕ) (o : Option Message) (x : Message) (found : Seen) → o ≡ Some x → OldLoaded size (old_word x) found → OldLoaded size (old_named o) found
 hand_loaded size o x found e h = subst (λ (q : Option Message). OldLoaded size (old_named q) found) (sym e) h
 
+-- for a message that makes nothing grow there is room
+fits_small : (k : RoomyNode) (x : Message) → grows_where_it_fits x ≡ false → HasRoomFor k x
+unfolding grows_where_it_fits HasRoomFor
+fits_small k (messages.Item link side number item moves) e = cc
+fits_small k (messages.BypassPeer link side old target fresh) e = cc
+fits_small k (messages.AcceptBypass old side fresh length) e = cc
+fits_small k (messages.StopProxying side old in_length out_length) e = cc
+fits_small k other e = tt
+
+stays_small : (k : RoomyNode) (from : ℕ) (x : Message) (source : Option ℕ) → message_grows k.node from x source ≡ false → HasRoomToHandle k from x source
+stays_small k sender x source e = go (fits k.node sender x source) e
+  where
+    go : (b : Bool) → (not b || grows_where_it_fits x) ≡ false → MatchBool b (HasRoomFor k x) (0 < k.room.strays)
+    go true e = fits_small k x e
+    go false e = cc
+
 -- the message in hand is handled
 pub hand_takes : (t : TableName) (from : ℕ) (old new : CellState) (r : Result Happened Refusal) → Handles t.size from old r new → Acts t (acts.Hand from) old r new
 unfolding stand_in
@@ -45,7 +63,13 @@ hand_takes t sender old new (Ok event) h = acts_whole t (acts.Hand sender) old n
   part = (h.message, h.in_hand, h.outcome.1);
   event_is = (h.message, h.in_hand, h.outcome.0);
 })
-hand_takes t sender old new (Err why) h = record { found = h.found; seen = h.seen; looks = tt; outcome = (h.outcome.1, go (message_lacks_serials old.part.state sender h.message (source_found h.found)) refl) }
+hand_takes t sender old new (Err why) h = record {
+  found = h.found;
+  seen = h.seen;
+  looks = tt;
+  outcome = (h.outcome.1, go (message_lacks_serials old.part.state sender h.message (source_found h.found)) refl);
+  full = λ room. h.full (subst (λ (o : Option Message). IfSome o (λ x. HasRoomToHandle (roomy old) sender x (source_found h.found))) h.in_hand room);
+}
   where
     lacks : (b : Bool) → message_lacks_serials old.part.state sender h.message (source_found h.found) ≡ b → hand_lacks_serials old.part.state sender (source_found h.found) old.part.message ≡ b
     lacks b f = ap (hand_lacks_serials old.part.state sender (source_found h.found)) h.in_hand ∙ f
@@ -58,7 +82,11 @@ hand_takes t sender old new (Err why) h = record { found = h.found; seen = h.see
 
     go : (b : Bool) → message_lacks_serials old.part.state sender h.message (source_found h.found) ≡ b → IsRefused t.size old.part (acts.Hand sender) (IsLost t old.part (acts.Hand sender) h.found) why h.found
     go true f = NoSerials (why_is true f) (lacks true f) loaded
-    go false f = NoMemory (why_is false f) (lacks false f) refl refl loaded
+    go false f = NoMemory (why_is false f) (lacks false f) (ap (hand_grows old.part.state sender (source_found h.found)) h.in_hand ∙ grows (message_grows old.part.state sender h.message (source_found h.found)) refl) refl loaded
+      where
+        grows : (b : Bool) → message_grows old.part.state sender h.message (source_found h.found) ≡ b → b ≡ true
+        grows true e = refl
+        grows false e = absurd (h.full (stays_small (roomy old) sender h.message (source_found h.found) e) (why_is false f))
 
 -- nothing is done
 pub idle_acts : (t : TableName) (old : CellState) → Acts t acts.Idle old (Ok events.Idle) old
@@ -158,6 +186,12 @@ chosen t act old mid c may = (go act c.first, subst (λ (p : Part). IsPossibleAc
     go (acts.Post to) h = h.inside
     go other h = tt
 
+-- the room for an act is the cell's, whatever it has seen
+same_room : (act : Act) (seen : Seen) (c d : CellState) → c.part ≡ d.part → c.room ≡ d.room → HasRoom c act seen → HasRoom d act seen
+same_room (acts.Hand sender) seen c d part room h =
+    subst (λ (k : Part × NodeRoom). IfSome k.0.message (λ x. HasRoomToHandle (record { node = k.0.state; room = k.1 }) sender x (source_found seen))) (λ j. (part j, room j)) h
+same_room other seen c d part room h = subst (λ (k : Part × NodeRoom). IsReadyFor (record { node = k.0.state; room = k.1 }) other) (λ j. (part j, room j)) h
+
 -- a turn
 pub turn_done : (t : TableName) (act : Act) (old mid new : CellState) (answer : Result Happened Refusal) → Chooses t old act mid → Acts t act mid answer new → Turns t old answer new
 turn_done t act old mid new answer c h = record {
@@ -168,6 +202,8 @@ turn_done t act old mid new answer c h = record {
   seen = h.seen ∙ (ap (λ (l : Seen). l ++ h.found) c.looked.seen ∙ append_assoc old.seen c.found h.found);
   looks = subst (λ (l : List ℕ). LooksFor t act h.found l new.looked) c.looked.looked h.looks;
   outcome = go answer (subst (λ (p : Part). MatchResult answer (λ event. IsTaken t p act event new.part h.found) (λ why. (new.part ≡ p) × IsRefused t.size p act (IsLost t p act h.found) why h.found)) c.looked.part h.outcome);
+  full = λ room. subst (λ (p : Part). MatchResult answer (λ event. IsDone t p act event new.part h.found) (λ why. why ≢ refusals.OutOfMemory)) c.looked.part
+      (h.full (same_room act h.found old mid (sym c.looked.part) (sym c.looked.room) room));
 }
   where
     go : (r : Result Happened Refusal) → MatchResult r (λ event. IsTaken t old.part act event new.part h.found) (λ why. (new.part ≡ old.part) × IsRefused t.size old.part act (IsLost t old.part act h.found) why h.found) →

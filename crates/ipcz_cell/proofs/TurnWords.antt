@@ -1,6 +1,6 @@
 -- What a turn tells of an act on a link's word: its event, its answer and what was seen.
 use Rattle.std.specs.Prelude.{◌≡◌, ℕ, List, [], ◌∷◌, ◌++◌, Option, Some, None, option_map, Ok}
-use Rattle.std.proofs.Common.{ap, sym, ◌∙◌, refl, inl, append_assoc}
+use Rattle.std.proofs.Common.{ap, sym, ◌∙◌, refl, append_assoc}
 use Rattle.ipcz_base.specs.declared.link_end.LinkEnd.{LinkEnd}
 use Rattle.ipcz_base.specs.declared.link_id.LinkId.{LinkId}
 use Rattle.ipcz_base.specs.declared.link_id.LinkId.TheVariants.{Central, Peripheral}
@@ -28,6 +28,7 @@ use Rattle.ipcz_cell.specs.CellStates.{CellState}
 use Rattle.ipcz_cell.specs.Words.{ActsOnWord, LocksWord, lock_seen}
 use Rattle.ipcz_cell.specs.declared.words.LockTry.{LockTry}
 use Rattle.ipcz_cell.specs.TurnEnds.{try_event, FoundWord, IsAnswered, LooksFor, Acts}
+use Rattle.ipcz_cell.proofs.TurnActs.{acts_whole}
 
 abbrev Loads : Type 0
 Loads = List (ℕ × ℕ)
@@ -98,27 +99,18 @@ pub word_acts : (t : TableName) (serial : ℕ) (act : RouterAct) (old new : Cell
     ((answer : Answer) (seen : Loads) → FoundWord old.part.state serial act answer seen → IsAnswered t old.part (acts.Router serial act) answer seen) →
     ((seen : Loads) → LooksFor t (acts.Router serial act) seen old.looked new.looked) → (h : ActsOnWord serial act old after new) →
     event ≡ event_of old.part.state (acts.Router serial act) (word_answer (word_of_bits h.found) h.side None act) → Acts t (acts.Router serial act) old (Ok event) new
-word_acts t serial act old new after event fits looks h e = record {
-  found = (h.word, h.found) ∷ [];
-  seen = h.seen;
-  looks = looks ((h.word, h.found) ∷ []);
-  outcome = record {
-    taken = acts.Router serial act;
-    which = inl refl;
-    done = record {
-      answer = word_answer (word_of_bits h.found) h.side None act;
-      answered = fits (word_answer (word_of_bits h.found) h.side None act) ((h.word, h.found) ∷ []) (record {
-        word = h.word;
-        side = h.side;
-        found = h.found;
-        answered = record { named = h.named; is_word = h.is_word; answered = refl };
-        seen_is = refl;
-      });
-      part = h.part;
-      event_is = e;
-    };
-  };
-}
+word_acts t serial act old new after event fits looks h e = acts_whole t (acts.Router serial act) old new event ((h.word, h.found) ∷ []) h.seen (looks ((h.word, h.found) ∷ [])) (record {
+  answer = word_answer (word_of_bits h.found) h.side None act;
+  answered = fits (word_answer (word_of_bits h.found) h.side None act) ((h.word, h.found) ∷ []) (record {
+    word = h.word;
+    side = h.side;
+    found = h.found;
+    answered = record { named = h.named; is_word = h.is_word; answered = refl };
+    seen_is = refl;
+  });
+  part = h.part;
+  event_is = e;
+})
 
 -- what a mark, an unlock and a wake are seen to be, by the link that was asked for
 pub mark_acts : (t : TableName) (serial : ℕ) (old new : CellState) (after : ℕ) (link : LinkId) → ((word : ℕ) (side : Side) → word_side old.part.state serial ≡ Some (word, side) → link ≡ Central word) →
@@ -162,24 +154,16 @@ pub lock_acts : (t : TableName) (serial : ℕ) (old new : CellState) (try : Lock
     Acts t (acts.Router serial router_acts.Lock) old (Ok event) new
 lock_acts t serial old new try event h e =
     let told = h.told in
-    let tried = h.tried in record {
-      found = lock_seen h.word h.loaded try.plan [];
-      seen = tried.2 ∙ seen_of_plan h.word h.loaded try.plan old.seen;
-      looks = tt;
-      outcome = record {
-        taken = acts.Router serial router_acts.Lock;
-        which = inl refl;
-        done = record {
-          answer = word_answer (word_of_bits h.loaded) h.side (source_in old.part.state serial) router_acts.Lock;
-          answered = record {
-            word = h.word;
-            side = h.side;
-            found = h.loaded;
-            answered = record { named = h.named; is_word = h.is_word; answered = refl };
-            seen_is = ap (λ (p : LockPlan). lock_seen h.word h.loaded p []) tried.0;
-          };
-          part = tried.1;
-          event_is = e ∙ ((λ j. try_event serial (told.0 j) (told.1 j) (tried.0 j)) ∙ lock_event old.part.state serial h.word h.loaded (source_in old.part.state serial) h.side h.named h.is_word);
-        };
+    let tried = h.tried in
+    acts_whole t (acts.Router serial router_acts.Lock) old new event (lock_seen h.word h.loaded try.plan []) (tried.2 ∙ seen_of_plan h.word h.loaded try.plan old.seen) tt (record {
+      answer = word_answer (word_of_bits h.loaded) h.side (source_in old.part.state serial) router_acts.Lock;
+      answered = record {
+        word = h.word;
+        side = h.side;
+        found = h.loaded;
+        answered = record { named = h.named; is_word = h.is_word; answered = refl };
+        seen_is = ap (λ (p : LockPlan). lock_seen h.word h.loaded p []) tried.0;
       };
-    }
+      part = tried.1;
+      event_is = e ∙ ((λ j. try_event serial (told.0 j) (told.1 j) (tried.0 j)) ∙ lock_event old.part.state serial h.word h.loaded (source_in old.part.state serial) h.side h.named h.is_word);
+    })

@@ -1,13 +1,15 @@
 -- The mailboxes of a cell: what the calls on them answer and leave.
 use Rattle.std.specs.Prelude.{◌≡◌, ◌≢◌, ◌<◌, ◌+◌, ◌*◌, ℕ, [], ◌∷◌, ◌++◌, Bool, false, nat_lt, if◌then◌else◌, List, Option, Some, None}
-use Rattle.std.specs.Prelude.{option_to_list, MatchBool, IfSome, Result, Ok, Err, MatchResult}
+use Rattle.std.specs.Prelude.{option_to_list, MatchBool, IfSome, IfErr, Result, Ok, Err, MatchResult}
 use Rattle.ipcz_base.specs.declared.message.Message.{Message}
 use Rattle.ipcz_base.specs.declared.refusal.Refusal.{Refusal}
 use Rattle.ipcz_base.specs.declared.refusal.Refusal.TheVariants.{NumbersEnd, OutOfMemory}
 use Rattle.ipcz_word.specs.Layout.{word_of_bits}
 use Rattle.ipcz_node.specs.declared.happened.Happened.{Happened}
 use Rattle.ipcz_node.specs.Events.{hand_event}
-use Rattle.ipcz_node.specs.Hands.{message_lacks_serials}
+use Rattle.ipcz_node.specs.Hands.{fits, message_lacks_serials}
+use Rattle.ipcz_node.specs.RoomyNodes.{RoomyNode}
+use Rattle.ipcz_node.specs.Telling.{HasRoomFor}
 use Rattle.ipcz_world.specs.Coding.{IsLinkNumber}
 use Rattle.ipcz_rule.specs.Rule.{has_number}
 use Rattle.ipcz_rule.specs.declared.view.Part.{Part}
@@ -18,7 +20,7 @@ use Rattle.ipcz_node.specs.Acts.{first_of, rest_of}
 use Rattle.ipcz_node.specs.Node.{Node, outbox}
 use Rattle.ipcz_cell.specs.Cells.{has_batch}
 use Rattle.ipcz_cell.specs.TableNames.{TableName}
-use Rattle.ipcz_cell.specs.CellStates.{CellState}
+use Rattle.ipcz_cell.specs.CellStates.{CellState, roomy}
 
 -- the slot of the mailbox from one node to another
 abbrev pub slot_of : TableName → ℕ → ℕ → ℕ
@@ -73,11 +75,18 @@ pub record LoadsSource (size from : ℕ) (old : CellState) (answer : Option ℕ)
   pub found : List (ℕ × ℕ)
   pub loaded : OldLoaded size (old_named old.part.message) found
   pub part : new.part ≡ old.part
+  pub room : new.room ≡ old.room
   pub seen : new.seen ≡ old.seen ++ found
   pub told : answer ≡ source_found found
   pub known : (x : Message) → old.part.message ≡ Some x → IsKnown size from x answer
 
--- what handling the message in hand loads, answers and leaves: the source is that of the old link's word, as the load has found it
+-- there is room for a message of a sender, for which this source is known: if it fits, for what it makes a router take and tell, and else for
+-- a stray more
+abbrev pub HasRoomToHandle : RoomyNode → ℕ → Message → Option ℕ → Type 0
+HasRoomToHandle k from x source = MatchBool (fits k.node from x source) (HasRoomFor k x) (0 < k.room.strays)
+
+-- what handling the message in hand loads, answers and leaves: the source is that of the old link's word, as the load has found it. It isn't
+-- refused for want of memory if there was room
 pub record Handles (size from : ℕ) (old : CellState) (answer : Result Happened Refusal) (new : CellState) : Type 0 where
   pub message : Message
   pub in_hand : old.part.message ≡ Some message
@@ -89,6 +98,7 @@ pub record Handles (size from : ℕ) (old : CellState) (answer : Result Happened
       (new.part ≡ hand_part from (source_found found) message old.part))
       (λ why. (why ≡ (if message_lacks_serials old.part.state from message (source_found found) then NumbersEnd else OutOfMemory)) ×
       (new.part ≡ old.part))
+  pub full : HasRoomToHandle (roomy old) from message (source_found found) → IfErr answer (λ why. why ≢ OutOfMemory)
 
 -- what a call tells of what happened, or why it was refused: Done is what it promises of the event that it tells, and of the refusal
 abbrev pub IsTold : {X : Type 0} → (Happened → X → Type 0) → (Result Happened Refusal → Type 0) → Result X Refusal → Type 0

@@ -13,12 +13,12 @@ use Rattle.ipcz_node.specs.declared.act.Act.TheVariants as acts
 use Rattle.ipcz_node.specs.Node.{Node}
 use Rattle.ipcz_node.specs.Acts.{is_quiet}
 use Rattle.ipcz_node.specs.Calls.{serials_refusal}
-use Rattle.ipcz_node.specs.RoomyNodes.{IsPossibleAct}
+use Rattle.ipcz_node.specs.RoomyNodes.{CanOpen, IsPossibleAct}
 use Rattle.ipcz_rule.specs.Rule.{saw}
 use Rattle.ipcz_rule.specs.Steps.{claimed_part, open_part}
 use Rattle.ipcz_cell.specs.TableNames.{TableName}
 use Rattle.ipcz_rule.specs.declared.view.Part.{Part}
-use Rattle.ipcz_cell.specs.CellStates.{CellState, change_part}
+use Rattle.ipcz_cell.specs.CellStates.{CellState, change_part, roomy}
 use Rattle.ipcz_cell.specs.Cells.{has_batch}
 use Rattle.ipcz_cell.specs.Outcomes.{Tells, loaded}
 use Rattle.ipcz_cell.specs.Mails.{mail_word, HasSeen}
@@ -102,9 +102,15 @@ pub record OpensWord (old : CellState) (ends : End × End) (new : CellState) : T
   pub part : new.part ≡ open_part word old.part
   pub seen : new.seen ≡ old.seen ++ (word, 0) ∷ []
 
+-- an open for which there wasn't room, or there weren't serials: if one was under way it has seen nothing, and else that a number was left
+pub record IsUnready (t : TableName) (old new : CellState) : Type 0 where
+  pub lacks : CanOpen (roomy old) → ⊥
+  pub seen : MatchBool (is_some old.part.state.opening) (new.seen ≡ old.seen) ((n : ℕ) × (n < t.size) × (new.seen ≡ old.seen ++ (t.size, n) ∷ []))
+
 -- what the open of a pair answers and leaves: an open under way is used; else a word is claimed for it, which no count that was seen has
 -- passed. NoWord only if the load found that each number was claimed, or, where slots are used again, none was found (`FindsNone`), with all else
--- ready; Raced only if the load and the exchange found different counts. A refused open leaves the node's part
+-- ready; OutOfMemory only if there wasn't room (`IsUnready`); Raced only if the load and the exchange found different counts. A refused open
+-- leaves the node's part
 pub data OpensPair (t : TableName) (old new : CellState) (answer : Result (End × End) Refusal) : Type 0 where
   UnderWay : (ends : End × End) → answer ≡ Ok ends → ends.0.pair < t.size → OpensWord old ends new → OpensPair t old new answer
   Fresh : (c n : ℕ) (ends : End × End) → answer ≡ Ok ends → old.part.state.opening ≡ None → IsNumberAt t c n → AreReached t.size old.seen c →
@@ -113,8 +119,7 @@ pub data OpensPair (t : TableName) (old new : CellState) (answer : Result (End �
   NoneLeft : answer ≡ Err NoWord → old.part.state.opening ≡ None → HasSeen t.size t.size old new → OpensPair t old new answer
   NoSlot : (c : ℕ) → answer ≡ Err NoWord → t.reuses ≡ true → old.part.state.opening ≡ None → serials_refusal old.part.state ≡ None →
       c < t.size → new.part ≡ old.part → new.seen ≡ old.seen ++ (t.size, c) ∷ [] → FindsNone t c old.looked new.looked → OpensPair t old new answer
-  Unready : answer ≡ Err (unwrap_or (serials_refusal old.part.state) OutOfMemory) → new.part ≡ old.part →
-      MatchBool (is_some old.part.state.opening) (new.seen ≡ old.seen) ((n : ℕ) × (n < t.size) × (new.seen ≡ old.seen ++ (t.size, n) ∷ [])) →
+  Unready : answer ≡ Err (unwrap_or (serials_refusal old.part.state) OutOfMemory) → new.part ≡ old.part → IsUnready t old new →
       OpensPair t old new answer
   Lost : (n found : ℕ) → answer ≡ Err Raced → old.part.state.opening ≡ None → serials_refusal old.part.state ≡ None → n < t.size → found ≢ n →
       new.part ≡ old.part → new.seen ≡ (old.seen ++ (t.size, n) ∷ []) ++ (t.size, found) ∷ [] → OpensPair t old new answer

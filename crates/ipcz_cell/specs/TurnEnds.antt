@@ -1,6 +1,6 @@
 -- What a turn of a cell answers and leaves.
 use Rattle.std.specs.Prelude.{◌≡◌, ◌≢◌, ◌<◌, ◌≤◌, ◌⊎◌, ℕ, [], ◌∷◌, ◌++◌, List, Bool, true, false, if◌then◌else◌, Option, Some, None, Result}
-use Rattle.std.specs.Prelude.{MatchResult}
+use Rattle.std.specs.Prelude.{IfSome, MatchResult}
 use Rattle.ipcz_base.specs.declared.message.Message.{Message}
 use Rattle.ipcz_base.specs.declared.refusal.Refusal.{Refusal}
 use Rattle.ipcz_base.specs.declared.refusal.Refusal.TheVariants.{NumbersEnd, OutOfMemory, Raced}
@@ -21,8 +21,9 @@ use Rattle.ipcz_node.specs.declared.happened.Happened.TheVariants as events
 use Rattle.ipcz_node.specs.Acts.{stand_in, act_lacks_serials}
 use Rattle.ipcz_node.specs.Preparing.{act_grows}
 use Rattle.ipcz_node.specs.Events.{event_of, hand_event}
-use Rattle.ipcz_node.specs.Hands.{message_lacks_serials}
+use Rattle.ipcz_node.specs.Hands.{message_grows, message_lacks_serials}
 use Rattle.ipcz_node.specs.Node.{Node, word_side, source_in}
+use Rattle.ipcz_node.specs.RoomyNodes.{IsReadyFor}
 use Rattle.ipcz_world.specs.Coding.{IsLinkNumber}
 use Rattle.ipcz_world.specs.WordAnswers.{word_answer}
 use Rattle.ipcz_rule.specs.declared.view.Part.{Part}
@@ -31,10 +32,10 @@ use Rattle.ipcz_rule.specs.Races.{IsWaitedFor}
 use Rattle.ipcz_rule.specs.Batches.{batch_from}
 use Rattle.ipcz_rule.specs.Steps.{act_part, hand_part}
 use Rattle.ipcz_cell.specs.TableNames.{TableName}
-use Rattle.ipcz_cell.specs.CellStates.{CellState}
+use Rattle.ipcz_cell.specs.CellStates.{CellState, roomy}
 use Rattle.ipcz_cell.specs.Claims.{IsNumberAt, FindsNone}
 use Rattle.ipcz_cell.specs.Cells.{has_batch}
-use Rattle.ipcz_cell.specs.Mails.{mail_word, old_named, OldLoaded, source_found, looked_part, posted_part}
+use Rattle.ipcz_cell.specs.Mails.{mail_word, old_named, OldLoaded, HasRoomToHandle, source_found, looked_part, posted_part}
 use Rattle.ipcz_cell.specs.Words.{lock_seen}
 use Rattle.ipcz_cell.specs.Turns.{IsFirst}
 
@@ -107,15 +108,20 @@ pub record IsDone (t : TableName) (p : Part) (act : Act) (event : Happened) (p' 
   pub part : IsAfter t act answer seen p p'
   pub event_is : IsEvent act answer seen p event
 
--- whether an act may want memory
-abbrev pub may_grow : Part → Act → Bool
-may_grow p (acts.Hand from) = true
-may_grow p other = act_grows p.state other
+-- whether handling this message, if there is one, makes something grow
+abbrev pub hand_grows : Node → ℕ → Option ℕ → Option Message → Bool
+hand_grows n from source None = false
+hand_grows n from source (Some x) = message_grows n from x source
+
+-- whether an act that has seen so much makes something grow, and so may want memory
+abbrev pub may_grow : Part → Act → List (ℕ × ℕ) → Bool
+may_grow p (acts.Hand from) seen = hand_grows p.state from (source_found seen) p.message
+may_grow p other seen = act_grows p.state other
 
 -- an act was done, or what stands in for it, only if it makes something grow
 pub record IsTaken (t : TableName) (p : Part) (act : Act) (event : Happened) (p' : Part) (seen : List (ℕ × ℕ)) : Type 0 where
   pub taken : Act
-  pub which : (taken ≡ act) ⊎ ((taken ≡ stand_in act) × (may_grow p act ≡ true))
+  pub which : (taken ≡ act) ⊎ ((taken ≡ stand_in act) × (may_grow p act seen ≡ true))
   pub done : IsDone t p taken event p' seen
 
 -- whether handling this message, if there is one, wants more serials than are left
@@ -146,9 +152,19 @@ IsLost t p other seen = ⊥
 -- why an act was refused, if Lost is what it means that it was lost to another thread
 pub data IsRefused (size : ℕ) (p : Part) (act : Act) (Lost : Type 0) (why : Refusal) (seen : List (ℕ × ℕ)) : Type 0 where
   NoSerials : why ≡ NumbersEnd → lacks_serials p act seen ≡ true → IsSeenBefore size p act seen → IsRefused size p act Lost why seen
-  NoMemory : why ≡ OutOfMemory → lacks_serials p act seen ≡ false → may_grow p act ≡ true → act ≡ stand_in act →
+  NoMemory : why ≡ OutOfMemory → lacks_serials p act seen ≡ false → may_grow p act seen ≡ true → act ≡ stand_in act →
       IsSeenBefore size p act seen → IsRefused size p act Lost why seen
   LostIt : why ≡ Raced → Lost → IsRefused size p act Lost why seen
+
+-- there is room for what an act wants that has seen so much
+abbrev pub HasRoom : CellState → Act → List (ℕ × ℕ) → Type 0
+HasRoom c (acts.Hand from) seen = IfSome c.part.message (λ x. HasRoomToHandle (roomy c) from x (source_found seen))
+HasRoom c other seen = IsReadyFor (roomy c) other
+
+-- an act for which there was room was done itself, with nothing in its stead, or it wasn't refused for want of memory
+abbrev pub IsDoneIfRoom : TableName → Act → List (ℕ × ℕ) → CellState → Result Happened Refusal → CellState → Type 0
+IsDoneIfRoom t act seen old answer new =
+    HasRoom old act seen → MatchResult answer (λ event. IsDone t old.part act event new.part seen) (λ why. why ≢ OutOfMemory)
 
 -- a claim that has found the claim count below the last number, and taken none, has looked for one in vain (`FindsNone`)
 abbrev pub LooksFor : TableName → Act → List (ℕ × ℕ) → List ℕ → List ℕ → Type 0
@@ -162,6 +178,7 @@ pub record Acts (t : TableName) (act : Act) (old : CellState) (answer : Result H
   pub looks : LooksFor t act found old.looked new.looked
   pub outcome : MatchResult answer (λ event. IsTaken t old.part act event new.part found)
       (λ why. (new.part ≡ old.part) × IsRefused t.size old.part act (IsLost t old.part act found) why found)
+  pub full : IsDoneIfRoom t act found old answer new
 
 -- the last of what was seen is a load and an exchange of one word, which have found different numbers: it is a link word or the claim
 -- count, or a mailbox that the node waits for
@@ -189,3 +206,4 @@ pub record Turns (t : TableName) (old : CellState) (answer : Result Happened Ref
   pub looks : LooksFor t act found old.looked new.looked
   pub outcome : MatchResult answer (λ event. IsTaken t old.part act event new.part found)
       (λ why. (new.part ≡ old.part) × IsRefused t.size old.part act (IsLostTurn t old.part act loads found) why found)
+  pub full : IsDoneIfRoom t act found old answer new

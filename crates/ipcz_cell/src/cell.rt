@@ -1,7 +1,7 @@
 //! Cells: a node's state with its seat at the table. Here are its puts, gets and closes, and the acts that take no link word and no mailbox.
 ghost use Rattle.std.specs.Prelude.{◌≡◌, ◌<◌, ◌+◌, true, false, if◌then◌else◌, [], ◌∷◌, Some, None, OnOk, OnErr, IfOk, IfErr, IsOk, unwrap_or};
 ghost use Rattle.ipcz_node.specs.Calls.{put_refusal, put_number, get_refusal, got_at, close_refusal};
-ghost use Rattle.ipcz_node.specs.RoomyNodes.{IsReadyFor, IsPossibleAct};
+ghost use Rattle.ipcz_node.specs.RoomyNodes.{IsReadyFor, IsPossibleAct, TakesMore};
 ghost use Rattle.ipcz_node.specs.Acts.{act_lacks_serials};
 ghost use Rattle.ipcz_node.specs.Preparing.{act_grows};
 ghost use Rattle.ipcz_node.specs.Events.{event_of};
@@ -111,6 +111,7 @@ fn put_here<F: FabricName, X: Outcome>(
     ensures allowed { OnOk result (put_refusal profile state.old.node at bytes ends ≡ None) }
     ensures number { IfOk result (λ n. n ≡ put_number state.old.node at) }
     ensures why { IfErr result (λ e. e.why ≡ unwrap_or (put_refusal profile state.old.node at bytes ends) Refusal.OutOfMemory) }
+    ensures full { put_refusal profile state.old.node at bytes ends ≡ None → TakesMore state.old at → IsOk result }
     ensures back { IfErr result (λ e. (e.bytes ≡ bytes) × (e.ends ≡ ends)) }
     ensures seated { IsSeated F.table state.new.node seat.new.table_id (mine_of seat.new.me) }
     ensures slots { SlotsStay seat.old.me seat.new.me }
@@ -158,6 +159,7 @@ fn close_here<F: FabricName, X: Outcome>(
     ensures allowed { OnOk result (close_refusal state.old.node at ≡ None) }
     ensures number { IfOk result (λ n. n ≡ put_number state.old.node at) }
     ensures why { IfErr result (λ e. e ≡ unwrap_or (close_refusal state.old.node at) Refusal.OutOfMemory) }
+    ensures full { close_refusal state.old.node at ≡ None → TakesMore state.old at → IsOk result }
     ensures seated { IsSeated F.table state.new.node seat.new.table_id (mine_of seat.new.me) }
     ensures slots { SlotsStay seat.old.me seat.new.me }
     ensures done { OnOk result ((mine_of seat.new.me) ≡ (change_part (close_part at) seat.old.me.0.view, seat.old.me.1)) }
@@ -215,6 +217,7 @@ fn plain_here<F: FabricName, X: Outcome, T: Told>(
     ensures why { IfErr result
         (λ e. e ≡ (if act_lacks_serials state.old.node (Act.Router serial act) then Refusal.NumbersEnd else Refusal.OutOfMemory)) }
     ensures grows { act_grows state.old.node (Act.Router serial act) ≡ false → IsOk result }
+    ensures full { IsReadyFor state.old (Act.Router serial act) → IsOk result }
     ensures seated { IsSeated F.table state.new.node seat.new.table_id (mine_of seat.new.me) }
     ensures slots { SlotsStay seat.old.me seat.new.me }
     ensures done { OnOk result
@@ -247,6 +250,7 @@ impl<F: FabricName> NodeCell<F> {
         ensures number { IfOk result (λ n. n ≡ put_number self.old.part.state at) }
         ensures ok { OnOk result (self.new.part ≡ put_part at bytes ends self.old.part) }
         ensures why { IfErr result (λ e. e.why ≡ unwrap_or (put_refusal Profile.Wide self.old.part.state at bytes ends) Refusal.OutOfMemory) }
+        ensures full { put_refusal Profile.Wide self.old.part.state at bytes ends ≡ None → TakesMore (roomy self.old) at → IsOk result }
         ensures err { IfErr result (λ e. (e.bytes ≡ bytes) × (e.ends ≡ ends) × (self.new.part ≡ self.old.part)) }
         ensures seen { self.new.seen ≡ self.old.seen }
     {
@@ -270,6 +274,7 @@ impl<F: FabricName> NodeCell<F> {
         ensures number { IfOk result (λ n. n ≡ put_number self.old.part.state at) }
         ensures ok { OnOk result (self.new.part ≡ put_part at bytes ends self.old.part) }
         ensures why { IfErr result (λ e. e.why ≡ unwrap_or (put_refusal Profile.Printed self.old.part.state at bytes ends) Refusal.OutOfMemory) }
+        ensures full { put_refusal Profile.Printed self.old.part.state at bytes ends ≡ None → TakesMore (roomy self.old) at → IsOk result }
         ensures err { IfErr result (λ e. (e.bytes ≡ bytes) × (e.ends ≡ ends) × (self.new.part ≡ self.old.part)) }
         ensures seen { self.new.seen ≡ self.old.seen }
     {
@@ -282,8 +287,8 @@ impl<F: FabricName> NodeCell<F> {
     /// ends, or more than 256 bytes, or, of `Profile::Wide`, more than 65,536; `BadData` if it is of `Profile::Printed` and a byte isn't from
     /// 32 to 126; `SelfAttach` if it carries the end at which it is put; `PeerAttach` if it carries the peer of that end; `Stranger` if it
     /// carries an end that the callers don't hold, or one twice; `PeerClosed` if the node has heard that the peer is closed; `NumbersEnd`
-    /// if no number is left for a parcel at this end, after 2^64 - 3 of them; and `OutOfMemory` if the terminal's queue has to grow and
-    /// finds no memory. A refused put changes nothing, and gives both lists back.
+    /// if no number is left for a parcel at this end, after 2^64 - 3 of them; and `OutOfMemory` if the terminal's queue has no room for it
+    /// and finds no memory to grow. A refused put changes nothing, and gives both lists back.
     ///
     /// At an end at which one parcel was put, `cell.put_as(fabric, Profile::Wide, at, bytes, ends)` is `Ok(1)`.
     pub fn put_as(
@@ -298,6 +303,7 @@ impl<F: FabricName> NodeCell<F> {
         ensures number { IfOk result (λ n. n ≡ put_number self.old.part.state at) }
         ensures ok { OnOk result (self.new.part ≡ put_part at bytes ends self.old.part) }
         ensures why { IfErr result (λ e. e.why ≡ unwrap_or (put_refusal profile self.old.part.state at bytes ends) Refusal.OutOfMemory) }
+        ensures full { put_refusal profile self.old.part.state at bytes ends ≡ None → TakesMore (roomy self.old) at → IsOk result }
         ensures err { IfErr result (λ e. (e.bytes ≡ bytes) × (e.ends ≡ ends) × (self.new.part ≡ self.old.part)) }
         ensures seen { self.new.seen ≡ self.old.seen }
     {
@@ -333,8 +339,8 @@ impl<F: FabricName> NodeCell<F> {
     /// Closes an end that callers of this node hold for good, and answers how many parcels were put there. Its peer still gets those, and then
     /// `PeerClosed`.
     ///
-    /// Refused `Stranger` if the node's callers don't hold the end, and `OutOfMemory` if the terminal's queue has to grow and finds no memory. A
-    /// refusal changes nothing.
+    /// Refused `Stranger` if the node's callers don't hold the end, and `OutOfMemory` if the terminal's queue has no room for the mark that tells
+    /// its peer and finds no memory to grow. A refusal changes nothing.
     ///
     /// At an end at which one parcel was put, `cell.close(fabric, at)` is `Ok(1)`.
     pub fn close(&mut self, fabric: &Fabric<F>, at: End) -> Result<u64, Refusal>
@@ -342,6 +348,7 @@ impl<F: FabricName> NodeCell<F> {
         ensures number { IfOk result (λ n. n ≡ put_number self.old.part.state at) }
         ensures ok { OnOk result (self.new.part ≡ close_part at self.old.part) }
         ensures why { IfErr result (λ e. e ≡ unwrap_or (close_refusal self.old.part.state at) Refusal.OutOfMemory) }
+        ensures full { close_refusal self.old.part.state at ≡ None → TakesMore (roomy self.old) at → IsOk result }
         ensures err { OnErr result (self.new.part ≡ self.old.part) }
         ensures seen { self.new.seen ≡ self.old.seen }
     {
@@ -350,8 +357,9 @@ impl<F: FabricName> NodeCell<F> {
 
     /// Makes all the room that an act wants, so that it can be done without a refusal.
     ///
-    /// Refused `NumbersEnd` if the act would make more routers than there are serials left at the node, and `OutOfMemory` if it wants memory and
-    /// finds none. Nothing but room has changed either way.
+    /// Refused `NumbersEnd` if the act would make more routers than there are serials left at the node, and `OutOfMemory` if there is no room for
+    /// it and none is found. An act that makes nothing grow is never refused, nor is one that the node is ready for, as after a `prepare` of it.
+    /// Nothing but room has changed either way.
     ///
     /// So `cell.prepare(&act)?` stands before `cell.touch_act(fabric, act)`, where `act` is what `cell.act(fabric)` gave.
     pub fn prepare(&mut self, act: &Act) -> Result<(), Refusal>
@@ -362,6 +370,7 @@ impl<F: FabricName> NodeCell<F> {
         ensures why { IfErr result
             (λ e. e ≡ (if act_lacks_serials self.old.part.state act.now then Refusal.NumbersEnd else Refusal.OutOfMemory)) }
         ensures grows { act_grows self.old.part.state act.now ≡ false → IsOk result }
+        ensures full { IsReadyFor (roomy self.old) act.now → IsOk result }
     {
         self.state.prepare(act)
     }
@@ -396,6 +405,7 @@ impl<F: FabricName> NodeCell<F> {
         ensures why { IfErr result
             (λ e. e ≡ (if act_lacks_serials self.old.part.state (Act.Router serial act) then Refusal.NumbersEnd else Refusal.OutOfMemory)) }
         ensures grows { act_grows self.old.part.state (Act.Router serial act) ≡ false → IsOk result }
+        ensures full { IsReadyFor (roomy self.old) (Act.Router serial act) → IsOk result }
         ensures err { OnErr result (self.new.part ≡ self.old.part) }
         ensures seen { self.new.seen ≡ self.old.seen }
     {
@@ -420,6 +430,7 @@ impl<F: FabricName> NodeCell<F> {
         ensures why { IfErr result
             (λ e. e ≡ (if act_lacks_serials self.old.part.state (Act.Router serial act) then Refusal.NumbersEnd else Refusal.OutOfMemory)) }
         ensures grows { act_grows self.old.part.state (Act.Router serial act) ≡ false → IsOk result }
+        ensures full { IsReadyFor (roomy self.old) (Act.Router serial act) → IsOk result }
         ensures err { OnErr result (self.new.part ≡ self.old.part) }
         ensures seen { self.new.seen ≡ self.old.seen }
     {

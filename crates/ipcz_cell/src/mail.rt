@@ -1,6 +1,6 @@
 //! The mailboxes of a cell, each in a word of the table with its slot.
 ghost use Rattle.ipcz_cell.specs.Seats.{mine_of, SlotsStay};
-ghost use Rattle.std.specs.Prelude.{◌≡◌, ◌<◌, ◌≤◌, ◌+◌, ◌*◌, true, false, [], ◌∷◌, Some, None, OnOk, OnErr, IfOk, IfErr, if◌then◌else◌};
+ghost use Rattle.std.specs.Prelude.{◌≡◌, ◌<◌, ◌≤◌, ◌+◌, ◌*◌, true, false, [], ◌∷◌, Some, None, OnOk, OnErr, IfOk, IfErr, IsOk, ◌≢◌, if◌then◌else◌};
 ghost use Rattle.std.specs.Prelude.{ℕ, List, ◌||◌, length, nat_eq, not, IfSome};
 ghost use Rattle.atomic_table.specs.Table.{rest};
 ghost use Rattle.ipcz_node.specs.Acts.{first_of, has_mail_for, rest_of};
@@ -10,11 +10,11 @@ ghost use Rattle.ipcz_rule.specs.Rule.{has_number};
 ghost use Rattle.ipcz_rule.specs.Steps.{old_word};
 ghost use Rattle.ipcz_base.specs.declared.message.Message.{Message as MessageData};
 ghost use Rattle.ipcz_node.specs.Node.{Node as NodeData, with_outbox};
-ghost use Rattle.ipcz_cell.specs.CellStates.{part_in, change_part};
+ghost use Rattle.ipcz_cell.specs.CellStates.{part_in, change_part, roomy};
 ghost use Rattle.ipcz_cell.specs.Parts.{handed_part};
 ghost use Rattle.ipcz_cell.specs.Cells.{AreSound, has_batch, held_slots, is_hand_of};
 ghost use Rattle.ipcz_cell.specs.TableNames.{IsLaidOut};
-ghost use Rattle.ipcz_cell.specs.Mails.{slot_of, mail_word, old_named, HasSeen, IsKnown, Probes, Looks, LoadsSource, Handles, IsTold, looked_on_part, posted_batch, posted_part, posted_rest};
+ghost use Rattle.ipcz_cell.specs.Mails.{slot_of, mail_word, old_named, HasSeen, IsKnown, Probes, Looks, LoadsSource, HasRoomToHandle, Handles, IsTold, looked_on_part, posted_batch, posted_part, posted_rest};
 ghost use Rattle.ipcz_cell.specs.Outcomes.{IsPicked, probed, posted, looked, sourced, handed, touched, turned_by};
 
 use crate::bells::{Ringer, Waking};
@@ -548,9 +548,10 @@ impl<F: FabricName> NodeCell<F> {
         ensures taken { IfOk result (λ taken. taken ≡ true → self.new.part ≡ handed_part from source self.old.part) }
         ensures fit { IfOk result
             (λ taken. taken ≡ true → (x : MessageData) × (self.old.part.message ≡ Some x) × (is_unfit self.old.part.state from x source ≡ false)) }
-        ensures left { IfOk result (λ taken. taken ≡ false → self.new.part ≡ self.old.part) }
+        ensures left { IfOk result (λ taken. taken ≡ false → self.new ≡ self.old) }
         ensures why { IfErr result (λ e. (x : MessageData) × (self.old.part.message ≡ Some x) ×
             (e ≡ Refusal.OutOfMemory) × (message_lacks_serials self.old.part.state from x source ≡ false)) }
+        ensures full { (x : MessageData) → self.old.part.message ≡ Some x → HasRoomToHandle (roomy self.old) from x source → IsOk result }
         ensures err { OnErr result (self.new.part ≡ self.old.part) }
         ensures seen { self.new.seen ≡ self.old.seen }
     {
@@ -593,6 +594,8 @@ impl<F: FabricName> NodeCell<F> {
             (λ h. (x : MessageData) × (self.old.part.message ≡ Some x) × (h ≡ hand_event self.old.part.state from x source)) }
         ensures why { IfErr result (λ e. (x : MessageData) × (self.old.part.message ≡ Some x) ×
             (e ≡ (if message_lacks_serials self.old.part.state from x source then Refusal.NumbersEnd else Refusal.OutOfMemory))) }
+        ensures full { (x : MessageData) → self.old.part.message ≡ Some x → HasRoomToHandle (roomy self.old) from x source →
+            IfErr result (λ e. e ≢ Refusal.OutOfMemory) }
         ensures err { OnErr result (self.new.part ≡ self.old.part) }
         ensures seen { self.new.seen ≡ self.old.seen }
     {
@@ -624,8 +627,9 @@ impl<F: FabricName> NodeCell<F> {
     /// Handles the message in hand. An AcceptBypass is taken only if the word of the old link names its sender as the source: one load
     /// of that word tells it.
     ///
-    /// Refused `NumbersEnd` if the message fits and would make more routers than serials are left for, and `OutOfMemory` if it wants memory and
-    /// finds none. A refused message stays in hand, and nothing but what was seen has changed.
+    /// Refused `NumbersEnd` if the message fits and would make more routers than serials are left for, and `OutOfMemory` if there is no room for
+    /// what it makes a router take and tell, or for a stray more if it doesn't fit, and none is found. A refused message stays in hand, and
+    /// nothing but what was seen has changed.
     ///
     /// So `cell.mail_handle(&fabric, 0)` stands behind a `mail_look` of node 0 that answered true.
     pub fn mail_handle(&mut self, fabric: &Fabric<F>, from: u8) -> Result<Happened, Refusal>

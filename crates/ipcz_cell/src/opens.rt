@@ -1,5 +1,5 @@
 //! The claim count, the link words and the opens of a cell.
-ghost use Rattle.std.specs.Prelude.{◌≡◌, ◌<◌, ◌≤◌, true, false, is_some, None, OnOk, IfErr, unwrap_or};
+ghost use Rattle.std.specs.Prelude.{◌≡◌, ◌<◌, ◌≤◌, true, false, is_some, None, OnOk, IfErr, IsOk, unwrap_or};
 ghost use Rattle.ipcz_world.specs.Coding.{IsLinkNumber};
 ghost use Rattle.ipcz_node.specs.Calls.{serials_refusal};
 ghost use Rattle.ipcz_node.specs.RoomyNodes.{CanOpen};
@@ -122,7 +122,7 @@ impl<F: FabricName> NodeCell<F> {
     }
 
     /// Makes room for a pair, as `NodeState::open_prepare`. It answers `NumbersEnd` if too few serials are left for two routers, and
-    /// otherwise `OutOfMemory`.
+    /// otherwise `OutOfMemory`, if there is no room and none is found.
     ///
     /// Nothing but room has changed either way.
     ///
@@ -134,6 +134,7 @@ impl<F: FabricName> NodeCell<F> {
         ensures ready { OnOk result (CanOpen (roomy self.new)) }
         ensures allowed { OnOk result (serials_refusal self.old.part.state ≡ None) }
         ensures why { IfErr result (λ e. e ≡ unwrap_or (serials_refusal self.old.part.state) Refusal.OutOfMemory) }
+        ensures full { CanOpen (roomy self.old) → IsOk result }
     {
         self.state.open_prepare()
     }
@@ -166,8 +167,9 @@ impl<F: FabricName> NodeCell<F> {
     /// Opens a pair, on a word that it claims, or on that of the open under way, and answers its ends of sides A and B, both held here.
     ///
     /// It answers, the first of these: `NoWord` if no open is under way and each link word was claimed, `NumbersEnd` if too few
-    /// serials are left for two routers, `OutOfMemory`, `NoWord` if slots are used again and none is to be had, and `Raced` if another
-    /// node has claimed a word meanwhile; the caller may try again. A refused open changes nothing but what was seen and looked at.
+    /// serials are left for two routers, `OutOfMemory` if there is no room for them and none is found, `NoWord` if slots are used again and
+    /// none is to be had, and `Raced` if another node has claimed a word meanwhile; the caller may try again. A refused open changes nothing
+    /// but what was seen and looked at.
     ///
     /// In the table of `start(alloc, 2, 8)` the first `cell.open_pair(&fabric)` gives the two ends of pair 1.
     pub fn open_pair(&mut self, fabric: &Fabric<F>) -> Result<(End, End), Refusal>

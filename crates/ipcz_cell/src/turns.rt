@@ -334,9 +334,10 @@ impl<F: FabricName> NodeCell<F> {
     /// Takes one turn: the first act that is possible for the mailboxes as it finds them, as `act` answers it, is done whole, and what it
     /// did is told.
     ///
-    /// It is refused `NumbersEnd` if the act wants more serials than are left, `OutOfMemory` if it wants memory and none is found,
-    /// and `Raced` if another thread came between the load of a word and its exchange: then the turn may be taken again. A begin or a
-    /// retire for which no memory is found is done as an unlock. A refused turn changes nothing. A claim that finds no word is an act done.
+    /// It is refused `NumbersEnd` if the act wants more serials than are left, `OutOfMemory` if there is no room for what it wants and
+    /// none is found, and `Raced` if another thread came between the load of a word and its exchange: then the turn may be taken again.
+    /// A begin or a retire for which there is no room and none is found is done as an unlock. A refused turn changes nothing. A claim that
+    /// finds no word is an act done.
     ///
     /// In a table at its start `cell.turn(&fabric)` is `Ok(Happened::Idle)`.
     pub fn turn(&mut self, fabric: &Fabric<F>) -> Result<Happened, Refusal>

@@ -14,4 +14,4 @@ pub returns-in_err-prepare : goal.returns-in_err-prepare
 returns-in_err-prepare g c =
     let p = err_from_is_err_and c.from_residual.result c.from_residual.ensures.1 in
     let ready = c.prepare.ensures in
-    rw (p.1, p.2) (close_refused g.F.FabricName.table c.args.end c.args.self.now c.prepare.new.self _ ready.part ready.seen c.in_err-prepare.ensures.why c.in_err-prepare.ensures.grows)
+    rw (p.1, p.2) (close_refused g.F.FabricName.table c.args.end c.args.self.now c.prepare.new.self _ ready.part ready.seen c.in_err-prepare.ensures.why c.in_err-prepare.ensures.grows c.in_err-prepare.ensures.full)

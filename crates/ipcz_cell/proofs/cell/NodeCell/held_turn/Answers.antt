@@ -22,4 +22,4 @@ returns-in-Ok g c =
 pub returns-in-Err-OutOfMemory : goal.returns-in-Err-OutOfMemory
 returns-in-Err-OutOfMemory g c =
     let ready = c.prepare.ensures in
-    stood_in g.F.FabricName.table c.args.serial c.args.act c.args.self.now c.prepare.new.self c.unlock_turn.new.self c.unlock_turn.result (held_stand_in c.args.act c.args.serial c.requires.held) c.in-Err-OutOfMemory.ensures.grows ready.part ready.seen c.unlock_turn.ensures
+    stood_in g.F.FabricName.table c.args.serial c.args.act c.args.self.now c.prepare.new.self c.unlock_turn.new.self c.unlock_turn.result (held_stand_in c.args.act c.args.serial c.requires.held) c.in-Err-OutOfMemory.ensures.grows c.in-Err-OutOfMemory.ensures.full ready.part ready.seen c.unlock_turn.ensures

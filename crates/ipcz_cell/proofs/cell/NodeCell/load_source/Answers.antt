@@ -39,4 +39,5 @@ returns g c =
     (ap (λ (z : CellState). old_named z.part.message) (sym c.self.view_is) ∙ (ap old_named was.message ∙ (sym c.old_word.ensures ∙ c.in-Some.is)))
     inside done.0 done.1 c.source.ensures
     (ap (λ (m : BatchMine). part_in m.0) done.2 ∙ ap (λ (o : CellState). o.part) c.self.view_is)
+    (ap (λ (o : CellState). o.room) c.self.view_is)
     (ap (λ (m : BatchMine). m.0.seen) done.2 ∙ ap (λ (o : CellState). o.seen ++ (i, n) ∷ []) c.self.view_is)

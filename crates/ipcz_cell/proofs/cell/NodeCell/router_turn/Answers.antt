@@ -12,7 +12,7 @@ returns-in_default g c =
     let told = c.act_giving.ensures in
     let plain = plain_acts c.args.act c.in_default.not-Mark c.in_default.not-Wake c.in_default.not-Claim c.in_default.not-Lock c.in_default.not-Begin c.in_default.not-Retire c.in_default.not-Unlock in
     told_acts g.T.Told.tells g.F.FabricName.table (Router c.args.serial c.args.act) c.args.self.now c.act_giving.new.self c.act_giving.result plain.0 (plain.1 c.args.serial)
-    told.event told.ok told.why told.grows told.err told.seen
+    told.event told.ok told.why told.grows told.full told.err told.seen
 
 pub returns-in-Mark : goal.returns-in-Mark
 returns-in-Mark g c =

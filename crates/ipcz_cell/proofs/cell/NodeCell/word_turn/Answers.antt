@@ -15,4 +15,4 @@ returns-in_default g c =
     let plain = plain_acts c.args.act c.in_default.not-Mark c.in_default.not-Wake c.in_default.not-Claim c.in_default.not-Lock c.in_default.not-Begin c.in_default.not-Retire c.in_default.not-Unlock in
     told_whole (λ done. Acts t (Router c.args.serial c.args.act) c.args.self.now done c.act_plainly.new.self) c.act_plainly.result
     (told_acts (λ (event told : Happened). told ≡ event) t (Router c.args.serial c.args.act) c.args.self.now c.act_plainly.new.self c.act_plainly.result plain.0 (plain.1 c.args.serial)
-    told.event told.ok told.why told.grows told.err told.seen)
+    told.event told.ok told.why told.grows told.full told.err told.seen)
