@@ -8,7 +8,7 @@ use crate::cells::{Call, first_wrong, run};
 use crate::hub_tables::both;
 use crate::lasting::{LEFT, RIGHT};
 use ipcz_base::{End, Refusal, Side};
-use ipcz_fabric::{Blank, FabricName, Hub, Portal, start, start_lasting};
+use ipcz_fabric::{Blank, Fabric, FabricName, Hub, NodeCell, Portal, start, start_lasting};
 use std::alloc::Global;
 use std::marker::Brand;
 use std::sync::Wait;
@@ -270,21 +270,40 @@ fn got_in_order<F: FabricName, R: Wait>(
     most
 }
 
+// Whether cells have half taken a batch.
+fn is_half_taken<F: FabricName>(
+    fabric: &Fabric<F>,
+    cells: &mut [NodeCell<F>],
+    alloc: Global,
+) -> bool {
+    first_wrong(fabric, cells, alloc, &FIVE_WAIT) == Ok(None)
+        && first_wrong(fabric, cells, alloc, &HALF_TAKEN) == Ok(None)
+}
+
+// How many parcels the second portal gets, once its node has acted.
+fn got_of<F: FabricName, R: Wait>(
+    rt: &R,
+    hub: &Hub<F>,
+    portals: Vec<Portal<F>>,
+    most: u64,
+) -> Option<u64> {
+    let (_, there) = both(portals)?;
+    hub.acts(rt, 1, 100).ok()?;
+    Some(got_in_order(rt, hub, &there, most))
+}
+
 // How many of five parcels are got by a hub of cells one of which has a batch half taken.
 fn got_by_hub<F: FabricName, R: Wait>(rt: &R, alloc: Global, blank: Blank) -> Option<u64>
     requires { blank ≡ F.table }
 {
     let mut it = named::<F>(blank)?;
-    let cells = it.cells.as_mut_slice();
-    if first_wrong(&it.fabric, cells, alloc, &FIVE_WAIT) != Ok(None)
-        || first_wrong(&it.fabric, cells, alloc, &HALF_TAKEN) != Ok(None)
-    {
-        return None;
-    }
+    let half = is_half_taken(&it.fabric, it.cells.as_mut_slice(), alloc);
     let (hub, portals) = Hub::new(it.fabric, it.cells).ok()?;
-    let (_, there) = both(portals)?;
-    hub.acts(rt, 1, 100).ok()?;
-    Some(got_in_order(rt, &hub, &there, 5))
+    if half {
+        got_of(rt, &hub, portals, 5)
+    } else {
+        None
+    }
 }
 
 #[test]

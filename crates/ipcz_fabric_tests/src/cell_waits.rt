@@ -2,6 +2,7 @@
 ghost use Rattle.std.specs.Prelude.{◌≡◌};
 
 use crate::cell_tables::{named, put};
+use crate::hub_tables::well;
 use ipcz_base::{End, Side};
 use ipcz_cell::{Blank, Fabric, FabricName, NodeCell, start};
 use ipcz_node::Happened;
@@ -289,47 +290,42 @@ fn both_do<F: FabricName + Send + Sync, R: Threads + Wait + Clock + Sync>(
     }
 }
 
-// Whether a case goes well, and no sleep comes to its end.
+// The same, with the cells of a table.
 fn goes_well<F: FabricName + Send + Sync, R: Threads + Wait + Clock + Sync>(
     rt: &R,
     alloc: Global,
     blank: Blank,
+    begin: Instant,
     case: Case,
 ) -> Option<bool>
     requires { blank ≡ F.table }
 {
-    let begin = Instant::now(rt).ok()?;
     let mut it = named::<F>(blank)?;
-    let went = both_do(rt, alloc, &it.fabric, it.cells.as_mut_slice(), begin, case);
-    Some(went && is_soon(rt, begin))
+    Some(both_do(rt, alloc, &it.fabric, it.cells.as_mut_slice(), begin, case))
 }
 
-// The same, on a new table.
+// Whether a case goes well on a new table, and no sleep comes to its end.
 fn goes<R: Threads + Wait + Clock + Sync>(rt: &R, alloc: Global, case: Case) -> Option<bool> {
+    let begin = Instant::now(rt).ok()?;
     let blank = start(alloc, 2, 4).ok()?;
-    goes_well::<Brand, R>(rt, alloc, blank, case)
+    let went = goes_well::<Brand, R>(rt, alloc, blank, begin, case);
+    Some(went == Some(true) && is_soon(rt, begin))
 }
 
 #[test]
 fn two_cells_wait_for_each_other(rt: HostRuntime) {
-    assert_eq!(rt; goes(&rt, rt.alloc(), Case::Talk), Some(true));
+    well(&rt, goes(&rt, rt.alloc(), Case::Talk));
 }
 
 #[test]
 fn three_parcels_in_a_row_come_where_both_cells_wait(rt: HostRuntime) {
-    assert_eq!(rt; goes(&rt, rt.alloc(), Case::Threes), Some(true));
+    well(&rt, goes(&rt, rt.alloc(), Case::Threes));
 }
 
 #[test]
 fn a_hand_rings_for_its_sender_and_for_who_waits(rt: HostRuntime) {
-    assert_eq!(rt;
-        goes(&rt, rt.alloc(), Case::Rings { in_one_go: false }),
-        Some(true)
-    );
-    assert_eq!(rt;
-        goes(&rt, rt.alloc(), Case::Rings { in_one_go: true }),
-        Some(true)
-    );
+    well(&rt, goes(&rt, rt.alloc(), Case::Rings { in_one_go: false }));
+    well(&rt, goes(&rt, rt.alloc(), Case::Rings { in_one_go: true }));
 }
 
 // Whether a cell sleeps if it has nothing to do, until its time is over, and doesn't if it has something to do.

@@ -56,26 +56,30 @@ fn puts_and_acts<F: FabricName>(
     true
 }
 
+// The reply to a turn of a node of a world. (Nothing is promised of it, so that what it is found to be says nothing of the world.)
+fn turn(world: &mut World, node: u8) -> Reply {
+    world.step(&Step::Turn(node))
+}
+
 // Whether a node of a world has nothing to do.
 fn is_idle(world: &mut World, node: u8) -> bool {
-    match world.step(&Step::Turn(node)) {
-        Reply::Turned(Happened::Idle) => true,
-        _ => false,
-    }
+    matches!(turn(world, node), Reply::Turned(Happened::Idle))
 }
 
 // Whether a node's next act in a world is a post to another.
 fn posts(world: &mut World, node: u8, other: u8) -> bool {
-    match world.step(&Step::Turn(node)) {
-        Reply::Turned(Happened::Post(to)) => to == other,
-        _ => false,
-    }
+    matches!(turn(world, node), Reply::Turned(Happened::Post(to)) if to == other)
 }
 
 // Whether a node's next act in a world is the hand of a message.
 fn hands(world: &mut World, node: u8) -> bool {
-    match world.step(&Step::Turn(node)) {
-        Reply::Turned(Happened::Hand { .. }) => true,
+    matches!(turn(world, node), Reply::Turned(Happened::Hand { .. }))
+}
+
+// Whether the reply is that the pair 2 was opened.
+fn is_pair_2(reply: &Reply) -> bool {
+    match reply {
+        Reply::Opened(a, b) => a.pair == 2 && *b == a.opposite(),
         _ => false,
     }
 }
@@ -85,12 +89,8 @@ fn opens_by_claim(world: &mut World) -> bool {
     if world.claimed() != 3 || world.word(2) != Some(0) {
         return false;
     }
-    match world.step(&Step::Open(0)) {
-        Reply::Opened(a, b) => {
-            a.pair == 2 && b == a.opposite() && world.word(2) == Some(3) && world.claimed() == 3
-        }
-        _ => false,
-    }
+    let reply = world.step(&Step::Open(0));
+    is_pair_2(&reply) && world.word(2) == Some(3) && world.claimed() == 3
 }
 
 // Whether the first cell opens the pair 1 and then claims the word 2 for an open by itself.

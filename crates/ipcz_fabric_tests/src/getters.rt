@@ -104,6 +104,19 @@ fn gets_all<F: FabricName, R: Wait + Clock>(
     }
 }
 
+// Opens a pair of node 0, of which one portal is for a get.
+fn adds_pair<F: FabricName, R: Wait>(
+    rt: &R,
+    hub: &Hub<F>,
+    peers: &mut Vec<Portal<F>>,
+    parts: &mut Vec<Part<F>>,
+) -> bool {
+    match hub.open_pair(rt, 0) {
+        Ok((peer, portal)) => peers.push(peer).is_ok() && parts.push(Part::Gets(portal)).is_ok(),
+        Err(_) => false,
+    }
+}
+
 // The parts of so many pairs of node 0, and last that of the thread that puts.
 fn parts_of<F: FabricName, R: Wait>(
     rt: &R,
@@ -113,13 +126,12 @@ fn parts_of<F: FabricName, R: Wait>(
 ) -> Option<Vec<Part<F>>> {
     let mut peers = Vec::new(alloc);
     let mut parts = Vec::new(alloc);
+    let mut good = true;
     for _pair in 0..pairs {
-        let (peer, portal) = hub.open_pair(rt, 0).ok()?;
-        peers.push(peer).ok()?;
-        parts.push(Part::Gets(portal)).ok()?;
+        good = good && adds_pair(rt, hub, &mut peers, &mut parts);
     }
-    parts.push(Part::Puts { peers, wakes: None }).ok()?;
-    Some(parts)
+    let puts = parts.push(Part::Puts { peers, wakes: None }).is_ok();
+    if good && puts { Some(parts) } else { None }
 }
 
 // Does what a thread has to do.
@@ -139,6 +151,34 @@ fn does<F: FabricName, R: Wait + Clock>(
     }
 }
 
+// Does all parts, each on a thread.
+fn all_do<F: FabricName + Send + Sync, R: Threads + Wait + Clock + Sync>(
+    rt: &R,
+    alloc: Global,
+    hub: &Hub<F>,
+    parts: &mut [Part<F>],
+    asleep: u64,
+) {
+    let got = AtomicU64::new(0);
+    let threads = parts.len();
+    if threads > 0 {
+        for_each_mut(
+            rt,
+            parts,
+            threads,
+            &|_place, part| { does(rt, alloc, hub, part, &got, asleep) },
+        );
+    }
+}
+
+// How often gets were woken, as the last part tells.
+fn wakes_told<F: FabricName>(parts: &[Part<F>]) -> Option<u64> {
+    match parts {
+        [.., Part::Puts { wakes, .. }] => *wakes,
+        _ => None,
+    }
+}
+
 // How often gets are woken where so many sleep at one node, so many of them on bells of their own.
 fn wakes_of<F: FabricName + Send + Sync, R: Threads + Wait + Clock + Sync>(
     rt: &R,
@@ -151,20 +191,8 @@ fn wakes_of<F: FabricName + Send + Sync, R: Threads + Wait + Clock + Sync>(
 {
     let (hub, _firsts) = hub_of::<F>(blank)?;
     let mut parts = parts_of(rt, alloc, &hub, getters)?;
-    let got = AtomicU64::new(0);
-    let threads = parts.len();
-    if threads > 0 {
-        for_each_mut(
-            rt,
-            parts.as_mut_slice(),
-            threads,
-            &|_place, part| { does(rt, alloc, &hub, part, &got, asleep) },
-        );
-    }
-    match parts.pop() {
-        Some(Part::Puts { wakes, .. }) => wakes,
-        _ => None,
-    }
+    all_do(rt, alloc, &hub, parts.as_mut_slice(), asleep);
+    wakes_told(&parts)
 }
 
 // The same, in a new table.

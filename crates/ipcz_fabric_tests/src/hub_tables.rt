@@ -5,6 +5,7 @@ use ipcz_base::Bytes;
 use ipcz_fabric::{Blank, FabricName, Hub, Portal, finish};
 use ipcz_world::World;
 use std::alloc::Global;
+use std::process::Abort;
 use std::sync::Wait;
 
 /// A hub of the cells of a table, and its portals.
@@ -51,4 +52,9 @@ pub(crate) fn both<F: FabricName>(mut portals: Vec<Portal<F>>) -> Option<(Portal
 pub(crate) fn routers_of<F: FabricName>(hub: Hub<F>) -> Option<[Option<usize>; 2]> {
     let world = world_of(hub)?;
     Some([world.routers(0), world.routers(1)])
+}
+
+/// What is looked at has to go well. (A test that asserts this itself is several times as dear to prove.)
+pub(crate) fn well(rt: &impl Abort, went: Option<bool>) {
+    assert_eq!(rt; went, Some(true));
 }

@@ -1,7 +1,7 @@
 //! Waits: each sleeps for so long if no wake comes that a wake that is lost fails the test.
 ghost use Rattle.std.specs.Prelude.{◌≡◌};
 
-use crate::hub_tables::{both, hub_of};
+use crate::hub_tables::{both, hub_of, well};
 use ipcz_base::{Bytes, Refusal};
 use ipcz_fabric::{Blank, FabricName, Gate, Hub, Missed, Portal, start, work_waiting};
 use std::alloc::Global;
@@ -26,7 +26,7 @@ fn short() -> Duration {
 }
 
 // Whether no sleep has come to its end since.
-fn is_soon<R: Clock>(rt: &R, begin: Instant) -> bool {
+pub(crate) fn is_soon<R: Clock>(rt: &R, begin: Instant) -> bool {
     match begin.elapsed(rt) {
         Ok(spent) => spent < long(),
         Err(_) => false,
@@ -285,7 +285,7 @@ fn both_go<F: FabricName + Send + Sync, R: Threads + Wait + Clock + Sync>(
     Some(does(rt, alloc, hub, left, &right, case))
 }
 
-// Whether a case goes well, and no sleep comes to its end but that of a get that is to give up.
+// The same, on the hub of a table.
 fn goes_well<F: FabricName + Send + Sync, R: Threads + Wait + Clock + Sync>(
     rt: &R,
     alloc: Global,
@@ -294,40 +294,40 @@ fn goes_well<F: FabricName + Send + Sync, R: Threads + Wait + Clock + Sync>(
 ) -> Option<bool>
     requires { blank ≡ F.table }
 {
-    let begin = Instant::now(rt).ok()?;
     let (hub, portals) = hub_of::<F>(blank)?;
-    let went = both_go(rt, alloc, &hub, portals, case);
-    Some(went == Some(true) && is_soon(rt, begin))
+    both_go(rt, alloc, &hub, portals, case)
 }
 
-// The same, on the hub of a new table.
+// Whether a case goes well on the hub of a new table, and no sleep comes to its end but that of a get that is to give up.
 fn goes<R: Threads + Wait + Clock + Sync>(rt: &R, alloc: Global, case: Case) -> Option<bool> {
+    let begin = Instant::now(rt).ok()?;
     let blank = start(alloc, 2, 4).ok()?;
-    goes_well::<Brand, R>(rt, alloc, blank, case)
+    let went = goes_well::<Brand, R>(rt, alloc, blank, case);
+    Some(went == Some(true) && is_soon(rt, begin))
 }
 
 #[test]
 fn two_portals_wait_for_each_other(rt: HostRuntime) {
-    assert_eq!(rt; goes(&rt, rt.alloc(), Case::Talk), Some(true));
+    well(&rt, goes(&rt, rt.alloc(), Case::Talk));
 }
 
 #[test]
 fn three_parcels_in_a_row_come_where_both_workers_sleep(rt: HostRuntime) {
-    assert_eq!(rt; goes(&rt, rt.alloc(), Case::Threes), Some(true));
+    well(&rt, goes(&rt, rt.alloc(), Case::Threes));
 }
 
 #[test]
 fn a_get_is_woken_where_another_thread_takes_the_turns(rt: HostRuntime) {
-    assert_eq!(rt; goes(&rt, rt.alloc(), Case::Driven), Some(true));
+    well(&rt, goes(&rt, rt.alloc(), Case::Driven));
 }
 
 #[test]
 fn a_close_wakes_a_get_of_its_peer(rt: HostRuntime) {
-    assert_eq!(rt; goes(&rt, rt.alloc(), Case::Close), Some(true));
+    well(&rt, goes(&rt, rt.alloc(), Case::Close));
 }
 
 // The workers' gates are asked again, too: they sleep from their first turn on.
 #[test]
 fn a_get_gives_up_at_its_time(rt: HostRuntime) {
-    assert_eq!(rt; goes(&rt, rt.alloc(), Case::Nothing), Some(true));
+    well(&rt, goes(&rt, rt.alloc(), Case::Nothing));
 }

@@ -557,7 +557,7 @@ fn four_callers<F: FabricName + Send + Sync, R: Threads + Wait + Sync>(
     let mut held = holds(rt, hub, alloc, here, there)?;
     let went = all_work(rt, hub, alloc, &mut held);
     let Held { a0, .. } = held;
-    Some(puts_last(rt, hub, alloc, a0)? && went)
+    Some(puts_last(rt, hub, alloc, a0) == Some(true) && went)
 }
 
 // Two workers and four callers: the parcels of each pair come in order, those of the second while one of its portals goes to and fro, and
@@ -588,6 +588,19 @@ fn acts_and_closes<F: FabricName, R: Wait>(rt: &R, hub: &Hub<F>, portal: Portal<
     portal.close(rt, hub).ok()
 }
 
+// The numbers of the marks when both portals of a pair are closed.
+fn closes_both<F: FabricName, R: Wait>(
+    rt: &R,
+    hub: &Hub<F>,
+    moved: Portal<F>,
+    kept: Portal<F>,
+) -> Option<(u64, u64)> {
+    let first = acts_and_closes(rt, hub, moved);
+    let second = acts_and_closes(rt, hub, kept);
+    act(rt, hub);
+    Some((first?, second?))
+}
+
 /// The numbers of the marks when a portal of a pair is moved to node 1, and both are closed.
 pub(crate) fn moves_and_closes<F: FabricName, R: Wait>(
     rt: &R,
@@ -597,11 +610,10 @@ pub(crate) fn moves_and_closes<F: FabricName, R: Wait>(
     there: &Portal<F>,
 ) -> Option<(u64, u64)> {
     let (kept, sent) = hub.open_pair(rt, 0).ok()?;
-    let moved = moves(rt, hub, alloc, here, there, sent)?;
-    let first = acts_and_closes(rt, hub, moved)?;
-    let second = acts_and_closes(rt, hub, kept)?;
-    act(rt, hub);
-    Some((first, second))
+    match moves(rt, hub, alloc, here, there, sent) {
+        Some(moved) => closes_both(rt, hub, moved, kept),
+        None => None,
+    }
 }
 
 // The same, with the first portals of a hub.

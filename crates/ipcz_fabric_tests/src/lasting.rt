@@ -7,6 +7,7 @@ use crate::hub_tables::{both, hub_of};
 use crate::hubs::moves_and_closes;
 use ipcz_base::{End, Refusal, Side};
 use ipcz_cell::{Blank, Fabric, FabricName, NodeCell, finish, start_lasting};
+use ipcz_fabric::{Hub, Portal};
 use std::alloc::Global;
 use std::marker::Brand;
 use std::sync::Wait;
@@ -129,6 +130,14 @@ fn a_request_with_a_portal_for_its_answer_works_for_ever(rt: HostRuntime) -> Res
     Ok(())
 }
 
+// The end that comes with the next parcel at another.
+fn end_got<F: FabricName>(fabric: &Fabric<F>, cell: &mut NodeCell<F>, at: End) -> Option<End> {
+    match cell.get(fabric, at) {
+        Ok((_, parcel)) => parcel.ends.as_slice().first().copied(),
+        Err(_) => None,
+    }
+}
+
 // The end that comes with the next parcel at another, sent on at a third.
 fn passes_on<F: FabricName>(
     fabric: &Fabric<F>,
@@ -136,10 +145,30 @@ fn passes_on<F: FabricName>(
     alloc: Global,
     at: End,
 ) -> Option<()> {
-    let (_, parcel) = cell.get(fabric, at).ok()?;
-    let end = parcel.ends.as_slice().first().copied()?;
+    let end = end_got(fabric, cell, at)?;
     put(fabric, cell, alloc, at, b"on", &[end])?;
     Some(())
+}
+
+// Whether a portal goes to the other node and back.
+fn goes_and_comes<F: FabricName>(
+    fabric: &Fabric<F>,
+    left: &mut NodeCell<F>,
+    right: &mut NodeCell<F>,
+    alloc: Global,
+) -> bool {
+    come_to_rest(fabric, left, right)
+        && passes_on(fabric, right, alloc, RIGHT).is_some()
+        && come_to_rest(fabric, left, right)
+        && passes_on(fabric, left, alloc, LEFT).is_some()
+}
+
+// Whether the parcel has come that was put for it.
+fn has_come<F: FabricName>(fabric: &Fabric<F>, cell: &mut NodeCell<F>, at: End) -> bool {
+    match cell.get(fabric, at) {
+        Ok((_, parcel)) => parcel.bytes.as_slice() == b"there".as_slice(),
+        Err(_) => false,
+    }
 }
 
 // Whether a portal goes to the other node and back so many times, and then has a parcel that was put for it.
@@ -152,21 +181,14 @@ fn travels<F: FabricName>(
     let (kept, sent) = left.open_pair(fabric).ok()?;
     put(fabric, left, alloc, LEFT, b"on", &[sent])?;
     for _lap in 0..LAPS {
-        if !come_to_rest(fabric, left, right) {
+        if !goes_and_comes(fabric, left, right, alloc) {
             return None;
         }
-        passes_on(fabric, right, alloc, RIGHT)?;
-        if !come_to_rest(fabric, left, right) {
-            return None;
-        }
-        passes_on(fabric, left, alloc, LEFT)?;
     }
     put(fabric, left, alloc, kept, b"there", &[])?;
     let rests = come_to_rest(fabric, left, right);
-    let (_, parcel) = right.get(fabric, RIGHT).ok()?;
-    let end = parcel.ends.as_slice().first().copied()?;
-    let came = right.get(fabric, end).ok()?.1;
-    Some(rests && came.bytes.as_slice() == b"there".as_slice())
+    let end = end_got(fabric, right, RIGHT)?;
+    Some(rests && has_come(fabric, right, end))
 }
 
 // The same between two cells.
@@ -195,6 +217,34 @@ fn a_portal_travels_for_ever(rt: HostRuntime) -> Result<(), Fail> {
     Ok(())
 }
 
+// How many of so many pairs are moved from one portal's node to the other's and closed, one after the other.
+fn closed_between<F: FabricName, R: Wait>(
+    rt: &R,
+    alloc: Global,
+    hub: &Hub<F>,
+    (here, there): (&Portal<F>, &Portal<F>),
+    pairs: u64,
+) -> u64 {
+    for done in 0..pairs {
+        if moves_and_closes(rt, hub, alloc, here, there) != Some((0, 0)) {
+            return done;
+        }
+    }
+    pairs
+}
+
+// The same, with the first portals of a hub.
+fn closed_of_firsts<F: FabricName, R: Wait>(
+    rt: &R,
+    alloc: Global,
+    hub: &Hub<F>,
+    portals: Vec<Portal<F>>,
+    pairs: u64,
+) -> Option<u64> {
+    let (here, there) = both(portals)?;
+    Some(closed_between(rt, alloc, hub, (&here, &there), pairs))
+}
+
 // How many of so many pairs of a hub, one after the other, are moved to the other node and closed.
 fn closed_one_by_one<F: FabricName, R: Wait>(
     rt: &R,
@@ -205,13 +255,7 @@ fn closed_one_by_one<F: FabricName, R: Wait>(
     requires { blank ≡ F.table }
 {
     let (hub, portals) = hub_of::<F>(blank)?;
-    let (here, there) = both(portals)?;
-    for done in 0..pairs {
-        if moves_and_closes(rt, &hub, alloc, &here, &there) != Some((0, 0)) {
-            return Some(done);
-        }
-    }
-    Some(pairs)
+    closed_of_firsts(rt, alloc, &hub, portals, pairs)
 }
 
 #[test]
@@ -221,7 +265,21 @@ fn a_hub_opens_and_closes_pairs_for_ever(rt: HostRuntime) -> Result<(), Fail> {
     Ok(())
 }
 
-// Whether two threads, each with a cell of its own, open, move and close so many pairs, and all comes to rest.
+// How many link words are claimed once two threads, each with a cell of its own, have opened, moved and closed so many pairs, and all has come to rest.
+fn claimed_behind<F: FabricName + Send + Sync, R: Threads>(
+    rt: &R,
+    alloc: Global,
+    fabric: &Fabric<F>,
+    cells: &mut [NodeCell<F>],
+    pairs: u64,
+) -> Option<u64> {
+    if !close_all(rt, alloc, fabric, cells, pairs) {
+        return None;
+    }
+    Some(cells.first_mut()?.claimed(fabric))
+}
+
+// The same, with the cells of a table.
 fn threads_close<F: FabricName + Send + Sync, R: Threads>(
     rt: &R,
     alloc: Global,
@@ -231,11 +289,7 @@ fn threads_close<F: FabricName + Send + Sync, R: Threads>(
     requires { blank ≡ F.table }
 {
     let mut it = named::<F>(blank)?;
-    let cells = it.cells.as_mut_slice();
-    if !close_all(rt, alloc, &it.fabric, cells, pairs) {
-        return None;
-    }
-    Some(cells.first_mut()?.claimed(&it.fabric))
+    claimed_behind(rt, alloc, &it.fabric, it.cells.as_mut_slice(), pairs)
 }
 
 #[test]
@@ -300,14 +354,22 @@ fn four_threads_close_more_pairs_than_there_are_slots(rt: HostRuntime) -> Result
     Ok(())
 }
 
+// Whether the first cell shows no link word.
+fn shows_none<F: FabricName>(fabric: &Fabric<F>, cells: &mut [NodeCell<F>]) -> bool {
+    match cells {
+        [first, ..] => first.word(fabric, 0).is_none(),
+        [] => false,
+    }
+}
+
 // Why such a table gives no world.
 fn gives_no_world<F: FabricName>(blank: Blank) -> Option<Refusal>
     requires { blank ≡ F.table }
 {
     let mut it = named::<F>(blank)?;
-    let shown = it.cells.as_mut_slice().first_mut()?.word(&it.fabric, 0);
+    let none = shows_none(&it.fabric, it.cells.as_mut_slice());
     match finish(it.fabric, it.cells) {
-        Err((why, _, _)) if shown.is_none() => Some(why),
+        Err((why, _, _)) if none => Some(why),
         _ => None,
     }
 }

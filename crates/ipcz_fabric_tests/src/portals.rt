@@ -1,7 +1,7 @@
 //! What portals, hubs and workers answer on one thread, each in a hub of two nodes.
 ghost use Rattle.std.specs.Prelude.{◌≡◌};
 
-use crate::hub_tables::{hub_of, sends};
+use crate::hub_tables::{hub_of, sends, well};
 use ipcz_base::{Bytes, End, Refusal};
 use ipcz_fabric::{Blank, FabricName, Gate, Hub, Missed, Portal, start, work};
 use std::alloc::Global;
@@ -304,60 +304,60 @@ fn holds<R: Wait + Clock>(rt: &R, alloc: Global, case: Case) -> Option<bool> {
 
 #[test]
 fn a_portal_whose_peer_is_closed_gives_nothing(rt: HostRuntime) {
-    assert_eq!(rt; holds(&rt, rt.alloc(), Case::PeerClosed), Some(true));
+    well(&rt, holds(&rt, rt.alloc(), Case::PeerClosed));
 }
 
 #[test]
 fn a_portal_of_another_node_is_a_stranger(rt: HostRuntime) {
-    assert_eq!(rt; holds(&rt, rt.alloc(), Case::Stranger), Some(true));
+    well(&rt, holds(&rt, rt.alloc(), Case::Stranger));
 }
 
 #[test]
 fn a_portal_does_not_take_its_peer_along(rt: HostRuntime) {
-    assert_eq!(rt; holds(&rt, rt.alloc(), Case::PeerAttach), Some(true));
+    well(&rt, holds(&rt, rt.alloc(), Case::PeerAttach));
 }
 
 #[test]
 fn a_pair_is_opened_at_the_node_that_was_asked(rt: HostRuntime) {
-    assert_eq!(rt; holds(&rt, rt.alloc(), Case::OpenAtOne), Some(true));
+    well(&rt, holds(&rt, rt.alloc(), Case::OpenAtOne));
 }
 
 #[test]
 fn a_look_at_a_portal_takes_nothing(rt: HostRuntime) {
-    assert_eq!(rt; holds(&rt, rt.alloc(), Case::Seen), Some(true));
+    well(&rt, holds(&rt, rt.alloc(), Case::Seen));
 }
 
 #[test]
 fn a_portal_has_arrived_where_it_was_opened(rt: HostRuntime) {
-    assert_eq!(rt; holds(&rt, rt.alloc(), Case::Arrived), Some(true));
+    well(&rt, holds(&rt, rt.alloc(), Case::Arrived));
 }
 
 #[test]
 fn work_that_ends_early_tells_the_turns_taken(rt: HostRuntime) {
-    assert_eq!(rt; holds(&rt, rt.alloc(), Case::EarlyEnd), Some(true));
+    well(&rt, holds(&rt, rt.alloc(), Case::EarlyEnd));
 }
 
 #[test]
 fn a_portal_that_is_dropped_leaves_its_end_open(rt: HostRuntime) {
-    assert_eq!(rt; holds(&rt, rt.alloc(), Case::DroppedPortal), Some(true));
+    well(&rt, holds(&rt, rt.alloc(), Case::DroppedPortal));
 }
 
 #[test]
 fn a_scoped_portal_is_closed_when_it_is_let_go(rt: HostRuntime) {
-    assert_eq!(rt; holds(&rt, rt.alloc(), Case::ScopedPortal), Some(true));
+    well(&rt, holds(&rt, rt.alloc(), Case::ScopedPortal));
 }
 
 #[test]
 fn the_portal_where_something_has_come_is_told(rt: HostRuntime) {
-    assert_eq!(rt; holds(&rt, rt.alloc(), Case::Ready), Some(true));
+    well(&rt, holds(&rt, rt.alloc(), Case::Ready));
 }
 
 #[test]
 fn a_portal_takes_up_to_65536_bytes_of_any_value(rt: HostRuntime) {
-    assert_eq!(rt; holds(&rt, rt.alloc(), Case::Wide), Some(true));
+    well(&rt, holds(&rt, rt.alloc(), Case::Wide));
 }
 
 #[test]
 fn a_portal_arrives_with_a_parcel_that_is_waited_for(rt: HostRuntime) {
-    assert_eq!(rt; holds(&rt, rt.alloc(), Case::Arrival), Some(true));
+    well(&rt, holds(&rt, rt.alloc(), Case::Arrival));
 }

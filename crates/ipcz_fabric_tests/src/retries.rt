@@ -135,6 +135,23 @@ fn both_work<F: FabricName, R: Wait>(rt: &R, hub: &Hub<F>) {
     }
 }
 
+// What a hub answers to `retry` of its first node, and once a pair was closed and its workers have taken turns.
+fn retried<F: FabricName, R: Wait>(
+    rt: &R,
+    hub: &Hub<F>,
+    first: Portal<F>,
+    second: Portal<F>,
+) -> Option<[Retry; 2]> {
+    let waiting = hub.retry(rt, 0);
+    let first_closed = first.close(rt, hub).is_ok();
+    let both_closed = second.close(rt, hub).is_ok() && first_closed;
+    both_work(rt, hub);
+    match (waiting, hub.retry(rt, 0)) {
+        (Ok(waiting), Ok(again)) if both_closed => Some([waiting, again]),
+        _ => None,
+    }
+}
+
 // What a hub answers to `retry` of its first node while a proxy of it waits, and once its workers have taken turns after a pair was closed.
 fn by_workers<F: FabricName, R: Wait>(
     rt: &R,
@@ -144,15 +161,22 @@ fn by_workers<F: FabricName, R: Wait>(
 ) -> Option<[Retry; 2]> {
     let (_kept, sent) = hub.open_pair(rt, 0).ok()?;
     let (first, second) = hub.open_pair(rt, 0).ok()?;
-    if !sends(rt, hub, alloc, here, sent) {
-        return None;
-    }
+    let goes = sends(rt, hub, alloc, here, sent);
     both_work(rt, hub);
-    let waiting = hub.retry(rt, 0).ok()?;
-    first.close(rt, hub).ok()?;
-    second.close(rt, hub).ok()?;
-    both_work(rt, hub);
-    Some([waiting, hub.retry(rt, 0).ok()?])
+    let found = retried(rt, hub, first, second);
+    if goes { found } else { None }
+}
+
+// The same, with the first portals of a hub; and why a node that isn't there is refused.
+fn by_all_workers<F: FabricName, R: Wait>(
+    rt: &R,
+    hub: &Hub<F>,
+    alloc: Global,
+    portals: Vec<Portal<F>>,
+) -> Option<([Retry; 2], Option<Refusal>)> {
+    let (here, _there) = both(portals)?;
+    let answers = by_workers(rt, hub, alloc, &here)?;
+    Some((answers, hub.retry(rt, 2).err()))
 }
 
 fn retried_by_workers<F: FabricName, R: Wait>(
@@ -163,9 +187,7 @@ fn retried_by_workers<F: FabricName, R: Wait>(
     requires { blank ≡ F.table }
 {
     let (hub, portals) = hub_of::<F>(blank)?;
-    let (here, _there) = both(portals)?;
-    let answers = by_workers(rt, &hub, alloc, &here)?;
-    Some((answers, hub.retry(rt, 2).err()))
+    by_all_workers(rt, &hub, alloc, portals)
 }
 
 #[test]

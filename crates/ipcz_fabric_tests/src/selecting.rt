@@ -1,7 +1,8 @@
 //! A get at several portals of a hub, without sleep and with it.
 ghost use Rattle.std.specs.Prelude.{◌≡◌};
 
-use crate::hub_tables::{both, hub_of};
+use crate::hub_tables::{both, hub_of, well};
+use crate::hub_waits::is_soon;
 use ipcz_base::{Bytes, Refusal};
 use ipcz_fabric::{Blank, FabricName, Hub, Missed, Portal, start};
 use std::alloc::Global;
@@ -52,82 +53,142 @@ pub(crate) fn sends<F: FabricName, R: Wait>(
     put && hub.acts(rt, node, 100).is_ok()
 }
 
+// A list of a portal of the first pair and of one of a pair of node 0, with the peer of each.
+#[derive(Drop)]
+struct Listed<F: FabricName> {
+    list: Vec<Portal<F>>,
+    other: Portal<F>,
+    near: Portal<F>,
+}
+
+// Opens a pair, and lists one of its portals behind one of the first pair.
+fn open_listed<F: FabricName, R: Wait>(
+    rt: &R,
+    alloc: Global,
+    hub: &Hub<F>,
+    first: Portal<F>,
+    other: Portal<F>,
+) -> Option<Listed<F>> {
+    let (near, far) = hub.open_pair(rt, 0).ok()?;
+    let list = list_of(alloc, first, far)?;
+    Some(Listed { list, other, near })
+}
+
+// What a get answers at no portals.
+fn told_of_none<F: FabricName, R: Wait + Clock>(
+    rt: &R,
+    alloc: Global,
+    hub: &Hub<F>,
+) -> (Option<usize>, Option<Missed>) {
+    let none: Vec<Portal<F>> = Vec::new(alloc);
+    told(rt, hub, &none, Duration::ZERO)
+}
+
+// Whether a portal of node 1 is closed, and both nodes act.
+fn closes<F: FabricName, R: Wait>(rt: &R, hub: &Hub<F>, right: Portal<F>) -> bool {
+    right.close(rt, hub).is_ok() && hub.acts(rt, 1, 100).is_ok() && hub.acts(rt, 0, 100).is_ok()
+}
+
 // What a get answers at a first portal of node 0 and at one of a pair of this node: before anything was sent, behind a parcel to the second, and
 // behind a close of the peer of the first; and what it answers at none.
 fn answers<F: FabricName, R: Wait + Clock>(
     rt: &R,
     alloc: Global,
-    blank: Blank,
-) -> Option<[(Option<usize>, Option<Missed>); 4]>
-    requires { blank ≡ F.table }
-{
-    let (hub, firsts) = hub_of::<F>(blank)?;
-    let (left, right) = both(firsts)?;
-    let (near, far) = hub.open_pair(rt, 0).ok()?;
-    let list = list_of(alloc, left, far)?;
-    let before = told(rt, &hub, &list, Duration::ZERO);
-    if !sends(rt, &hub, alloc, &near, 0) {
-        return None;
-    }
-    let parcel = told(rt, &hub, &list, Duration::ZERO);
-    right.close(rt, &hub).ok()?;
-    hub.acts(rt, 1, 100).ok()?;
-    hub.acts(rt, 0, 100).ok()?;
-    let closed = told(rt, &hub, &list, Duration::ZERO);
-    let none: Vec<Portal<F>> = Vec::new(alloc);
-    let nothing = told(rt, &hub, &none, Duration::ZERO);
-    Some([before, parcel, closed, nothing])
+    hub: &Hub<F>,
+    it: Listed<F>,
+) -> Option<[(Option<usize>, Option<Missed>); 4]> {
+    let Listed { list, other, near } = it;
+    let before = told(rt, hub, &list, Duration::ZERO);
+    let sent = sends(rt, hub, alloc, &near, 0);
+    let parcel = told(rt, hub, &list, Duration::ZERO);
+    let over = closes(rt, hub, other);
+    let closed = told(rt, hub, &list, Duration::ZERO);
+    let nothing = told_of_none(rt, alloc, hub);
+    (sent && over).then_some([before, parcel, closed, nothing])
 }
 
-fn answers_of<R: Wait + Clock>(
+// Whether it answers these places, and why there is nothing.
+fn tells<F: FabricName, R: Wait + Clock>(
     rt: &R,
     alloc: Global,
-) -> Option<[(Option<usize>, Option<Missed>); 4]> {
-    let blank = start(alloc, 2, 4).ok()?;
-    answers::<Brand, R>(rt, alloc, blank)
+    hub: &Hub<F>,
+    it: Listed<F>,
+) -> bool {
+    let empty = (None, Some(Missed::Refused(Refusal::Empty)));
+    let closed = (Some(0), Some(Missed::Refused(Refusal::PeerClosed)));
+    answers(rt, alloc, hub, it) == Some([empty, (Some(1), None), closed, empty])
 }
 
 #[test]
 fn a_get_at_several_portals_tells_which(rt: HostRuntime) {
-    let empty = (None, Some(Missed::Refused(Refusal::Empty)));
-    let closed = (Some(0), Some(Missed::Refused(Refusal::PeerClosed)));
-    assert_eq!(rt;
-        answers_of(&rt, rt.alloc()),
-        Some([empty, (Some(1), None), closed, empty])
-    );
+    well(&rt, goes(&rt, rt.alloc(), Case::Tells));
 }
 
 // Whether a get at portals of two nodes, which most likely sleeps by then, is woken by a parcel to the second.
 fn is_woken<F: FabricName + Send + Sync, R: Threads + Wait + Clock + Sync>(
     rt: &R,
     alloc: Global,
-    blank: Blank,
-) -> Option<bool>
-    requires { blank ≡ F.table }
-{
-    let begin = Instant::now(rt).ok()?;
-    let (hub, firsts) = hub_of::<F>(blank)?;
-    let (left, right) = both(firsts)?;
-    let (near, far) = hub.open_pair(rt, 0).ok()?;
-    let list = list_of(alloc, right, far)?;
+    hub: &Hub<F>,
+    it: &Listed<F>,
+) -> bool {
     let (sent, got) = join(
         rt,
         || {
             sleep(rt, Duration::from_millis(50));
-            sends(rt, &hub, alloc, &near, 0)
+            sends(rt, hub, alloc, &it.near, 0)
         },
-        || told(rt, &hub, &list, long()),
+        || told(rt, hub, &it.list, long()),
     );
-    let spent = begin.elapsed(rt).ok()?;
-    Some(sent && got == (Some(1), None) && spent < long() && left.node() == 0)
-}
-
-fn is_woken_of<R: Threads + Wait + Clock + Sync>(rt: &R, alloc: Global) -> Option<bool> {
-    let blank = start(alloc, 2, 4).ok()?;
-    is_woken::<Brand, R>(rt, alloc, blank)
+    sent && got == (Some(1), None)
 }
 
 #[test]
 fn a_get_at_portals_of_two_nodes_is_woken(rt: HostRuntime) {
-    assert_eq!(rt; is_woken_of(&rt, rt.alloc()), Some(true));
+    well(&rt, goes(&rt, rt.alloc(), Case::Wakes));
+}
+
+// What is looked at.
+#[derive(Clone, Copy)]
+enum Case {
+    Tells,
+    Wakes,
+}
+
+// Whether a case goes well, with the first portals of a hub.
+fn looks<F: FabricName + Send + Sync, R: Threads + Wait + Clock + Sync>(
+    rt: &R,
+    alloc: Global,
+    hub: &Hub<F>,
+    firsts: Vec<Portal<F>>,
+    case: Case,
+) -> Option<bool> {
+    let (left, right) = both(firsts)?;
+    match case {
+        Case::Tells => Some(tells(rt, alloc, hub, open_listed(rt, alloc, hub, left, right)?)),
+        Case::Wakes => {
+            let it = open_listed(rt, alloc, hub, right, left)?;
+            Some(is_woken(rt, alloc, hub, &it) && it.other.node() == 0)
+        }
+    }
+}
+
+// Whether a case goes well on the hub of a table.
+fn goes_well<F: FabricName + Send + Sync, R: Threads + Wait + Clock + Sync>(
+    rt: &R,
+    alloc: Global,
+    blank: Blank,
+    case: Case,
+) -> Option<bool>
+    requires { blank ≡ F.table }
+{
+    let (hub, firsts) = hub_of::<F>(blank)?;
+    looks(rt, alloc, &hub, firsts, case)
+}
+
+// The same, on the hub of a new table, and whether no sleep comes to its end.
+fn goes<R: Threads + Wait + Clock + Sync>(rt: &R, alloc: Global, case: Case) -> Option<bool> {
+    let begin = Instant::now(rt).ok()?;
+    let blank = start(alloc, 2, 4).ok()?;
+    let went = goes_well::<Brand, R>(rt, alloc, blank, case);
+    Some(went == Some(true) && is_soon(rt, begin))
 }

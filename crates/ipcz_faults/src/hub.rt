@@ -232,6 +232,65 @@ fn both<F: FabricName>(mut portals: Vec<Portal<F>>) -> Option<(Portal<F>, Portal
     Some((here, there))
 }
 
+// Puts a byte at a portal, with a portal or none.
+fn puts<F: FabricName, R: Wait>(
+    rt: &R,
+    hub: &Hub<F>,
+    alloc: Global,
+    at: &Portal<F>,
+    moved: Option<Portal<F>>,
+    met: &mut Met,
+) -> Result<(), Wrong> {
+    let portals = match moved {
+        Some(portal) => one(alloc, portal, met)?,
+        None => Vec::new(alloc),
+    };
+    let bytes = byte(alloc, met)?;
+    put(rt, hub, at, bytes, portals, met)
+}
+
+// Gets the portal that comes in the first parcel.
+fn takes<F: FabricName, R: Wait>(
+    rt: &R,
+    hub: &Hub<F>,
+    at: &Portal<F>,
+    met: &mut Met,
+) -> Result<Portal<F>, Wrong> {
+    let mut got = get(rt, hub, at, met)?;
+    match got.portals.pop() {
+        Some(portal) => Ok(portal),
+        None => Err(Wrong::Answer),
+    }
+}
+
+// Puts a byte at the portal that was kept and gets it at its peer, which has moved.
+fn reaches<F: FabricName, R: Wait + Clock>(
+    rt: &R,
+    hub: &Hub<F>,
+    alloc: Global,
+    (here, kept): (&Portal<F>, &Portal<F>),
+    came: &Portal<F>,
+    met: &mut Met,
+) -> Result<(), Wrong> {
+    puts(rt, hub, alloc, kept, None, met)?;
+    act(rt, hub, here, met)?;
+    let _parcel = get(rt, hub, came, met)?;
+    Ok(())
+}
+
+// The same, and closes what got it.
+fn use_moved<F: FabricName, R: Wait + Clock>(
+    rt: &R,
+    hub: &Hub<F>,
+    alloc: Global,
+    ends: (&Portal<F>, &Portal<F>),
+    came: Portal<F>,
+    met: &mut Met,
+) -> Result<(), Wrong> {
+    reaches(rt, hub, alloc, ends, &came, met)?;
+    close(rt, hub, came, met)
+}
+
 // Opens a pair on node 0, sends its portal of side B to node 1, puts a byte at the other, gets it there, and closes what got it.
 fn move_one<F: FabricName, R: Wait + Clock>(
     rt: &R,
@@ -242,16 +301,10 @@ fn move_one<F: FabricName, R: Wait + Clock>(
 ) -> Result<(), Wrong> {
     let (here, there) = ends;
     let (kept, moved) = open(rt, hub, met)?;
-    let portals = one(alloc, moved, met)?;
-    put(rt, hub, &here, byte(alloc, met)?, portals, met)?;
+    puts(rt, hub, alloc, &here, Some(moved), met)?;
     act(rt, hub, &here, met)?;
-    let Some(came) = get(rt, hub, &there, met)?.portals.pop() else {
-        return Err(Wrong::Answer);
-    };
-    put(rt, hub, &kept, byte(alloc, met)?, Vec::new(alloc), met)?;
-    act(rt, hub, &here, met)?;
-    let _parcel = get(rt, hub, &came, met)?;
-    close(rt, hub, came, met)
+    let came = takes(rt, hub, &there, met)?;
+    use_moved(rt, hub, alloc, (&here, &kept), came, met)
 }
 
 // Runs the row on the hub of a table of two nodes; the world that its cells come back to has claimed a word for each pair and the bypass.
