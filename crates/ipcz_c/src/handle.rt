@@ -39,7 +39,7 @@ impl Handle {
     // The world of a handle that has one; it has none then.
     pub(crate) fn take(&mut self, alloc: Global) -> Box<World, Global>
         requires { IsSome self.old.held.world }
-        ensures world { self.old.held.world ≡ Some result.value }
+        ensures world { self.old.held.world ≡ Some result.value.world }
         ensures none { self.new.held.world ≡ None }
     {
         let empty = Handle::empty(alloc);
@@ -50,7 +50,7 @@ impl Handle {
 
     // Gives the handle a world.
     pub(crate) fn give(&mut self, world: Box<World, Global>)
-        ensures { self.new.held.world ≡ Some world.value }
+        ensures { self.new.held.world ≡ Some world.value.world }
     {
         *self = Handle {
             held: WorldPointer::of_parts(Parts::of(world)),

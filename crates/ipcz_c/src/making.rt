@@ -35,7 +35,7 @@ pub(crate) fn boxed_world(
     words: u32,
 ) -> Result<Box<World, Global>, Refusal>
     requires { is_within nodes words ≡ true }
-    ensures world { IfOk result (λ w. w.value ≡ new_world nodes words) }
+    ensures world { IfOk result (λ w. w.value.world ≡ new_world nodes words) }
     ensures why { IfErr result (λ e. e ≡ Refusal.OutOfMemory) }
 {
     let world = World::new(alloc, nodes, words)?;

@@ -1,7 +1,8 @@
 //! A world behind a pointer, as a box keeps it, in a struct that C can hold.
-ghost use Rattle.std.specs.Prelude.{◌≡◌, Option, Some, None, IsSome};
+ghost use Rattle.std.specs.Prelude.{◌≡◌, Option, List, Some, None, IsSome};
+ghost use Rattle.ipcz_node.specs.RoomyNodes.{NodeRoom};
 ghost use Rattle.ipcz_world.specs.World as worlds;
-ghost use Rattle.ipcz_c.specs.Held.{held_coded, pointer_owns};
+ghost use Rattle.ipcz_c.specs.Held.{held_coded, pointer_owns, rooms_coded};
 
 use crate::parts::Parts;
 use ipcz_world::World;
@@ -16,10 +17,11 @@ pub struct WorldPointer {
     ptr: *mut u8,
     alloc: Global,
     pub ghost world: { Option worlds.World } by { held_coded },
+    pub ghost rooms: { List NodeRoom } by { rooms_coded },
 }
 
 impl Model for WorldPointer {
-    ghost also_owns = { λ p. pointer_owns p.alloc p.ptr p.world };
+    ghost also_owns = { λ p. pointer_owns p.alloc p.ptr p.world p.rooms };
 }
 
 unsafe impl Send for WorldPointer {}
@@ -32,7 +34,7 @@ impl WorldPointer {
     }
 
     pub(crate) fn of_parts(parts: Parts<World, Global>) -> WorldPointer
-        ensures { result.world ≡ Some parts.value }
+        ensures { result.world ≡ Some parts.value.world }
     {
         let Parts { ptr, alloc } = parts;
         WorldPointer {
@@ -43,7 +45,7 @@ impl WorldPointer {
 
     pub(crate) fn into_parts(self) -> Parts<World, Global>
         requires { IsSome self.world }
-        ensures { self.world ≡ Some result.value }
+        ensures { self.world ≡ Some result.value.world }
     {
         let WorldPointer { ptr, alloc } = self;
         Parts {

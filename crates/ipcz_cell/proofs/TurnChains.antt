@@ -18,7 +18,8 @@ use Rattle.ipcz_rule.specs.Steps.{old_word, trusted}
 use Rattle.ipcz_cell.specs.TableNames.{TableName}
 use Rattle.ipcz_cell.specs.CellStates.{CellState, roomy}
 use Rattle.ipcz_cell.specs.Parts.{handed_part, part_handed}
-use Rattle.ipcz_cell.specs.Mails.{HasRoomToHandle, Handles, OldLoaded, old_named}
+use Rattle.ipcz_cell.specs.Mails.{Handles, OldLoaded, old_named}
+use Rattle.ipcz_world.specs.RoomyWorlds.{HasRoomToHandle}
 use Rattle.ipcz_cell.specs.Turns.{Chooses}
 use Rattle.ipcz_cell.specs.TurnEnds.{Acts, IsDone}
 use Rattle.ipcz_node.specs.declared.node_set.NodeSet.{NodeSet}

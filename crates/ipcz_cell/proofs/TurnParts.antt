@@ -24,7 +24,8 @@ use Rattle.ipcz_cell.specs.TableNames.{TableName}
 use Rattle.ipcz_cell.specs.CellStates.{CellState, roomy}
 use Rattle.ipcz_rule.specs.Steps.{old_word}
 use Rattle.ipcz_cell.specs.Claims.{FindsNone, Answered, Got as Claimed, Dry as WasDry, Slotless as HadNoSlot, Lost as WasLost}
-use Rattle.ipcz_cell.specs.Mails.{mail_word, old_named, OldLoaded, source_found, HasRoomToHandle, Handles}
+use Rattle.ipcz_cell.specs.Mails.{mail_word, old_named, OldLoaded, source_found, Handles}
+use Rattle.ipcz_world.specs.RoomyWorlds.{HasRoomToHandle}
 use Rattle.ipcz_cell.specs.Turns.{IsFirst, IsLast, Chooses, IsInside}
 use Rattle.ipcz_rule.specs.Races.{IsWaitedFor}
 use Rattle.ipcz_cell.specs.TurnEnds.{hand_grows, IsDone, IsTaken, IsLost, IsRefused, NoSerials, NoMemory, LostIt, hand_lacks_serials, HasRoom, LooksFor, Acts, EndsRaced, IsLostTurn, Turns, Got, Dry, NoSlot}

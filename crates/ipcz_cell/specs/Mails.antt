@@ -7,10 +7,9 @@ use Rattle.ipcz_base.specs.declared.refusal.Refusal.TheVariants.{NumbersEnd, Out
 use Rattle.ipcz_word.specs.Layout.{word_of_bits}
 use Rattle.ipcz_node.specs.declared.happened.Happened.{Happened}
 use Rattle.ipcz_node.specs.Events.{hand_event}
-use Rattle.ipcz_node.specs.Hands.{fits, message_lacks_serials}
-use Rattle.ipcz_node.specs.RoomyNodes.{RoomyNode}
-use Rattle.ipcz_node.specs.Telling.{HasRoomFor}
+use Rattle.ipcz_node.specs.Hands.{message_lacks_serials}
 use Rattle.ipcz_world.specs.Coding.{IsLinkNumber}
+use Rattle.ipcz_world.specs.RoomyWorlds.{HasRoomToHandle}
 use Rattle.ipcz_rule.specs.Rule.{has_number}
 use Rattle.ipcz_rule.specs.declared.view.Part.{Part}
 use Rattle.ipcz_rule.specs.Steps.{probe_part, look_part, old_word, trusted, hand_part}
@@ -79,11 +78,6 @@ pub record LoadsSource (size from : ℕ) (old : CellState) (answer : Option ℕ)
   pub seen : new.seen ≡ old.seen ++ found
   pub told : answer ≡ source_found found
   pub known : (x : Message) → old.part.message ≡ Some x → IsKnown size from x answer
-
--- there is room for a message of a sender, for which this source is known: if it fits, for what it makes a router take and tell, and else for
--- a stray more
-abbrev pub HasRoomToHandle : RoomyNode → ℕ → Message → Option ℕ → Type 0
-HasRoomToHandle k from x source = MatchBool (fits k.node from x source) (HasRoomFor k x) (0 < k.room.strays)
 
 -- what handling the message in hand loads, answers and leaves: the source is that of the old link's word, as the load has found it. It isn't
 -- refused for want of memory if there was room

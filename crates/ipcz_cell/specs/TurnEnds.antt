@@ -35,7 +35,8 @@ use Rattle.ipcz_cell.specs.TableNames.{TableName}
 use Rattle.ipcz_cell.specs.CellStates.{CellState, roomy}
 use Rattle.ipcz_cell.specs.Claims.{IsNumberAt, FindsNone}
 use Rattle.ipcz_cell.specs.Cells.{has_batch}
-use Rattle.ipcz_cell.specs.Mails.{mail_word, old_named, OldLoaded, HasRoomToHandle, source_found, looked_part, posted_part}
+use Rattle.ipcz_cell.specs.Mails.{mail_word, old_named, OldLoaded, source_found, looked_part, posted_part}
+use Rattle.ipcz_world.specs.RoomyWorlds.{HasRoomToHandle}
 use Rattle.ipcz_cell.specs.Words.{lock_seen}
 use Rattle.ipcz_cell.specs.Turns.{IsFirst}
 

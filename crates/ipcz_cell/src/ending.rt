@@ -388,7 +388,7 @@ fn close(
     requires hands { hands.items ≡ map (λ p. p.message) seat.me.0.view.parts }
     requires boxes { (vec_len boxes ≡ 0) × (nodes * nodes ≤ vec_capacity boxes) }
     requires bits { (vec_len bits ≡ 0) × (words ≤ vec_capacity bits) }
-    ensures { IsShown nodes words seat.me.0.view.parts result }
+    ensures { IsShown nodes words seat.me.0.view.parts result.world }
 {
     let seat = seat;
     let closed = table.close_with(seat);
@@ -411,7 +411,7 @@ pub fn finish<F: FabricName>(
     fabric: Fabric<F>,
     cells: Vec<NodeCell<F>>,
 ) -> Result<World, (Refusal, Fabric<F>, Vec<NodeCell<F>>)>
-    ensures shown { IfOk result (λ w. (F.table.reuses ≡ false) × IsShown F.table.count F.table.size (parts_of cells.items) w) }
+    ensures shown { IfOk result (λ w. (F.table.reuses ≡ false) × IsShown F.table.count F.table.size (parts_of cells.items) w.world) }
     ensures why { IfErr result (λ e. GivesNoWorld F.table cells.items e.0) }
     ensures back { IfErr result (λ e. e.2.items ≡ cells.items) }
 {

@@ -14,7 +14,8 @@ ghost use Rattle.ipcz_cell.specs.CellStates.{part_in, change_part, roomy};
 ghost use Rattle.ipcz_cell.specs.Parts.{handed_part};
 ghost use Rattle.ipcz_cell.specs.Cells.{AreSound, has_batch, held_slots, is_hand_of};
 ghost use Rattle.ipcz_cell.specs.TableNames.{IsLaidOut};
-ghost use Rattle.ipcz_cell.specs.Mails.{slot_of, mail_word, old_named, HasSeen, IsKnown, Probes, Looks, LoadsSource, HasRoomToHandle, Handles, IsTold, looked_on_part, posted_batch, posted_part, posted_rest};
+ghost use Rattle.ipcz_cell.specs.Mails.{slot_of, mail_word, old_named, HasSeen, IsKnown, Probes, Looks, LoadsSource, Handles, IsTold, looked_on_part, posted_batch, posted_part, posted_rest};
+ghost use Rattle.ipcz_world.specs.RoomyWorlds.{HasRoomToHandle};
 ghost use Rattle.ipcz_cell.specs.Outcomes.{IsPicked, probed, posted, looked, sourced, handed, touched, turned_by};
 
 use crate::bells::{Ringer, Waking};

@@ -1,14 +1,15 @@
 //! Desks: what lies behind a node's lock. It is the node's cell, whose history tells how its state was reached.
-ghost use Rattle.std.specs.Prelude.{◌≡◌, ◌<◌, ◌≤◌, ℕ, IfSome, Result, Ok, Err, true, MatchResult, None, Some, is_some, length, slice_index_or, unwrap_or, OnOk, IfOk, IfErr};
+ghost use Rattle.std.specs.Prelude.{◌≡◌, ◌<◌, ◌≤◌, ℕ, IfSome, IsOk, Result, Ok, Err, true, false, MatchResult, None, Some, is_some, length, slice_index_or, unwrap_or, OnOk, IfOk, IfErr};
 ghost use Rattle.ipcz_node.specs.Calls.{put_refusal, put_number, get_refusal, got_at, close_refusal, next_sizes};
 ghost use Rattle.ipcz_node.specs.Arriving.{arrival_of};
 ghost use Rattle.ipcz_node.specs.Finding.{IsNextReady};
 ghost use Rattle.ipcz_node.specs.Looking.{IsLook};
+ghost use Rattle.ipcz_node.specs.RoomyNodes.{TakesMore};
 ghost use Rattle.ipcz_rule.specs.declared.history.Call.TheVariants as calls;
 ghost use Rattle.ipcz_rule.specs.Histories.{at_node, entry_of, noted};
 ghost use Rattle.ipcz_rule.specs.Steps.{put_part, close_part};
 ghost use Rattle.ipcz_cell.specs.Callers.{IsWritten};
-ghost use Rattle.ipcz_cell.specs.CellStates.{CellState};
+ghost use Rattle.ipcz_cell.specs.CellStates.{CellState, roomy};
 ghost use Rattle.ipcz_cell.specs.Cells.{IsSoundCell};
 ghost use Rattle.ipcz_cell.specs.Opens.{OpensPair};
 ghost use Rattle.ipcz_cell.specs.Parts.{got_part};
@@ -183,6 +184,8 @@ fn put_noted<F: FabricName, P: PutName>(
     ensures why { IfErr result
         (λ e. IsRefusedInOrder (wants_list (ends_of portals.items))
         (put_refusal profile cell.old.part.state portal.now.end bytes (ends_of portals.items)) e.why) }
+    ensures full { wants_list (ends_of portals.items) ≡ false →
+        put_refusal profile cell.old.part.state portal.now.end bytes (ends_of portals.items) ≡ None → TakesMore (roomy cell.old) portal.now.end → IsOk result }
     ensures back { IfErr result (λ e. (e.bytes ≡ bytes) × (e.portals.items ≡ portals.items)) }
     ensures left { MatchResult result
         (λ n. LeavesPart me.old.id (P.puts (Ok n)) (put_part portal.now.end bytes (ends_of portals.items) cell.old.part) cell.old cell.new)
@@ -359,6 +362,8 @@ impl<F: FabricName> Desk<F> {
         ensures why { IfErr result
             (λ e. IsRefusedInOrder (wants_list (ends_of portals.items))
             (put_refusal profile self.old.part.state portal.now.end bytes (ends_of portals.items)) e.why) }
+        ensures full { wants_list (ends_of portals.items) ≡ false →
+            put_refusal profile self.old.part.state portal.now.end bytes (ends_of portals.items) ≡ None → TakesMore (roomy self.old) portal.now.end → IsOk result }
         ensures back { IfErr result (λ e. (e.bytes ≡ bytes) × (e.portals.items ≡ portals.items)) }
         ensures left { MatchResult result
             (λ n. LeavesPart me.old.id (calls.Put profile portal.now.end bytes (ends_of portals.items) (Ok n))
@@ -453,6 +458,7 @@ impl<F: FabricName> Desk<F> {
         ensures allowed { OnOk result (close_refusal self.old.part.state at ≡ None) }
         ensures number { IfOk result (λ n. n ≡ put_number self.old.part.state at) }
         ensures why { IfErr result (λ e. e ≡ unwrap_or (close_refusal self.old.part.state at) Refusal.OutOfMemory) }
+        ensures full { close_refusal self.old.part.state at ≡ None → TakesMore (roomy self.old) at → IsOk result }
         ensures left { MatchResult result
             (λ _. LeavesPart me.old.id (calls.Closed at result) (close_part at self.old.part) self.old self.new)
             (λ _. LeavesPart me.old.id (calls.Closed at result) self.old.part self.old self.new) }

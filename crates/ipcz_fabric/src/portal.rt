@@ -1,8 +1,10 @@
 //! Portals: ends that callers own. A portal can't be copied, and travels in parcels.
-ghost use Rattle.std.specs.Prelude.{◌≡◌, ◌≤◌, ◌<◌, ◌+◌, ◌++◌, None, Ok, Err, MatchResult, All, OnOk, OnErr, IfOk, IfErr, IsOk, length, take, unwrap_or, vec_len, vec_capacity};
+ghost use Rattle.std.specs.Prelude.{◌≡◌, ◌≤◌, ◌<◌, ◌+◌, ◌++◌, None, Ok, Err, MatchResult, All, OnOk, OnErr, IfOk, IfErr, IsOk, false, length, take, unwrap_or, vec_len, vec_capacity};
 ghost use Rattle.ipcz_node.specs.Calls.{put_refusal, put_number, close_refusal};
+ghost use Rattle.ipcz_node.specs.RoomyNodes.{TakesMore};
 ghost use Rattle.ipcz_rule.specs.declared.history.Call.TheVariants as calls;
 ghost use Rattle.ipcz_rule.specs.Steps.{put_part, close_part};
+ghost use Rattle.ipcz_cell.specs.CellStates.{roomy};
 ghost use Rattle.ipcz_fabric.specs.Places.{IsRefusedInOrder};
 ghost use Rattle.ipcz_fabric.specs.Portals.{ends_of, portals_at, parcel_refusal, wants_list};
 ghost use Rattle.ipcz_fabric.specs.Portals.{IsPut, IsPutRefusal, IsRefusedPut, IsGot, IsGotHere, IsGetRefusal, IsRefusedGetHere, IsRefusedGet};
@@ -169,6 +171,8 @@ impl<F: FabricName> Portal<F> {
         ensures why { IfErr result
             (λ e. IsRefusedInOrder (wants_list (ends_of portals.items))
             (put_refusal profile cell.old.part.state self.now.end bytes (ends_of portals.items)) e.why) }
+        ensures full { wants_list (ends_of portals.items) ≡ false →
+            put_refusal profile cell.old.part.state self.now.end bytes (ends_of portals.items) ≡ None → TakesMore (roomy cell.old) self.now.end → IsOk result }
         ensures back { IfErr result (λ e. (e.bytes ≡ bytes) × (e.portals.items ≡ portals.items)) }
         ensures err { OnErr result (cell.new.part ≡ cell.old.part) }
         ensures seen { cell.new.seen ≡ cell.old.seen }
@@ -239,6 +243,7 @@ impl<F: FabricName> Portal<F> {
         ensures allowed { OnOk result (close_refusal desk.old.part.state self.end ≡ None) }
         ensures number { IfOk result (λ n. n ≡ put_number desk.old.part.state self.end) }
         ensures why { IfErr result (λ e. e.0 ≡ unwrap_or (close_refusal desk.old.part.state self.end) Refusal.OutOfMemory) }
+        ensures full { close_refusal desk.old.part.state self.end ≡ None → TakesMore (roomy desk.old) self.end → IsOk result }
         ensures back { IfErr result (λ e. e.1 ≡ self) }
         ensures left { MatchResult result
             (λ n. LeavesPart me.old.id (calls.Closed self.end (Ok n)) (close_part self.end desk.old.part) desk.old desk.new)

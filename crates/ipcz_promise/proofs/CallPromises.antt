@@ -12,6 +12,7 @@ use Rattle.ipcz_world.specs.FirstRuns.{AreSteps}
 use Rattle.ipcz_world.specs.Settling.{AreVisits, FitsAnswer, IsQuiet, act_count, next_node}
 use Rattle.std.specs.Prelude.{Result, Ok, Err, IfOk, IfErr}
 use Rattle.ipcz_world.specs.World.{new_world}
+use Rattle.ipcz_world.specs.RoomyWorlds.{RoomyWorld}
 use Rattle.ipcz_world.specs.Lawful.{IsWithinLimits}
 use Rattle.ipcz_world.proofs.Vocabulary.{Refusal}
 use Rattle.ipcz_world.specs.declared.step.Settled.{Settled}
@@ -94,8 +95,8 @@ pub get-quiet : (w v : World) (n : ℕ) (at : End) (reply : Reply) → StepFirst
 get-quiet w v n at reply s quiet = each_get_stays_quiet w v n at reply quiet s
 
 -- the same of results
-pub made-promised : (nodes words : ℕ) → IsWithinLimits nodes words → (r : Result World Refusal) → IfOk r (λ w. w ≡ new_world nodes words) →
-    IfOk r (λ w. Keeps w (start nodes words))
+pub made-promised : (nodes words : ℕ) → IsWithinLimits nodes words → (r : Result RoomyWorld Refusal) →
+    IfOk r (λ w. w.world ≡ new_world nodes words) → IfOk r (λ w. Keeps w.world (start nodes words))
 made-promised nodes words limits (Ok w) is = subst (λ u. Keeps u (start nodes words)) (sym is) (starts_promised nodes words limits)
 made-promised nodes words limits (Err e) is = tt
 

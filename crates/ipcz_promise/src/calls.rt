@@ -1,13 +1,15 @@
 //! Calls on a world that carry the promise: `Keeps` ties the world to accounts, and each call hands it on with what the plain machine says of its
-//! reply (specs/Promise).
+//! reply (specs/Promise). Where a call finds the room that it wants it does what it does with ample memory, and so isn't refused `OutOfMemory` (`full`).
 
 ghost use Rattle.std.specs.Prelude.{◌≡◌, ◌≤◌, ◌+◌, ℕ, true, false, None, Ok, IfOk, IfErr, IfSome, IsOk, OnOk};
 ghost use Rattle.ipcz_base.specs.declared.end.End.{End as EndRecord};
 ghost use Rattle.ipcz_world.specs.Lawful.{IsWithinLimits};
 ghost use Rattle.ipcz_world.specs.Owed.{IsWet};
 ghost use Rattle.ipcz_world.specs.Retries.{LetAskTold};
+ghost use Rattle.ipcz_node.specs.RoomyNodes.{TakesMore};
+ghost use Rattle.ipcz_world.specs.RoomyWorlds.{HasRoomToStep, roomy_at};
 ghost use Rattle.ipcz_world.specs.Settling.{IsQuiet};
-ghost use Rattle.ipcz_world.specs.Steps.{put_reply};
+ghost use Rattle.ipcz_world.specs.Steps.{Gives, first_step, put_reply, put_step};
 ghost use Rattle.ipcz_promise.specs.Promise.{Account, HasClosedDropped, IsDelivered, IsInOrder, May, MayRun, MaySettle, holds, more_words, start};
 ghost use Rattle.ipcz_promise.specs.Accounting.{Keeps};
 ghost use Rattle.ipcz_promise.specs.CallRuns.{HasTheorem};
@@ -26,7 +28,7 @@ use std::alloc::Global;
 /// `new_world(alloc, 2, 8)` has the pair 0: node 0 holds its portal `A`, node 1 its portal `B`.
 pub fn new_world(alloc: Global, nodes: u8, words: u32) -> Result<World, Refusal>
     requires limits { IsWithinLimits nodes words }
-    ensures promise { IfOk result (λ w. Keeps w (start nodes words)) }
+    ensures promise { IfOk result (λ w. Keeps w.world (start nodes words)) }
     ensures why { IfErr result (λ e. e ≡ Refusal.OutOfMemory) }
 {
     World::new(alloc, nodes, words)
@@ -37,7 +39,8 @@ pub fn new_world(alloc: Global, nodes: u8, words: u32) -> Result<World, Refusal>
 /// `step(&mut world, &Step::Get { node: 1, at })` is `get(&mut world, 1, at)`. A step keeps its own lists: a put by it copies them, and
 /// is refused `OutOfMemory`, if there is no room for that, before all else but a node that isn't there.
 pub fn step(world: &mut World, step: &Step) -> Reply
-    ensures promise { (a : Account) → Keeps world.old a → (c : Account) × May a step.now result c × Keeps world.new c }
+    ensures promise { (a : Account) → Keeps world.old.world a → (c : Account) × May a step.now result c × Keeps world.new.world c }
+    ensures full { HasRoomToStep world.old step.now → Gives (first_step world.old.world step.now) result world.new.world }
 {
     world.step(step)
 }
@@ -49,7 +52,8 @@ pub fn step(world: &mut World, step: &Step) -> Reply
 ///
 /// In the world `new_world(alloc, 2, 8)` the first `open(&mut world, 0)` makes the pair 1.
 pub fn open(world: &mut World, node: u8) -> Reply
-    ensures promise { (a : Account) → Keeps world.old a → (c : Account) × May a (Step.Open node) result c × Keeps world.new c }
+    ensures promise { (a : Account) → Keeps world.old.world a → (c : Account) × May a (Step.Open node) result c × Keeps world.new.world c }
+    ensures full { HasRoomToStep world.old (Step.Open node) → Gives (first_step world.old.world (Step.Open node)) result world.new.world }
 {
     step(world, &Step::Open(node))
 }
@@ -70,9 +74,10 @@ pub fn put(
     bytes: Bytes,
     ends: Ends,
 ) -> Result<u64, PutRefused>
-    ensures promise { (a : Account) → Keeps world.old a →
-        (c : Account) × May a (Step.Put node at bytes ends) (put_reply result) c × Keeps world.new c }
+    ensures promise { (a : Account) → Keeps world.old.world a →
+        (c : Account) × May a (Step.Put node at bytes ends) (put_reply result) c × Keeps world.new.world c }
     ensures back { IfErr result (λ e. (e.bytes ≡ bytes) × (e.ends ≡ ends)) }
+    ensures full { TakesMore (roomy_at world.old node) at → Gives (put_step Profile.Printed world.old.world node at (record { bytes = bytes; ends = ends })) (put_reply result) world.new.world }
 {
     world.put(node, at, bytes, ends)
 }
@@ -85,9 +90,10 @@ pub fn put_wide(
     bytes: Bytes,
     ends: Ends,
 ) -> Result<u64, PutRefused>
-    ensures promise { (a : Account) → Keeps world.old a →
-        (c : Account) × May a (Step.PutWide node at bytes ends) (put_reply result) c × Keeps world.new c }
+    ensures promise { (a : Account) → Keeps world.old.world a →
+        (c : Account) × May a (Step.PutWide node at bytes ends) (put_reply result) c × Keeps world.new.world c }
     ensures back { IfErr result (λ e. (e.bytes ≡ bytes) × (e.ends ≡ ends)) }
+    ensures full { TakesMore (roomy_at world.old node) at → Gives (put_step Profile.Wide world.old.world node at (record { bytes = bytes; ends = ends })) (put_reply result) world.new.world }
 {
     world.put_as(Profile::Wide, node, at, bytes, ends)
 }
@@ -101,9 +107,9 @@ pub fn put_wide(
 /// After `put(&mut world, 0, left, bytes, ends)` and a settle, `get(&mut world, 1, right)` gives `Got` with number 0 and those lists, if `right` is the
 /// peer of `left`.
 pub fn get(world: &mut World, node: u8, at: End) -> Reply
-    ensures promise { (a : Account) → Keeps world.old a → (c : Account) × May a (Step.Get node at) result c × Keeps world.new c }
-    ensures delivered { (a : Account) → Keeps world.old a → IsQuiet world.old → result ≡ Reply.Refused Refusal.Empty → IsDelivered a at }
-    ensures quiet { IsQuiet world.old → IsQuiet world.new }
+    ensures promise { (a : Account) → Keeps world.old.world a → (c : Account) × May a (Step.Get node at) result c × Keeps world.new.world c }
+    ensures delivered { (a : Account) → Keeps world.old.world a → IsQuiet world.old.world → result ≡ Reply.Refused Refusal.Empty → IsDelivered a at }
+    ensures quiet { IsQuiet world.old.world → IsQuiet world.new.world }
 {
     world.get(node, at)
 }
@@ -114,7 +120,8 @@ pub fn get(world: &mut World, node: u8, at: End) -> Reply
 ///
 /// At a portal at which one parcel was put `close(&mut world, 0, at)` gives `Closed` with number 1.
 pub fn close(world: &mut World, node: u8, at: End) -> Reply
-    ensures promise { (a : Account) → Keeps world.old a → (c : Account) × May a (Step.Close node at) result c × Keeps world.new c }
+    ensures promise { (a : Account) → Keeps world.old.world a → (c : Account) × May a (Step.Close node at) result c × Keeps world.new.world c }
+    ensures full { HasRoomToStep world.old (Step.Close node at) → Gives (first_step world.old.world (Step.Close node at)) result world.new.world }
 {
     step(world, &Step::Close { node, at })
 }
@@ -125,7 +132,8 @@ pub fn close(world: &mut World, node: u8, at: End) -> Reply
 ///
 /// In the world `new_world(alloc, 2, 8)` each `turn(&mut world, 0)` gives `Turned(Idle)`: nothing waits there.
 pub fn turn(world: &mut World, node: u8) -> Reply
-    ensures promise { (a : Account) → Keeps world.old a → (c : Account) × May a (Step.Turn node) result c × Keeps world.new c }
+    ensures promise { (a : Account) → Keeps world.old.world a → (c : Account) × May a (Step.Turn node) result c × Keeps world.new.world c }
+    ensures full { HasRoomToStep world.old (Step.Turn node) → Gives (first_step world.old.world (Step.Turn node)) result world.new.world }
 {
     step(world, &Step::Turn(node))
 }
@@ -135,8 +143,8 @@ pub fn turn(world: &mut World, node: u8) -> Reply
 ///
 /// Refused `OutOfMemory` if there is no room for the replies: then no step is taken.
 pub fn run(world: &mut World, alloc: Global, steps: &[Step]) -> Result<Vec<Reply>, Refusal>
-    ensures promise { IfOk result (λ replies. (a : Account) → Keeps world.old a → (c : Account) × MayRun a steps.now replies.items c × Keeps world.new c) }
-    ensures kept { IfErr result (λ e. (e ≡ Refusal.OutOfMemory) × (world.new ≡ world.old)) }
+    ensures promise { IfOk result (λ replies. (a : Account) → Keeps world.old.world a → (c : Account) × MayRun a steps.now replies.items c × Keeps world.new.world c) }
+    ensures kept { IfErr result (λ e. (e ≡ Refusal.OutOfMemory) × (world.new.world ≡ world.old.world)) }
 {
     world.run(alloc, steps)
 }
@@ -149,9 +157,9 @@ pub fn run(world: &mut World, alloc: Global, steps: &[Step]) -> Result<Vec<Reply
 ///
 /// In the world `new_world(alloc, 2, 8)` nothing waits: `settle(&mut world, 0)` gives `Settled { after: 0 }`.
 pub fn settle(world: &mut World, limit: u64) -> Result<Settled, Refusal>
-    ensures promise { (a : Account) → Keeps world.old a → (c : Account) × MaySettle a limit result c × Keeps world.new c }
-    ensures quiet { (turns : ℕ) → result ≡ Ok (Settled.Settled turns) → IsQuiet world.new }
-    ensures closes { (turns : ℕ) → result ≡ Ok (Settled.Settled turns) → (a : Account) → Keeps world.new a → HasClosedDropped a }
+    ensures promise { (a : Account) → Keeps world.old.world a → (c : Account) × MaySettle a limit result c × Keeps world.new.world c }
+    ensures quiet { (turns : ℕ) → result ≡ Ok (Settled.Settled turns) → IsQuiet world.new.world }
+    ensures closes { (turns : ℕ) → result ≡ Ok (Settled.Settled turns) → (a : Account) → Keeps world.new.world a → HasClosedDropped a }
 {
     world.settle(limit)
 }
@@ -160,7 +168,7 @@ pub fn settle(world: &mut World, limit: u64) -> Result<Settled, Refusal>
 ///
 /// In the world `new_world(alloc, 2, 8)` the holder of the portal `B` of pair 0 is node 1; that of a portal of pair 1 is none.
 pub fn holder_of(world: &World, portal: End) -> Option<u8>
-    ensures promise { (a : Account) → Keeps world.now a → result ≡ a.holder portal }
+    ensures promise { (a : Account) → Keeps world.now.world a → result ≡ a.holder portal }
 {
     world.holder_of(portal)
 }
@@ -172,9 +180,9 @@ pub fn holder_of(world: &World, portal: End) -> Option<u8>
 ///
 /// In the world `new_world(alloc, 2, 8)` `ready_from(&world, 1, 0)` is none; where a parcel has come at the portal `right` of node 1, it is `right` with its serial.
 pub fn ready_from(world: &World, node: u8, serial: u64) -> Option<(u64, End)>
-    ensures ready { (a : Account) → Keeps world.now a → IfSome result (λ x. (holds a node x.1 ≡ true) × HasSomething world.now node x.1) }
+    ensures ready { (a : Account) → Keeps world.now.world a → IfSome result (λ x. (holds a node x.1 ≡ true) × HasSomething world.now.world node x.1) }
     ensures reached { IfSome result (λ x. serial ≤ x.0) }
-    ensures none { (a : Account) → Keeps world.now a → serial ≡ 0 → result ≡ None → (at : EndRecord) → holds a node at ≡ true → HasNothing world.now node at }
+    ensures none { (a : Account) → Keeps world.now.world a → serial ≡ 0 → result ≡ None → (at : EndRecord) → holds a node at ≡ true → HasNothing world.now.world node at }
 {
     world.ready_from(node, serial)
 }
@@ -184,9 +192,9 @@ pub fn ready_from(world: &World, node: u8, serial: u64) -> Option<(u64, End)>
 ///
 /// So it is in a new world and after a settle that answered `Settled`; after a put it is not.
 pub fn is_quiet(world: &World) -> bool
-    ensures quiet { result ≡ true → IsQuiet world.now }
-    ensures busy { result ≡ false → IsQuiet world.now → ⊥ }
-    ensures closes { result ≡ true → (a : Account) → Keeps world.now a → HasClosedDropped a }
+    ensures quiet { result ≡ true → IsQuiet world.now.world }
+    ensures busy { result ≡ false → IsQuiet world.now.world → ⊥ }
+    ensures closes { result ≡ true → (a : Account) → Keeps world.now.world a → HasClosedDropped a }
 {
     world.is_quiet()
 }
@@ -196,7 +204,7 @@ pub fn is_quiet(world: &World) -> bool
 ///
 /// In the world `new_world(alloc, 2, 8)` it is 7, since one pair is there; and 6 after an open.
 pub fn words_left(world: &World) -> u64
-    ensures promise { (a : Account) → Keeps world.now a → world.now.claimed + result ≡ a.words }
+    ensures promise { (a : Account) → Keeps world.now.world a → world.now.world.claimed + result ≡ a.words }
 {
     world.words_left()
 }
@@ -209,11 +217,11 @@ pub fn words_left(world: &World) -> u64
 ///
 /// In a world with no words left, after `add_words(&mut world, 1000)?` an open takes the first of 1,000.
 pub fn add_words(world: &mut World, count: u64) -> Result<(), Refusal>
-    ensures promise { OnOk result ((a : Account) → Keeps world.old a → Keeps world.new (more_words a count)) }
-    ensures claimed { world.new.claimed ≡ world.old.claimed }
-    ensures quiet { IsQuiet world.old → IsQuiet world.new }
+    ensures promise { OnOk result ((a : Account) → Keeps world.old.world a → Keeps world.new.world (more_words a count)) }
+    ensures claimed { world.new.world.claimed ≡ world.old.world.claimed }
+    ensures quiet { IsQuiet world.old.world → IsQuiet world.new.world }
     ensures none { count ≡ 0 → IsOk result }
-    ensures kept { IfErr result (λ e. (e ≡ Refusal.OutOfMemory) × (world.new ≡ world.old)) }
+    ensures kept { IfErr result (λ e. (e ≡ Refusal.OutOfMemory) × (world.new.world ≡ world.old.world)) }
 {
     world.add_words(count)
 }
@@ -226,11 +234,11 @@ pub fn add_words(world: &mut World, count: u64) -> Result<(), Refusal>
 ///
 /// In the world `new_world(alloc, 2, 8)` `retry(&mut world)` is 0; where one proxy has found no word, it is 1 after `add_words(&mut world, 1)?`.
 pub fn retry(world: &mut World) -> u64
-    ensures promise { (a : Account) → Keeps world.old a → Keeps world.new a }
-    ensures asked { LetAskTold world.old result world.new }
-    ensures wet { IsWet world.new }
-    ensures claimed { world.new.claimed ≡ world.old.claimed }
-    ensures still { result ≡ 0 → world.new ≡ world.old }
+    ensures promise { (a : Account) → Keeps world.old.world a → Keeps world.new.world a }
+    ensures asked { LetAskTold world.old.world result world.new.world }
+    ensures wet { IsWet world.new.world }
+    ensures claimed { world.new.world.claimed ≡ world.old.world.claimed }
+    ensures still { result ≡ 0 → world.new.world ≡ world.old.world }
 {
     world.retry()
 }
@@ -246,8 +254,8 @@ pub fn play(
     steps: &[Step],
 ) -> Result<(Vec<Reply>, World), Refusal>
     requires limits { IsWithinLimits nodes words }
-    ensures promise { IfOk result (λ played. (c : Account) × MayRun (start nodes words) steps.now played.0.items c × IsInOrder c × Keeps played.1 c) }
-    ensures theorem { IfOk result (λ played. HasTheorem steps.now played.0.items played.1) }
+    ensures promise { IfOk result (λ played. (c : Account) × MayRun (start nodes words) steps.now played.0.items c × IsInOrder c × Keeps played.1.world c) }
+    ensures theorem { IfOk result (λ played. HasTheorem steps.now played.0.items played.1.world) }
     ensures why { IfErr result (λ e. e ≡ Refusal.OutOfMemory) }
 {
     let mut world = World::new(alloc, nodes, words)?;

@@ -38,7 +38,7 @@ impl Model for Session {
 
     ghost coded = { Prim.hlevel (codes, code) };
 
-    ghost view = { λ a. record { world = a.world; names = a.labels.names; titles = a.labels.titles } };
+    ghost view = { λ a. record { world = a.world.world; names = a.labels.names; titles = a.labels.titles } };
 }
 
 impl Session {
@@ -273,7 +273,7 @@ fn take_turns(
     node: u8,
     count: u32,
 ) -> Result<Vec<Reply>, AllocError>
-    ensures { IfOk result (λ turns. AreTurns count node world.old turns.items world.new) }
+    ensures { IfOk result (λ turns. AreTurns count node world.old.world turns.items world.new.world) }
 {
     let mut turns = Vec::new(alloc);
     let mut left = count;

@@ -17,6 +17,7 @@ pub mod Passing
 pub mod PassingWithin
 pub mod QuietNodes
 pub mod Regular
+pub mod Rooming
 pub mod RouterActs
 pub mod Running
 pub mod SeenMail

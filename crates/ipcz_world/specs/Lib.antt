@@ -27,6 +27,7 @@ pub mod Ranks
 pub mod Records
 pub mod Retries
 pub mod Roles
+pub mod RoomyWorlds
 pub mod Routes
 pub mod SettleBounds
 pub mod SettleLimit

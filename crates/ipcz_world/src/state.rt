@@ -8,8 +8,10 @@ ghost use Rattle.ipcz_world.specs.Lawful.{IsWithinLimits};
 ghost use Rattle.ipcz_world.specs.Parts.{world_of_parts};
 ghost use Rattle.ipcz_world.specs.Owed.{IsWet};
 ghost use Rattle.ipcz_world.specs.Retries.{LetAskAt, LetAskTold};
-ghost use Rattle.ipcz_world.specs.Steps.{StepFirst};
+ghost use Rattle.ipcz_world.specs.RoomyWorlds.{HasRoomToAct, HasRoomToStep};
+ghost use Rattle.ipcz_world.specs.Steps.{Gives, StepFirst, first_step};
 ghost use Rattle.ipcz_world.specs.Taking.{IsRegular, node_of};
+ghost use Rattle.ipcz_world.specs.Turns.{next_at};
 ghost use Rattle.ipcz_world.specs.World.{new_world};
 
 pub(crate) mod asking;
@@ -45,19 +47,22 @@ impl Model for State {
     ghost use Rattle.std.specs.Prelude.{length};
     ghost use Rattle.std.specs.FinMap.{code};
     ghost use Rattle.std.specs.Coded.{codes};
-    ghost use Rattle.ipcz_world.specs.World.{World};
+    ghost use Rattle.ipcz_world.specs.RoomyWorlds.{RoomyWorld};
 
-    ghost Value = { World };
+    ghost Value = { RoomyWorld };
 
     ghost coded = { Prim.hlevel (codes, code) };
 
     ghost view = { λ a. record {
-      nodes = a.nodes;
-      words = a.words.words;
-      claimed = a.words.claimed;
-      size = length a.words.words;
-      count = a.count;
-      mail = a.mail;
+      world = record {
+        nodes = a.nodes.nodes;
+        words = a.words.words;
+        claimed = a.words.claimed;
+        size = length a.words.words;
+        count = a.count;
+        mail = a.mail;
+      };
+      rooms = a.nodes.rooms;
     } };
 }
 
@@ -66,7 +71,7 @@ impl State {
     #[tactic(auto, unfolding(crate::specs::World::new_world))]
     pub(crate) fn new(alloc: Global, nodes: u8, words: u32) -> Result<State, Refusal>
         requires { IsWithinLimits nodes words }
-        ensures world { IfOk result (λ w. w ≡ new_world nodes words) }
+        ensures world { IfOk result (λ s. s.world ≡ new_world nodes words) }
         ensures why { IfErr result (λ e. e ≡ Refusal.OutOfMemory) }
     {
         let boxes = usize::from(nodes) * usize::from(nodes);
@@ -96,7 +101,7 @@ impl State {
         requires empty { AreUnclaimedEmpty (map word_of_bits words.items) claimed }
         requires nodes { length nodes.items ≤ 255 }
         requires mail { length mail.items ≤ 4096 }
-        ensures { result ≡ world_of_parts (map (λ k. k.node) nodes.items) mail.items (map word_of_bits words.items) claimed }
+        ensures { result.world ≡ world_of_parts (map (λ k. k.node) nodes.items) mail.items (map word_of_bits words.items) claimed }
     {
         let alloc = *nodes.allocator();
         let count = nodes.len() as u8;
@@ -111,23 +116,23 @@ impl State {
 
     /// How many words were claimed.
     pub(crate) fn claimed(&self) -> u64
-        ensures { result ≡ self.now.claimed }
+        ensures { result ≡ self.now.world.claimed }
     {
         self.words.claimed()
     }
 
     /// How many words are left to claim.
     pub(crate) fn words_left(&self) -> u64
-        ensures { self.now.claimed + result ≡ self.now.size }
+        ensures { self.now.world.claimed + result ≡ self.now.world.size }
     {
         self.words.left()
     }
 
     /// So many link words more, none of them claimed.
     pub(crate) fn add_words(&mut self, count: u64) -> Result<(), Refusal>
-        ensures more { OnOk result (self.new ≡ grown self.old count) }
+        ensures more { OnOk result (self.new.world ≡ grown self.old.world count) }
         ensures none { count ≡ 0 → IsOk result }
-        ensures err { OnErr result (self.new ≡ self.old) }
+        ensures err { OnErr result (self.new.world ≡ self.old.world) }
         ensures why { IfErr result (λ e. e ≡ Refusal.OutOfMemory) }
     {
         match self.words.add(count) {
@@ -138,9 +143,9 @@ impl State {
 
     /// Lets the dry routers of each node ask for a word again, and answers how many there were, or 2^64 - 1 if there were more.
     pub(crate) fn retry(&mut self) -> u64
-        requires { length self.old.nodes ≡ self.old.count }
-        ensures asked { LetAskTold self.old result self.new }
-        ensures wet { IsWet self.new }
+        requires { length self.old.world.nodes ≡ self.old.world.count }
+        ensures asked { LetAskTold self.old.world result self.new.world }
+        ensures wet { IsWet self.new.world }
     {
         let mut told: u64 = 0;
         for n in 0..self.count {
@@ -151,15 +156,15 @@ impl State {
 
     // Lets those of one node.
     fn retry_at(&mut self, n: u8) -> u64
-        requires { n < length self.old.nodes }
-        ensures { LetAskAt self.old n result self.new }
+        requires { n < length self.old.world.nodes }
+        ensures { LetAskAt self.old.world n result self.new.world }
     {
         self.nodes.node_mut(n).let_all_ask()
     }
 
     /// The number of a claimed word.
     pub(crate) fn word(&self, i: u64) -> Option<u64>
-        ensures { result ≡ claimed_word (table_of self.now) i }
+        ensures { result ≡ claimed_word (table_of self.now.world) i }
     {
         self.words.word(i)
     }
@@ -167,8 +172,8 @@ impl State {
     /// The first node whose callers hold the end, if some do.
     #[tactic(auto, unfolding(crate::specs::World::node_at))]
     pub(crate) fn holder_of(&self, end: End) -> Option<u8>
-        requires { IsRegular self.now }
-        ensures { result ≡ holder_of self.now end }
+        requires { IsRegular self.now.world }
+        ensures { result ≡ holder_of self.now.world end }
     {
         for n in 0..self.count {
             if self.nodes.node(n).holds(end) {
@@ -181,8 +186,8 @@ impl State {
     /// How many routers a node has, if it is there.
     #[tactic(auto, unfolding(crate::specs::World::node_at))]
     pub(crate) fn routers(&self, node: u8) -> Option<usize>
-        requires { IsRegular self.now }
-        ensures { result ≡ routers_at self.now node }
+        requires { IsRegular self.now.world }
+        ensures { result ≡ routers_at self.now.world node }
     {
         if node < self.count {
             Some(self.nodes.node(node).router_count())
@@ -193,8 +198,9 @@ impl State {
 
     /// Takes a step; one for a node that isn't there is refused.
     pub(crate) fn step(&mut self, step: &Step) -> Reply
-        requires { IsRegular self.old }
-        ensures { StepFirst self.old step.now result self.new }
+        requires { IsRegular self.old.world }
+        ensures stepped { StepFirst self.old.world step.now result self.new.world }
+        ensures full { HasRoomToStep self.old step.now → Gives (first_step self.old.world step.now) result self.new.world }
     {
         if node_of(step) >= self.count {
             return Reply::Refused(Refusal::Stranger);
@@ -205,9 +211,10 @@ impl State {
     // Takes a step for a node that is there.
     #[tactic(auto, unfolding(crate::specs::Taking::node_of))]
     fn step_here(&mut self, step: &Step) -> Reply
-        requires regular { IsRegular self.old }
-        requires node { node_of step.now < self.old.count }
-        ensures { StepFirst self.old step.now result self.new }
+        requires regular { IsRegular self.old.world }
+        requires node { node_of step.now < self.old.world.count }
+        ensures stepped { StepFirst self.old.world step.now result self.new.world }
+        ensures full { HasRoomToStep self.old step.now → Gives (first_step self.old.world step.now) result self.new.world }
     {
         match step {
             Step::Open(node) => self.open(*node),
@@ -231,9 +238,10 @@ impl State {
 
     // Takes the turn of a node that is there.
     fn turn(&mut self, n: u8) -> Reply
-        requires regular { IsRegular self.old }
-        requires node { n < self.old.count }
-        ensures { StepFirst self.old (Step.Turn n) result self.new }
+        requires regular { IsRegular self.old.world }
+        requires node { n < self.old.world.count }
+        ensures stepped { StepFirst self.old.world (Step.Turn n) result self.new.world }
+        ensures full { HasRoomToAct self.old n (next_at self.old.world n) → Gives (first_step self.old.world (Step.Turn n)) result self.new.world }
     {
         let act = self.next(n);
         match self.take_first(n, act) {

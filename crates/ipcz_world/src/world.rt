@@ -1,8 +1,9 @@
 //! Worlds, as callers have them: each call keeps the law.
-ghost use Rattle.std.specs.Prelude.{◌≡◌, ◌<◌, ◌≤◌, ◌+◌, ℕ, true, false, IfOk, IfErr, IfSome, IsOk, OnErr, OnOk, map, None};
+ghost use Rattle.std.specs.Prelude.{◌≡◌, ◌≢◌, ◌<◌, ◌≤◌, ◌+◌, ℕ, true, false, IfOk, IfErr, IfSome, IsOk, OnErr, OnOk, map, None};
 ghost use Rattle.ipcz_node.specs.Finding.{IsNextReady};
 ghost use Rattle.ipcz_node.specs.Looking.{IsLook};
 ghost use Rattle.ipcz_node.specs.Node.{holds_end};
+ghost use Rattle.ipcz_node.specs.RoomyNodes.{TakesMore};
 ghost use Rattle.ipcz_world.specs.Arrived.{AreOutOfRoute, arrival_in};
 ghost use Rattle.ipcz_base.specs.declared.link_end.LinkEnd.{LinkEnd};
 ghost use Rattle.ipcz_word.specs.Layout.{word_of_bits};
@@ -18,10 +19,11 @@ ghost use Rattle.ipcz_world.specs.Listing.{ArePossible, possible_acts};
 ghost use Rattle.ipcz_world.specs.Owed.{IsWet};
 ghost use Rattle.ipcz_world.specs.Parts.{world_of_parts};
 ghost use Rattle.ipcz_world.specs.Retries.{AllMayAsk, LetAskTold};
+ghost use Rattle.ipcz_world.specs.RoomyWorlds.{HasRoomToAct, HasRoomToStep, roomy_at};
 ghost use Rattle.ipcz_world.specs.Routes.{Routes, first_routes};
-ghost use Rattle.ipcz_world.specs.Steps.{GivesOrNoMemory, StepAny, StepFirst, next_sizes, put_of, put_reply, put_step};
+ghost use Rattle.ipcz_world.specs.Steps.{Gives, GivesOrNoMemory, StepAny, StepFirst, first_step, next_sizes, put_of, put_reply, put_step};
 ghost use Rattle.ipcz_world.specs.FirstRuns.{AreSteps, KeepsLaw};
-ghost use Rattle.ipcz_world.specs.Turns.{next_at};
+ghost use Rattle.ipcz_world.specs.Turns.{after_act, next_at};
 ghost use Rattle.ipcz_world.specs.World.{new_world, node_at};
 ghost use Rattle.ipcz_world.specs.Settling.{IsQuiet, TakesTurn};
 ghost use Rattle.ipcz_world.specs.SettleBounds.{CarryNone, IsLawfulSettle, IsLawfulRefusal, plain_limit};
@@ -40,6 +42,9 @@ use std::marker::Model;
 /// Nodes with the link words that they share and the mailboxes between them (docs/PROTOCOL.md, "Nodes" and "Turns").
 ///
 /// The type keeps that there are books and routes with which the world is lawful: no caller ever has to prove it.
+///
+/// Contracts see the world with the **room** of its nodes: how much more each of their lists takes before it has to grow. A step, a put or an
+/// act that finds the room it wants is never refused `OutOfMemory`, and a turn takes its first act then, with nothing in its stead (`full`).
 #[derive(Drop)]
 pub struct World {
     state: State,
@@ -48,16 +53,16 @@ pub struct World {
 impl Model for World {
     ghost use Rattle.std.specs.FinMap.{code};
     ghost use Rattle.std.specs.Coded.{codes};
-    ghost use Rattle.ipcz_world.specs.World as value;
+    ghost use Rattle.ipcz_world.specs.RoomyWorlds.{RoomyWorld};
     ghost use Rattle.ipcz_world.specs.Lawfulness.{IsLawful};
 
-    ghost Value = { value.World };
+    ghost Value = { RoomyWorld };
 
     ghost coded = { Prim.hlevel (codes, code) };
 
     ghost view = { λ a. a.state };
 
-    ghost invariant = { λ a. IsLawful a.state };
+    ghost invariant = { λ a. IsLawful a.state.world };
 }
 
 impl World {
@@ -73,8 +78,8 @@ impl World {
     /// Refused `OutOfMemory` if there is no memory for it, and for nothing else: also of a system that doesn't reserve more than its memory.
     pub fn new(alloc: Global, nodes: u8, words: u32) -> Result<World, Refusal>
         requires limits { IsWithinLimits nodes words }
-        ensures world { IfOk result (λ w. w ≡ new_world nodes words) }
-        ensures lawful { IfOk result (λ w. Lawful w no_books (first_routes nodes)) }
+        ensures world { IfOk result (λ s. s.world ≡ new_world nodes words) }
+        ensures lawful { IfOk result (λ s. Lawful s.world no_books (first_routes nodes)) }
         ensures why { IfErr result (λ e. e ≡ Refusal.OutOfMemory) }
     {
         let state = State::new(alloc, nodes, words)?;
@@ -89,7 +94,7 @@ impl World {
     pub fn of_parts(nodes: Vec<NodeState>, mail: Vec<Mail>, words: Vec<u64>, claimed: u64) -> World
         requires words { IsTable words.items claimed }
         requires lawful { IsLawful (world_of_parts (map (λ k. k.node) nodes.items) mail.items (map word_of_bits words.items) claimed) }
-        ensures { result ≡ world_of_parts (map (λ k. k.node) nodes.items) mail.items (map word_of_bits words.items) claimed }
+        ensures { result.world ≡ world_of_parts (map (λ k. k.node) nodes.items) mail.items (map word_of_bits words.items) claimed }
     {
         let state = State::of_parts(nodes, mail, words, claimed);
         World { state }
@@ -99,7 +104,7 @@ impl World {
     /// what a caller has to prove: after `world.keeps_the_law();` the proof of the caller's function has that fact of the world. It is never
     /// refused.
     pub fn keeps_the_law(&self)
-        ensures { IsLawful self.now }
+        ensures { IsLawful self.now.world }
     {
         let _state = &self.state;
     }
@@ -109,7 +114,7 @@ impl World {
     ///
     /// In the world `World::new(alloc, 3, 8)` it is 3.
     pub fn claimed(&self) -> u64
-        ensures { result ≡ self.now.claimed }
+        ensures { result ≡ self.now.world.claimed }
     {
         self.state.claimed()
     }
@@ -119,7 +124,7 @@ impl World {
     ///
     /// `World::new(alloc, 2, 8)` has one first pair, whose word is claimed: it has 7 left, and 6 after an open.
     pub fn words_left(&self) -> u64
-        ensures { self.now.claimed + result ≡ self.now.size }
+        ensures { self.now.world.claimed + result ≡ self.now.world.size }
     {
         self.state.words_left()
     }
@@ -135,10 +140,10 @@ impl World {
     /// In a world with no words left, `world.add_words(1000)?` makes `world.words_left()` 1,000. A program that lasts asks before each open:
     /// `if world.words_left() < 64 { world.add_words(1000)?; }`.
     pub fn add_words(&mut self, count: u64) -> Result<(), Refusal>
-        ensures more { OnOk result (self.new ≡ grown self.old count) }
+        ensures more { OnOk result (self.new.world ≡ grown self.old.world count) }
         ensures none { count ≡ 0 → IsOk result }
-        ensures lawful { OnOk result (StaysLawful self.old self.new) }
-        ensures err { OnErr result (self.new ≡ self.old) }
+        ensures lawful { OnOk result (StaysLawful self.old.world self.new.world) }
+        ensures err { OnErr result (self.new.world ≡ self.old.world) }
         ensures why { IfErr result (λ e. e ≡ Refusal.OutOfMemory) }
     {
         self.state.add_words(count)
@@ -155,10 +160,10 @@ impl World {
     /// In a new world `world.retry()` is 0. Where three proxies have found no word, `world.add_words(3)?` and then `world.retry()`, which is 3,
     /// let all three go at the next settle.
     pub fn retry(&mut self) -> u64
-        ensures each { AllMayAsk self.old self.new }
-        ensures asked { LetAskTold self.old result self.new }
-        ensures wet { IsWet self.new }
-        ensures lawful { StaysLawful self.old self.new }
+        ensures each { AllMayAsk self.old.world self.new.world }
+        ensures asked { LetAskTold self.old.world result self.new.world }
+        ensures wet { IsWet self.new.world }
+        ensures lawful { StaysLawful self.old.world self.new.world }
     {
         self.state.retry()
     }
@@ -168,8 +173,8 @@ impl World {
     ///
     /// So it is in a new world, and after a settle that answered `Settled`; after a put it is not.
     pub fn is_quiet(&self) -> bool
-        ensures quiet { result ≡ true → IsQuiet self.now }
-        ensures busy { result ≡ false → IsQuiet self.now → ⊥ }
+        ensures quiet { result ≡ true → IsQuiet self.now.world }
+        ensures busy { result ≡ false → IsQuiet self.now.world → ⊥ }
     {
         self.state.last_busy(0).is_none()
     }
@@ -179,7 +184,7 @@ impl World {
     /// In the world `World::new(alloc, 2, 8)` `world.word(0)` is `Some(3)`, stable at both sides, and `world.word(1)` is none.
     #[tactic(auto, unfolding(crate::specs::World::word_at))]
     pub fn word(&self, i: u64) -> Option<u64>
-        ensures { result ≡ shown_word self.now i }
+        ensures { result ≡ shown_word self.now.world i }
     {
         self.state.word(i)
     }
@@ -189,7 +194,7 @@ impl World {
     ///
     /// In the world `World::new(alloc, 2, 8)` the holder of the end of side B of pair 0 is `Some(1)`, and that of an end of pair 1 is none.
     pub fn holder_of(&self, end: End) -> Option<u8>
-        ensures { result ≡ holder_of self.now end }
+        ensures { result ≡ holder_of self.now.world end }
     {
         self.state.holder_of(end)
     }
@@ -198,7 +203,7 @@ impl World {
     ///
     /// In the world `World::new(alloc, 3, 8)` `world.routers(2)` is `Some(2)`, and `world.routers(3)` is none.
     pub fn routers(&self, node: u8) -> Option<usize>
-        ensures { result ≡ routers_at self.now node }
+        ensures { result ≡ routers_at self.now.world node }
     {
         self.state.routers(node)
     }
@@ -220,12 +225,16 @@ impl World {
     /// A turn is refused `NumbersEnd` if its act would make more routers than there are serials left at the node, and `OutOfMemory` if its act
     /// wants memory and finds none; but a router that finds none to begin its bypass, or to retire, gives its lock back instead.
     ///
+    /// Only a put by a step asks for memory in any case, for the copies of its lists. Each other step that finds room for what it wants does what it
+    /// does with ample memory (`full`).
+    ///
     /// A refusal changes nothing. In the world `World::new(alloc, 2, 8)` the step `Open(0)` is answered `Opened` with the ends of pair 1, and
     /// `Turn(0)`, where nothing waits, `Turned(Idle)`.
     pub fn step(&mut self, step: &Step) -> Reply
-        ensures step { StepFirst self.old step.now result self.new }
-        ensures lawful { KeepsLawful self.old step.now result self.new }
-        ensures plain { IsPlainReply self.old step.now result }
+        ensures step { StepFirst self.old.world step.now result self.new.world }
+        ensures lawful { KeepsLawful self.old.world step.now result self.new.world }
+        ensures plain { IsPlainReply self.old.world step.now result }
+        ensures full { HasRoomToStep self.old step.now → Gives (first_step self.old.world step.now) result self.new.world }
     {
         self.state.step(step)
     }
@@ -235,7 +244,7 @@ impl World {
     ///
     /// In the world `World::new(alloc, 2, 8)` `world.hand(0)` is none, and after a look of node 0 at node 1's mailbox it is `Some(1)`.
     pub fn hand(&self, node: u8) -> Option<u8>
-        ensures { result ≡ hand_at self.now node }
+        ensures { result ≡ hand_at self.now.world node }
     {
         self.state.hand(node)
     }
@@ -247,7 +256,7 @@ impl World {
     ///
     /// In the world `World::new(alloc, 2, 8)` `world.can_act(0, Act::Idle)` is true, and `world.can_act(0, Act::Look(1))` is false.
     pub fn can_act(&self, node: u8, act: Act) -> bool
-        ensures { result ≡ can_act self.now node act }
+        ensures { result ≡ can_act self.now.world node act }
     {
         self.state.can_act(node, act)
     }
@@ -261,12 +270,13 @@ impl World {
     ///
     /// In the world `World::new(alloc, 2, 8)` `world.act(0, Act::Idle)` is `Ok(Happened::Idle)`.
     pub fn act(&mut self, node: u8, act: Act) -> Result<Happened, NotTaken>
-        ensures acted { IfOk result (λ event. IsActed self.old node act event self.new) }
-        ensures step { IfOk result (λ event. StepAny self.old (Step.Turn node) (Reply.Turned event) self.new) }
-        ensures lawful { IfOk result (λ event. KeepsLawful self.old (Step.Turn node) (Reply.Turned event) self.new) }
-        ensures plain { IfOk result (λ event. IsPlainReply self.old (Step.Turn node) (Reply.Turned event)) }
-        ensures why { IfErr result (λ why. WhyNotTaken self.old node act why) }
-        ensures err { OnErr result (self.new ≡ self.old) }
+        ensures acted { IfOk result (λ event. IsActed self.old.world node act event self.new.world) }
+        ensures step { IfOk result (λ event. StepAny self.old.world (Step.Turn node) (Reply.Turned event) self.new.world) }
+        ensures lawful { IfOk result (λ event. KeepsLawful self.old.world (Step.Turn node) (Reply.Turned event) self.new.world) }
+        ensures plain { IfOk result (λ event. IsPlainReply self.old.world (Step.Turn node) (Reply.Turned event)) }
+        ensures why { IfErr result (λ why. WhyNotTaken self.old.world node act why) }
+        ensures full { HasRoomToAct self.old node act → IfErr result (λ why. why ≢ NotTaken.Refused Refusal.OutOfMemory) }
+        ensures err { OnErr result (self.new.world ≡ self.old.world) }
     {
         self.state.act(node, act)
     }
@@ -280,8 +290,8 @@ impl World {
     ///
     /// In the world `World::new(alloc, 2, 8)` `world.possible_acts(alloc, 0)` has `Act::Router(0, RouterAct::Rest)` and `Act::Idle`.
     pub fn possible_acts(&self, alloc: Global, node: u8) -> Result<Vec<Act>, AllocError>
-        ensures possible { IfOk result (λ acts. ArePossible self.now node acts.items) }
-        ensures order { IfOk result (λ acts. acts.items ≡ possible_acts self.now node) }
+        ensures possible { IfOk result (λ acts. ArePossible self.now.world node acts.items) }
+        ensures order { IfOk result (λ acts. acts.items ≡ possible_acts self.now.world node) }
     {
         self.state.possible_acts(alloc, node)
     }
@@ -301,11 +311,12 @@ impl World {
         bytes: Bytes,
         ends: Ends,
     ) -> Result<u64, PutRefused>
-        ensures step { StepFirst self.old (Step.PutWide node at bytes ends) (put_reply result) self.new }
-        ensures order { GivesOrNoMemory self.old (put_step Profile.Wide self.old node at (record { bytes = bytes; ends = ends })) (put_reply result) self.new }
+        ensures step { StepFirst self.old.world (Step.PutWide node at bytes ends) (put_reply result) self.new.world }
+        ensures order { GivesOrNoMemory self.old.world (put_step Profile.Wide self.old.world node at (record { bytes = bytes; ends = ends })) (put_reply result) self.new.world }
         ensures back { IfErr result (λ e. (e.bytes ≡ bytes) × (e.ends ≡ ends)) }
-        ensures lawful { KeepsLawful self.old (Step.PutWide node at bytes ends) (put_reply result) self.new }
-        ensures plain { IsPlainReply self.old (Step.PutWide node at bytes ends) (put_reply result) }
+        ensures lawful { KeepsLawful self.old.world (Step.PutWide node at bytes ends) (put_reply result) self.new.world }
+        ensures plain { IsPlainReply self.old.world (Step.PutWide node at bytes ends) (put_reply result) }
+        ensures full { TakesMore (roomy_at self.old node) at → Gives (put_step Profile.Wide self.old.world node at (record { bytes = bytes; ends = ends })) (put_reply result) self.new.world }
     {
         self.put_as(Profile::Wide, node, at, bytes, ends)
     }
@@ -317,11 +328,12 @@ impl World {
     ///
     /// Of the byte 7, `world.put(0, at, bytes, ends)` is refused `BadData`, where a `put_wide` takes it.
     pub fn put(&mut self, node: u8, at: End, bytes: Bytes, ends: Ends) -> Result<u64, PutRefused>
-        ensures step { StepFirst self.old (Step.Put node at bytes ends) (put_reply result) self.new }
-        ensures order { GivesOrNoMemory self.old (put_step Profile.Printed self.old node at (record { bytes = bytes; ends = ends })) (put_reply result) self.new }
+        ensures step { StepFirst self.old.world (Step.Put node at bytes ends) (put_reply result) self.new.world }
+        ensures order { GivesOrNoMemory self.old.world (put_step Profile.Printed self.old.world node at (record { bytes = bytes; ends = ends })) (put_reply result) self.new.world }
         ensures back { IfErr result (λ e. (e.bytes ≡ bytes) × (e.ends ≡ ends)) }
-        ensures lawful { KeepsLawful self.old (Step.Put node at bytes ends) (put_reply result) self.new }
-        ensures plain { IsPlainReply self.old (Step.Put node at bytes ends) (put_reply result) }
+        ensures lawful { KeepsLawful self.old.world (Step.Put node at bytes ends) (put_reply result) self.new.world }
+        ensures plain { IsPlainReply self.old.world (Step.Put node at bytes ends) (put_reply result) }
+        ensures full { TakesMore (roomy_at self.old node) at → Gives (put_step Profile.Printed self.old.world node at (record { bytes = bytes; ends = ends })) (put_reply result) self.new.world }
     {
         self.put_as(Profile::Printed, node, at, bytes, ends)
     }
@@ -344,11 +356,12 @@ impl World {
         bytes: Bytes,
         ends: Ends,
     ) -> Result<u64, PutRefused>
-        ensures step { StepFirst self.old (put_of profile node at bytes ends) (put_reply result) self.new }
-        ensures order { GivesOrNoMemory self.old (put_step profile self.old node at (record { bytes = bytes; ends = ends })) (put_reply result) self.new }
+        ensures step { StepFirst self.old.world (put_of profile node at bytes ends) (put_reply result) self.new.world }
+        ensures order { GivesOrNoMemory self.old.world (put_step profile self.old.world node at (record { bytes = bytes; ends = ends })) (put_reply result) self.new.world }
         ensures back { IfErr result (λ e. (e.bytes ≡ bytes) × (e.ends ≡ ends)) }
-        ensures lawful { KeepsLawful self.old (put_of profile node at bytes ends) (put_reply result) self.new }
-        ensures plain { IsPlainReply self.old (put_of profile node at bytes ends) (put_reply result) }
+        ensures lawful { KeepsLawful self.old.world (put_of profile node at bytes ends) (put_reply result) self.new.world }
+        ensures plain { IsPlainReply self.old.world (put_of profile node at bytes ends) (put_reply result) }
+        ensures full { TakesMore (roomy_at self.old node) at → Gives (put_step profile self.old.world node at (record { bytes = bytes; ends = ends })) (put_reply result) self.new.world }
     {
         self.state.put_given(profile, node, at, bytes, ends)
     }
@@ -361,9 +374,9 @@ impl World {
     ///
     /// After `world.put_wide(0, left, bytes, ends)` and a settle, `world.get(1, right)` is `Got(0, parcel)`, if `right` is the peer of `left`.
     pub fn get(&mut self, node: u8, at: End) -> Reply
-        ensures step { StepFirst self.old (Step.Get node at) result self.new }
-        ensures lawful { KeepsLawful self.old (Step.Get node at) result self.new }
-        ensures plain { IsPlainReply self.old (Step.Get node at) result }
+        ensures step { StepFirst self.old.world (Step.Get node at) result self.new.world }
+        ensures lawful { KeepsLawful self.old.world (Step.Get node at) result self.new.world }
+        ensures plain { IsPlainReply self.old.world (Step.Get node at) result }
     {
         self.state.get_given(node, at)
     }
@@ -373,7 +386,7 @@ impl World {
     ///
     /// Where a parcel of five bytes and no end is the next, `world.next_sizes(1, right)` is `Some(Sizes { bytes: 5, ends: 0 })`.
     pub fn next_sizes(&self, node: u8, at: End) -> Option<Sizes>
-        ensures { result ≡ next_sizes self.now node at }
+        ensures { result ≡ next_sizes self.now.world node at }
     {
         self.state.next_sizes(node, at)
     }
@@ -385,8 +398,8 @@ impl World {
     /// Where two parcels of five bytes have come and been left there, and the peer has closed, `world.look(1, right)` is
     /// `Some(PortalStatus { next: 0, sizes: Some(Sizes { bytes: 5, ends: 0 }), waiting: 2, peer_closed: true })`.
     pub fn look(&self, node: u8, at: End) -> Option<PortalStatus>
-        ensures here { node < self.now.count → IsLook (node_at self.now node) at result }
-        ensures away { self.now.count ≤ node → result ≡ None }
+        ensures here { node < self.now.world.count → IsLook (node_at self.now.world node) at result }
+        ensures away { self.now.world.count ≤ node → result ≡ None }
     {
         self.state.status(node, at)
     }
@@ -398,8 +411,8 @@ impl World {
     ///
     /// Where a parcel has come at `right` alone, `world.ready_from(1, 0)` is `Some((serial, right))`, and `world.ready_from(1, serial + 1)` is none.
     pub fn ready_from(&self, node: u8, serial: u64) -> Option<(u64, End)>
-        ensures here { node < self.now.count → IsNextReady (node_at self.now node) serial result }
-        ensures away { self.now.count ≤ node → result ≡ None }
+        ensures here { node < self.now.world.count → IsNextReady (node_at self.now.world node) serial result }
+        ensures away { self.now.world.count ≤ node → result ≡ None }
     {
         self.state.ready_from(node, serial)
     }
@@ -417,9 +430,9 @@ impl World {
     /// Where a portal has just come from another node, `world.has_arrived(1, at)` is `Some(false)`, and after a settle `Some(true)`, if no proxy is
     /// left without a word.
     pub fn has_arrived(&self, node: u8, at: End) -> Option<bool>
-        ensures answer { result ≡ arrival_in self.now node at }
-        ensures stranger { result ≡ None → node < self.now.count → holds_end (node_at self.now node) at ≡ false }
-        ensures behind { result ≡ Some true → AreOutOfRoute self.now at }
+        ensures answer { result ≡ arrival_in self.now.world node at }
+        ensures stranger { result ≡ None → node < self.now.world.count → holds_end (node_at self.now.world node) at ≡ false }
+        ensures behind { result ≡ Some true → AreOutOfRoute self.now.world at }
     {
         self.state.has_arrived(node, at)
     }
@@ -429,10 +442,10 @@ impl World {
     ///
     /// So `world.run(alloc, &[Step::Turn(0), Step::Turn(9)])` gives `Turned(Idle)` and `Refused(Stranger)`, where nothing waits.
     pub fn run(&mut self, alloc: Global, steps: &[Step]) -> Result<Vec<Reply>, Refusal>
-        ensures run { IfOk result (λ replies. AreSteps self.old steps.now replies.items self.new) }
-        ensures lawful { IfOk result (λ replies. KeepsLaw self.old steps.now replies.items self.new) }
+        ensures run { IfOk result (λ replies. AreSteps self.old.world steps.now replies.items self.new.world) }
+        ensures lawful { IfOk result (λ replies. KeepsLaw self.old.world steps.now replies.items self.new.world) }
         ensures why { IfErr result (λ e. e ≡ Refusal.OutOfMemory) }
-        ensures err { OnErr result (self.new ≡ self.old) }
+        ensures err { OnErr result (self.new.world ≡ self.old.world) }
     {
         let Ok(mut replies) = Vec::with_capacity(alloc, steps.len()) else {
             return Err(Refusal::OutOfMemory);
@@ -454,8 +467,8 @@ impl World {
     ///
     /// It is what to settle with: `if let Some(limit) = world.settle_limit() { world.settle(limit)?; }`.
     pub fn settle_limit(&self) -> Option<u64>
-        ensures limit { Tells result (settle_limit self.now) }
-        ensures enough { IfSome result (λ limit. (b : Books) → (g : Routes) → Lawful self.now b g → CarryNone b → plain_limit b self.now ≤ limit) }
+        ensures limit { Tells result (settle_limit self.now.world) }
+        ensures enough { IfSome result (λ limit. (b : Books) → (g : Routes) → Lawful self.now.world b g → CarryNone b → plain_limit b self.now.world ≤ limit) }
     {
         self.state.settle_limit()
     }
@@ -474,8 +487,8 @@ impl World {
     ///
     /// In the world `World::new(alloc, 2, 8)` nothing waits, and `world.settle(0)` is `Ok(Settled { after: 0 })`.
     pub fn settle(&mut self, limit: u64) -> Result<Settled, Refusal>
-        ensures settles { IfOk result (λ answer. IsLawfulSettle limit self.old self.new answer) }
-        ensures refused { IfErr result (λ why. IsLawfulRefusal limit self.old self.new why) }
+        ensures settles { IfOk result (λ answer. IsLawfulSettle limit self.old.world self.new.world answer) }
+        ensures refused { IfErr result (λ why. IsLawfulRefusal limit self.old.world self.new.world why) }
     {
         let (alone, behind) = self.carry(limit);
         if alone == 6 {
@@ -507,13 +520,13 @@ impl World {
     // many acts that was, and the node that is visited next. After six acts no node has an act.
     #[inline(always)]
     fn carry(&mut self, most: u64) -> (u64, u8)
-        ensures walk { Walk self.old self.new result.0 result.1 }
-        ensures place { IsPlace self.new result.1 }
+        ensures walk { Walk self.old.world self.new.world result.0 result.1 }
+        ensures place { IsPlace self.new.world result.1 }
         ensures within { result.0 ≤ most }
-        ensures idle { result.0 ≡ 6 → AreIdle self.new 0 self.new.count }
-        ensures carried { 6 ≤ most → (n serial : ℕ) → (link : LinkEnd) → IsLone self.old n serial link → IsCarried self.old self.new result.0 }
-        ensures none { result.0 ≡ 0 → self.new ≡ self.old }
-        ensures lawful { IsLawful self.new }
+        ensures idle { result.0 ≡ 6 → AreIdle self.new.world 0 self.new.world.count }
+        ensures carried { 6 ≤ most → (n serial : ℕ) → (link : LinkEnd) → IsLone self.old.world n serial link → IsCarried self.old.world self.new.world result.0 }
+        ensures none { result.0 ≡ 0 → self.new.world ≡ self.old.world }
+        ensures lawful { IsLawful self.new.world }
     {
         self.state.carry(most)
     }
@@ -522,21 +535,22 @@ impl World {
     // done. It gives how many acts that was, and the node that is visited next.
     #[inline(always)]
     fn carry_several(&mut self, most: u64) -> (u64, u8)
-        ensures walk { Walk self.old self.new result.0 result.1 }
-        ensures place { IsPlace self.new result.1 }
+        ensures walk { Walk self.old.world self.new.world result.0 result.1 }
+        ensures place { IsPlace self.new.world result.1 }
         ensures within { result.0 ≤ most }
-        ensures begun { 6 ≤ most → (n serial : ℕ) → (link : LinkEnd) → IsLoneSender self.old n serial link → 3 ≤ result.0 }
-        ensures lawful { IsLawful self.new }
+        ensures begun { 6 ≤ most → (n serial : ℕ) → (link : LinkEnd) → IsLoneSender self.old.world n serial link → 3 ≤ result.0 }
+        ensures lawful { IsLawful self.new.world }
     {
         self.state.carry_several(most)
     }
 
     // Takes the turn of a node whose first possible act is given.
     fn take_turn(&mut self, node: u8, act: Act) -> Result<(), Refusal>
-        requires node { node < self.old.count }
-        requires first { act ≡ next_at self.old node }
-        ensures turned { OnOk result (TakesTurn self.old node self.new) }
-        ensures refused { IfErr result (λ why. StepFirst self.old (Step.Turn node) (Reply.Refused why) self.new) }
+        requires node { node < self.old.world.count }
+        requires first { act ≡ next_at self.old.world node }
+        ensures turned { OnOk result (TakesTurn self.old.world node self.new.world) }
+        ensures refused { IfErr result (λ why. StepFirst self.old.world (Step.Turn node) (Reply.Refused why) self.new.world) }
+        ensures full { HasRoomToAct self.old node act → OnOk result (self.new.world ≡ after_act self.old.world node act) × IfErr result (λ why. why ≢ Refusal.OutOfMemory) }
     {
         self.state.take_first(node, act)
     }

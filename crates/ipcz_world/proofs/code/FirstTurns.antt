@@ -10,7 +10,7 @@ use Rattle.ipcz_node.specs.declared.act.Act.TheVariants.{Router as OfRouter}
 use Rattle.ipcz_node.specs.Acts.{stand_in}
 use Rattle.ipcz_world.specs.declared.step.Reply.TheVariants.{Turned, Refused}
 use Rattle.ipcz_world.specs.Turns.{turn_grows}
-use Rattle.ipcz_world.specs.Steps.{is_refused, FirstAct, StepFirst}
+use Rattle.ipcz_world.specs.Steps.{is_refused, FirstAct, Gives, StepFirst}
 use Rattle.ipcz_world.specs.Taking.{IsTaken, ToldTurn}
 
 module _ {X : Type 0} (tells : Happened → X → Type 0) (w : World) (n : ℕ) (act : Act) (here : n < w.count) where
@@ -67,3 +67,21 @@ unfolding stand_in
 stands-alone (OfRouter s acts.Begin) = refl
 stands-alone (OfRouter s acts.Retire) = refl
 stands-alone other = refl
+
+-- a turn that was taken gives what its step says
+pub turn-taken : (w : World) (n : ℕ) (act : Act) → n < w.count → (v : World) (event : Happened) →
+    IsTaken (λ (event told : Happened). told ≡ event) w n act (Ok event) v → Gives (turn_step w n act) (Turned event) v
+turn-taken w n act here v event is =
+    let e = effect (λ (event told : Happened). told ≡ event) w n act here false is.allowed in
+    (ap Turned is.event ∙ ap (λ (x : Effect). x.reply) (sym e), is.done ∙ ap (λ (x : Effect). x.world) (sym e))
+
+-- so does one that is refused for want of serials
+pub turn-ended : {X : Type 0} (tells : Happened → X → Type 0) (w : World) (n : ℕ) (act : Act) → n < w.count → (v : World) (why : Refusal) →
+    IsTaken tells w n act (Err why) v → why ≡ NumbersEnd → Gives (turn_step w n act) (Refused why) v
+turn-ended tells w n act here v why is ends = go (turn_lacks_serials w n act) refl
+  where
+    go : (c : Bool) → turn_lacks_serials w n act ≡ c → Gives (turn_step w n act) (Refused why) v
+    go true e =
+        let z = effect tells w n act here true e in
+        (ap Refused ends ∙ ap (λ (x : Effect). x.reply) (sym z), is.left ∙ ap (λ (x : Effect). x.world) (sym z))
+    go false e = absurd (let because : why ≡ OutOfMemory = is.why ∙ ap (λ c. if c then NumbersEnd else OutOfMemory) e in cc)

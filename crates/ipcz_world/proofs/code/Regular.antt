@@ -10,7 +10,7 @@ use Rattle.ipcz_base.specs.declared.refusal.Refusal.TheVariants.{Stranger}
 use Rattle.ipcz_world.specs.declared.step.Step.TheVariants.{Open, Put, PutWide, Get, Close}
 use Rattle.ipcz_world.specs.declared.step.Reply.TheVariants.{Refused}
 use Rattle.ipcz_word.specs.Laws.{HasNode}
-use Rattle.ipcz_world.specs.Steps.{PutGives, put_of, put_step, StepFirst}
+use Rattle.ipcz_world.specs.Steps.{Gives, PutGives, first_step, put_of, put_step, StepFirst}
 use Rattle.ipcz_world.specs.World.{word_at}
 use Rattle.ipcz_world.specs.Records.{is_linked}
 use Rattle.ipcz_world.specs.Coding.{AreUnclaimedEmpty}
@@ -74,3 +74,13 @@ pub put-step : (profile : Profile) (w v : World) (n : ℕ) (at : End) (bytes : L
     PutGives w n (put_step profile w n at (record { bytes = bytes; ends = ends })) reply v → StepFirst w (put_of profile n at bytes ends) reply v
 put-step profiles.Printed w v n at bytes ends reply gives = gives
 put-step profiles.Wide w v n at bytes ends reply gives = gives
+
+-- and its step gives no more than that
+pub stranger-gives : (w : World) (step : Step) → w.count ≤ node_of step → Gives (first_step w step) (Refused Stranger) w
+unfolding node_of first_step
+stranger-gives w (Open n) l = rw (far w n _ l) (refl, refl)
+stranger-gives w (Put n at bytes ends) l = rw (far w n _ l) (refl, refl)
+stranger-gives w (PutWide n at bytes ends) l = rw (far w n _ l) (refl, refl)
+stranger-gives w (Get n at) l = rw (far w n _ l) (refl, refl)
+stranger-gives w (Close n at) l = rw (far w n _ l) (refl, refl)
+stranger-gives w (Turn n) l = rw (far w n _ l) (refl, refl)

@@ -1,9 +1,10 @@
--- Nodes with their room, read and written, as the nodes that they are.
+-- Nodes with their room, read and written, as the nodes that they are, and worlds with the room of their nodes.
 use Rattle.std.specs.Prelude.{◌≡◌, ◌<◌, ℕ, List, length, map}
 use Rattle.std.proofs.Common.{arith, ap, sym, subst, get_or, set, ◌∙◌}
 use Rattle.std.proofs.lemmas.List.{get_or-map, map-set, length-map}
-use Rattle.ipcz_world.proofs.Vocabulary.{place_at, put_place, Node, bare_node}
+use Rattle.ipcz_world.proofs.Vocabulary.{place_at, put_place, Node}
 use Rattle.ipcz_node.specs.RoomyNodes.{RoomyNode}
+use Rattle.ipcz_world.specs.RoomyWorlds.{RoomyWorld}
 use Rattle.ipcz_world.proofs.code.Slots.{get-place, set-place}
 
 -- the nodes without their room
@@ -15,16 +16,17 @@ pub as_many : (ks : List RoomyNode) (xs : List Node) (n : ℕ) → nodes_of ks �
 as_many ks xs n e l = let h : n < length (nodes_of ks) = subst (λ ys. n < length ys) (sym e) l in
     omega (arith, h, length-map ks (λ (k : RoomyNode). k.node))
 
--- a node that is read
-pub node_read : (ks : List RoomyNode) (n : ℕ) (k : RoomyNode) → n < length ks → k ≡ get_or ks n k →
-    k.node ≡ place_at (bare_node 0 0) (nodes_of ks) n
-node_read ks n k l e =
-    ap (λ (k : RoomyNode). k.node) e ∙ sym (get_or-map (λ (k : RoomyNode). k.node) ks n k (bare_node 0 0) l)
-    ∙ get-place (bare_node 0 0) (bare_node 0 0) (nodes_of ks) n (omega (arith, l, length-map ks (λ (k : RoomyNode). k.node)))
+-- a part of a node that is read
+pub part_read : {X : Type 0} (f : RoomyNode → X) (d : X) (ks : List RoomyNode) (n : ℕ) (k : RoomyNode) → n < length ks → k ≡ get_or ks n k →
+    f k ≡ place_at d (map f ks) n
+part_read f d ks n k l e =
+    ap f e ∙ sym (get_or-map f ks n k d l) ∙ get-place d d (map f ks) n (omega (arith, l, length-map ks f))
 
--- a node that is written
-pub node_written : (ks : List RoomyNode) (n : ℕ) (k : RoomyNode) → n < length ks →
-    nodes_of (set ks n k) ≡ put_place (bare_node 0 0) (nodes_of ks) n k.node
-node_written ks n k l =
-    map-set (λ (k : RoomyNode). k.node) ks n k
-    ∙ set-place (bare_node 0 0) (nodes_of ks) n k.node (omega (arith, l, length-map ks (λ (k : RoomyNode). k.node)))
+-- a part of a node that is written
+pub part_written : {X : Type 0} (f : RoomyNode → X) (d : X) (ks : List RoomyNode) (n : ℕ) (k : RoomyNode) → n < length ks →
+    map f (set ks n k) ≡ put_place d (map f ks) n (f k)
+part_written f d ks n k l = map-set f ks n k ∙ set-place d (map f ks) n (f k) (omega (arith, l, length-map ks f))
+
+-- what is the same with the room of its nodes is the same world
+pub world_is : {s t : RoomyWorld} → s ≡ t → s.world ≡ t.world
+world_is same = ap (λ (s : RoomyWorld). s.world) same

@@ -7,6 +7,8 @@ ghost use Rattle.ipcz_world.specs.Arrived.{arrival_in};
 ghost use Rattle.ipcz_world.specs.World.{node_at};
 ghost use Rattle.ipcz_world.specs.Steps.{StepFirst};
 ghost use Rattle.ipcz_world.specs.Steps.{open_with, open_on, put_of, put_reply, put_step, get_step, next_sizes, close_step, Gives, GivesOrNoMemory, PutGives};
+ghost use Rattle.ipcz_node.specs.RoomyNodes.{CanOpen, TakesMore};
+ghost use Rattle.ipcz_world.specs.RoomyWorlds.{roomy_at};
 ghost use Rattle.ipcz_world.specs.Taking.{IsRegular};
 
 use crate::state::State;
@@ -18,9 +20,10 @@ use std::alloc::{AllocError, Global};
 impl State {
     /// Opens a pair on a node.
     pub(crate) fn open(&mut self, n: u8) -> Reply
-        requires regular { IsRegular self.old }
-        requires node { n < self.old.count }
-        ensures { GivesOrNoMemory self.old (open_on self.old n (node_at self.old n).opening) result self.new }
+        requires regular { IsRegular self.old.world }
+        requires node { n < self.old.world.count }
+        ensures opened { GivesOrNoMemory self.old.world (open_on self.old.world n (node_at self.old.world n).opening) result self.new.world }
+        ensures full { CanOpen (roomy_at self.old n) → Gives (open_on self.old.world n (node_at self.old.world n).opening) result self.new.world }
     {
         match self.nodes.node(n).opening() {
             Some(word) => self.open_claimed(n, word),
@@ -30,10 +33,11 @@ impl State {
 
     // Opens a pair on a word that is claimed.
     fn open_claimed(&mut self, n: u8, word: u64) -> Reply
-        requires regular { IsRegular self.old }
-        requires node { n < self.old.count }
-        requires word { word < self.old.claimed }
-        ensures { GivesOrNoMemory self.old (open_with self.old self.old n word) result self.new }
+        requires regular { IsRegular self.old.world }
+        requires node { n < self.old.world.count }
+        requires word { word < self.old.world.claimed }
+        ensures opened { GivesOrNoMemory self.old.world (open_with self.old.world self.old.world n word) result self.new.world }
+        ensures full { CanOpen (roomy_at self.old n) → Gives (open_with self.old.world self.old.world n word) result self.new.world }
     {
         let node = self.nodes.node_mut(n);
         if let Err(why) = node.open_prepare() {
@@ -46,9 +50,10 @@ impl State {
 
     // Opens a pair on the next word, if one is left.
     fn open_next(&mut self, n: u8) -> Reply
-        requires regular { IsRegular self.old }
-        requires node { n < self.old.count }
-        ensures { GivesOrNoMemory self.old (open_on self.old n None) result self.new }
+        requires regular { IsRegular self.old.world }
+        requires node { n < self.old.world.count }
+        ensures opened { GivesOrNoMemory self.old.world (open_on self.old.world n None) result self.new.world }
+        ensures full { CanOpen (roomy_at self.old n) → Gives (open_on self.old.world n None) result self.new.world }
     {
         if !self.words.has_unclaimed() {
             return Reply::Refused(Refusal::NoWord);
@@ -72,9 +77,9 @@ impl State {
         bytes: &Bytes,
         ends: &Ends,
     ) -> Reply
-        requires regular { IsRegular self.old }
-        requires node { n < self.old.count }
-        ensures { PutGives self.old n (put_step profile self.old n at (record { bytes = bytes.now; ends = ends.now })) result self.new }
+        requires regular { IsRegular self.old.world }
+        requires node { n < self.old.world.count }
+        ensures { PutGives self.old.world n (put_step profile self.old.world n at (record { bytes = bytes.now; ends = ends.now })) result self.new.world }
     {
         let Ok(bytes) = Bytes::from_slice(self.alloc, bytes.as_slice()) else {
             return Reply::Refused(Refusal::OutOfMemory);
@@ -94,10 +99,11 @@ impl State {
         bytes: Bytes,
         ends: Ends,
     ) -> Result<u64, PutRefused>
-        requires { IsRegular self.old }
-        ensures step { StepFirst self.old (put_of profile n at bytes ends) (put_reply result) self.new }
-        ensures order { GivesOrNoMemory self.old (put_step profile self.old n at (record { bytes = bytes; ends = ends })) (put_reply result) self.new }
+        requires { IsRegular self.old.world }
+        ensures step { StepFirst self.old.world (put_of profile n at bytes ends) (put_reply result) self.new.world }
+        ensures order { GivesOrNoMemory self.old.world (put_step profile self.old.world n at (record { bytes = bytes; ends = ends })) (put_reply result) self.new.world }
         ensures back { IfErr result (λ e. (e.bytes ≡ bytes) × (e.ends ≡ ends)) }
+        ensures full { TakesMore (roomy_at self.old n) at → Gives (put_step profile self.old.world n at (record { bytes = bytes; ends = ends })) (put_reply result) self.new.world }
     {
         if n >= self.count {
             let why = Refusal::Stranger;
@@ -115,19 +121,20 @@ impl State {
         bytes: Bytes,
         ends: Ends,
     ) -> Result<u64, PutRefused>
-        requires regular { IsRegular self.old }
-        requires node { n < self.old.count }
-        ensures step { GivesOrNoMemory self.old (put_step profile self.old n at (record { bytes = bytes; ends = ends })) (put_reply result) self.new }
+        requires regular { IsRegular self.old.world }
+        requires node { n < self.old.world.count }
+        ensures step { GivesOrNoMemory self.old.world (put_step profile self.old.world n at (record { bytes = bytes; ends = ends })) (put_reply result) self.new.world }
         ensures back { IfErr result (λ e. (e.bytes ≡ bytes) × (e.ends ≡ ends)) }
+        ensures full { TakesMore (roomy_at self.old n) at → Gives (put_step profile self.old.world n at (record { bytes = bytes; ends = ends })) (put_reply result) self.new.world }
     {
         self.nodes.node_mut(n).put_as(profile, at, bytes, ends)
     }
 
     /// Gets the next parcel at an end.
     pub(crate) fn get(&mut self, n: u8, at: End) -> Reply
-        requires regular { IsRegular self.old }
-        requires node { n < self.old.count }
-        ensures { Gives (get_step self.old n at) result self.new }
+        requires regular { IsRegular self.old.world }
+        requires node { n < self.old.world.count }
+        ensures { Gives (get_step self.old.world n at) result self.new.world }
     {
         match self.nodes.node_mut(n).get(at) {
             Ok((number, parcel)) => Reply::Got(number, parcel),
@@ -137,8 +144,8 @@ impl State {
 
     /// Gets the next parcel at an end; one for a node that isn't there is refused.
     pub(crate) fn get_given(&mut self, n: u8, at: End) -> Reply
-        requires { IsRegular self.old }
-        ensures { StepFirst self.old (Step.Get n at) result self.new }
+        requires { IsRegular self.old.world }
+        ensures { StepFirst self.old.world (Step.Get n at) result self.new.world }
     {
         if n >= self.count {
             return Reply::Refused(Refusal::Stranger);
@@ -148,8 +155,8 @@ impl State {
 
     /// The sizes of the parcel that a get at an end would give.
     pub(crate) fn next_sizes(&self, n: u8, at: End) -> Option<Sizes>
-        requires { IsRegular self.now }
-        ensures { result ≡ next_sizes self.now n at }
+        requires { IsRegular self.now.world }
+        ensures { result ≡ next_sizes self.now.world n at }
     {
         if n >= self.count {
             return None;
@@ -159,9 +166,9 @@ impl State {
 
     /// What gets at an end would answer, one after the other; none at a node that isn't there.
     pub(crate) fn status(&self, n: u8, at: End) -> Option<PortalStatus>
-        requires { IsRegular self.now }
-        ensures here { n < self.now.count → IsLook (node_at self.now n) at result }
-        ensures away { self.now.count ≤ n → result ≡ None }
+        requires { IsRegular self.now.world }
+        ensures here { n < self.now.world.count → IsLook (node_at self.now.world n) at result }
+        ensures away { self.now.world.count ≤ n → result ≡ None }
     {
         if n >= self.count {
             return None;
@@ -171,9 +178,9 @@ impl State {
 
     /// The first held end of a node, from a router's serial on, where a get isn't `Empty`; none at a node that isn't there.
     pub(crate) fn ready_from(&self, n: u8, serial: u64) -> Option<(u64, End)>
-        requires { IsRegular self.now }
-        ensures here { n < self.now.count → IsNextReady (node_at self.now n) serial result }
-        ensures away { self.now.count ≤ n → result ≡ None }
+        requires { IsRegular self.now.world }
+        ensures here { n < self.now.world.count → IsNextReady (node_at self.now.world n) serial result }
+        ensures away { self.now.world.count ≤ n → result ≡ None }
     {
         if n >= self.count {
             return None;
@@ -183,8 +190,8 @@ impl State {
 
     /// Whether an end has arrived; none at a node that isn't there.
     pub(crate) fn has_arrived(&self, n: u8, at: End) -> Option<bool>
-        requires { IsRegular self.now }
-        ensures { result ≡ arrival_in self.now n at }
+        requires { IsRegular self.now.world }
+        ensures { result ≡ arrival_in self.now.world n at }
     {
         if n >= self.count {
             return None;
@@ -194,9 +201,10 @@ impl State {
 
     /// Closes an end.
     pub(crate) fn close(&mut self, n: u8, at: End) -> Reply
-        requires regular { IsRegular self.old }
-        requires node { n < self.old.count }
-        ensures { GivesOrNoMemory self.old (close_step self.old n at) result self.new }
+        requires regular { IsRegular self.old.world }
+        requires node { n < self.old.world.count }
+        ensures closed { GivesOrNoMemory self.old.world (close_step self.old.world n at) result self.new.world }
+        ensures full { TakesMore (roomy_at self.old n) at → Gives (close_step self.old.world n at) result self.new.world }
     {
         match self.nodes.node_mut(n).close(at) {
             Ok(number) => Reply::Closed(number),

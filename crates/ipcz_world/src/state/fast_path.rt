@@ -25,13 +25,13 @@ impl State {
     /// is done.
     #[inline(always)]
     pub(crate) fn carry(&mut self, most: u64) -> (u64, u8)
-        requires { IsRegular self.old }
-        ensures walk { Walk self.old self.new result.0 result.1 }
-        ensures place { IsPlace self.new result.1 }
+        requires { IsRegular self.old.world }
+        ensures walk { Walk self.old.world self.new.world result.0 result.1 }
+        ensures place { IsPlace self.new.world result.1 }
         ensures within { result.0 ≤ most }
-        ensures idle { result.0 ≡ 6 → AreIdle self.new 0 self.new.count }
-        ensures carried { 6 ≤ most → (n serial : ℕ) → (link : LinkEndRecord) → IsLone self.old n serial link → IsCarried self.old self.new result.0 }
-        ensures none { result.0 ≡ 0 → self.new ≡ self.old }
+        ensures idle { result.0 ≡ 6 → AreIdle self.new.world 0 self.new.world.count }
+        ensures carried { 6 ≤ most → (n serial : ℕ) → (link : LinkEndRecord) → IsLone self.old.world n serial link → IsCarried self.old.world self.new.world result.0 }
+        ensures none { result.0 ≡ 0 → self.new.world ≡ self.old.world }
     {
         if most < 6 {
             return (0, 0);
@@ -52,15 +52,15 @@ impl State {
     // to the node after both.
     #[inline(always)]
     fn carry_within(&mut self, n: u8, serial: u64, link: LinkEnd) -> (u64, u8)
-        requires regular { IsRegular self.old }
-        requires lone { IsLone self.old n serial link }
+        requires regular { IsRegular self.old.world }
+        requires lone { IsLone self.old.world n serial link }
         requires same { n ≡ link.other }
-        ensures walk { Walk self.old self.new result.0 result.1 }
-        ensures place { IsPlace self.new result.1 }
+        ensures walk { Walk self.old.world self.new.world result.0 result.1 }
+        ensures place { IsPlace self.new.world result.1 }
         ensures within { result.0 ≤ 6 }
-        ensures idle { result.0 ≡ 6 → AreIdle self.new 0 self.new.count }
+        ensures idle { result.0 ≡ 6 → AreIdle self.new.world 0 self.new.world.count }
         ensures begun { 3 ≤ result.0 }
-        ensures carried { IsCarried self.old self.new result.0 }
+        ensures carried { IsCarried self.old.world self.new.world result.0 }
     {
         let (number, mut item) = self.nodes.node_mut(n).send_next(serial);
         let across = link.side.opposite();
@@ -79,15 +79,15 @@ impl State {
     // Carries a lone parcel over its link to another node.
     #[inline(always)]
     fn carry_over(&mut self, n: u8, serial: u64, link: LinkEnd) -> (u64, u8)
-        requires regular { IsRegular self.old }
-        requires lone { IsLone self.old n serial link }
+        requires regular { IsRegular self.old.world }
+        requires lone { IsLone self.old.world n serial link }
         requires apart { n ≡ link.other → ⊥ }
-        ensures walk { Walk self.old self.new result.0 result.1 }
-        ensures place { IsPlace self.new result.1 }
+        ensures walk { Walk self.old.world self.new.world result.0 result.1 }
+        ensures place { IsPlace self.new.world result.1 }
         ensures within { result.0 ≤ 6 }
-        ensures idle { result.0 ≡ 6 → AreIdle self.new 0 self.new.count }
+        ensures idle { result.0 ≡ 6 → AreIdle self.new.world 0 self.new.world.count }
         ensures begun { 3 ≤ result.0 }
-        ensures carried { IsCarried self.old self.new result.0 }
+        ensures carried { IsCarried self.old.world self.new.world result.0 }
     {
         let (number, mut item) = self.nodes.node_mut(n).send_last(serial);
         let side = link.side.opposite();
@@ -106,12 +106,12 @@ impl State {
     // given one needn't lie in memory, nor the bytes between its fields be copied from place to place.
     #[inline(always)]
     fn leave_in_hand(&mut self, n: u8, link: LinkEnd, number: u64, item: Item)
-        requires lengths { HasLengths self.old }
-        requires here { n < self.old.count }
-        requires there { link.other < self.old.count }
-        requires hand { (node_at self.old link.other).hand ≡ None }
-        requires clear { mail_at self.old (way self.old n link.other) ≡ Mail.Empty }
-        ensures { self.new ≡ with_hand self.old n link.other (Message.Item link.link (opposite link.side) number item []) }
+        requires lengths { HasLengths self.old.world }
+        requires here { n < self.old.world.count }
+        requires there { link.other < self.old.world.count }
+        requires hand { (node_at self.old.world link.other).hand ≡ None }
+        requires clear { mail_at self.old.world (way self.old.world n link.other) ≡ Mail.Empty }
+        ensures { self.new.world ≡ with_hand self.old.world n link.other (Message.Item link.link (opposite link.side) number item []) }
     {
         let over = LinkEnd {
             link: made_anew(link.link),
@@ -125,12 +125,12 @@ impl State {
     #[cold]
     #[inline(never)]
     fn leave_item(&mut self, n: u8, link: LinkEnd, number: u64, item: Item)
-        requires lengths { HasLengths self.old }
-        requires here { n < self.old.count }
-        requires there { link.other < self.old.count }
-        requires hand { (node_at self.old link.other).hand ≡ None }
-        requires clear { mail_at self.old (way self.old n link.other) ≡ Mail.Empty }
-        ensures { self.new ≡ with_hand self.old n link.other (Message.Item link.link (opposite link.side) number item []) }
+        requires lengths { HasLengths self.old.world }
+        requires here { n < self.old.world.count }
+        requires there { link.other < self.old.world.count }
+        requires hand { (node_at self.old.world link.other).hand ≡ None }
+        requires clear { mail_at self.old.world (way self.old.world n link.other) ≡ Mail.Empty }
+        ensures { self.new.world ≡ with_hand self.old.world n link.other (Message.Item link.link (opposite link.side) number item []) }
     {
         let place = self.way(n, link.other);
         self.nodes.node_mut(link.other).look(n);
@@ -149,11 +149,11 @@ impl State {
     /// is left to do then is left. If `limit` is below 6, nothing is done.
     #[inline(never)]
     pub(crate) fn carry_several(&mut self, limit: u64) -> (u64, u8)
-        requires { IsRegular self.old }
-        ensures walk { Walk self.old self.new result.0 result.1 }
-        ensures place { IsPlace self.new result.1 }
+        requires { IsRegular self.old.world }
+        ensures walk { Walk self.old.world self.new.world result.0 result.1 }
+        ensures place { IsPlace self.new.world result.1 }
         ensures within { result.0 ≤ limit }
-        ensures begun { 6 ≤ limit → (n serial : ℕ) → (link : LinkEndRecord) → IsLoneSender self.old n serial link → 3 ≤ result.0 }
+        ensures begun { 6 ≤ limit → (n serial : ℕ) → (link : LinkEndRecord) → IsLoneSender self.old.world n serial link → 3 ≤ result.0 }
     {
         if limit < 6 {
             return (0, 0);
@@ -174,12 +174,12 @@ impl State {
     // that is visited next.
     #[inline(always)]
     fn pass_over(&mut self, n: u8, serial: u64, link: LinkEnd, most: u64) -> (u64, u8)
-        requires regular { IsRegular self.old }
-        requires lone { IsLoneSender self.old n serial link }
+        requires regular { IsRegular self.old.world }
+        requires lone { IsLoneSender self.old.world n serial link }
         requires apart { n ≡ link.other → ⊥ }
         requires enough { 6 ≤ most }
-        ensures walk { Walk self.old self.new result.0 result.1 }
-        ensures place { IsPlace self.new result.1 }
+        ensures walk { Walk self.old.world self.new.world result.0 result.1 }
+        ensures place { IsPlace self.new.world result.1 }
         ensures within { result.0 ≤ most }
         ensures begun { 3 ≤ result.0 }
     {
@@ -200,15 +200,15 @@ impl State {
     // posted and looked at after that. If there is no next one for the same node, or the item isn't taken, nothing is done.
     #[inline(always)]
     fn pass_on(&mut self, n: u8, over: &mut LinkEnd, number: &mut u64, item: &mut Item) -> bool
-        requires passing { IsPassing self.old n over.old.other }
+        requires passing { IsPassing self.old.world n over.old.other }
         requires apart { n ≡ over.old.other → ⊥ }
-        ensures passing { result ≡ true → IsPassing self.new n over.old.other }
+        ensures passing { result ≡ true → IsPassing self.new.world n over.old.other }
         ensures to { over.new.other ≡ over.old.other }
         ensures walk { result ≡ true → (w : World) → (acts : ℕ) →
-            Walk w (with_hand self.old n over.old.other (lone_message over.old number.old item.old)) acts (next_node self.old over.old.other) →
-            Walk w (with_hand self.new n over.old.other (lone_message over.new number.new item.new)) (acts + 4)
-            (next_node self.new over.old.other) }
-        ensures left { result ≡ false → (self.new ≡ self.old) × (over.new ≡ over.old) × (number.new ≡ number.old) × (item.new ≡ item.old) }
+            Walk w (with_hand self.old.world n over.old.other (lone_message over.old number.old item.old)) acts (next_node self.old.world over.old.other) →
+            Walk w (with_hand self.new.world n over.old.other (lone_message over.new number.new item.new)) (acts + 4)
+            (next_node self.new.world over.old.other) }
+        ensures left { result ≡ false → (self.new.world ≡ self.old.world) × (over.new ≡ over.old) × (number.new ≡ number.old) × (item.new ≡ item.old) }
     {
         let to = over.other;
         let Some((serial, link)) = self.nodes.node(n).next_sender() else {
@@ -231,11 +231,11 @@ impl State {
     // an item nor a rest, or an item is left in hand.
     #[inline(always)]
     fn pass_within(&mut self, n: u8, most: u64) -> (u64, u8)
-        requires passing { IsPassing self.old n n }
-        requires sends { (serial : ℕ) × (link : LinkEndRecord) × SendsNext (node_at self.old n) serial link × (n ≡ link.other) }
+        requires passing { IsPassing self.old.world n n }
+        requires sends { (serial : ℕ) × (link : LinkEndRecord) × SendsNext (node_at self.old.world n) serial link × (n ≡ link.other) }
         requires enough { 6 ≤ most }
-        ensures walk { Walk self.old self.new result.0 result.1 }
-        ensures place { IsPlace self.new result.1 }
+        ensures walk { Walk self.old.world self.new.world result.0 result.1 }
+        ensures place { IsPlace self.new.world result.1 }
         ensures within { result.0 ≤ most }
         ensures begun { 3 ≤ result.0 }
     {
@@ -252,13 +252,13 @@ impl State {
     // Passes an item within a node, or if its first act is a rest, lets that router rest. It gives how many acts that was: as `pass_at`, or 1.
     #[inline(always)]
     fn pass_or_rest(&mut self, n: u8) -> u64
-        requires { IsPassing self.old n n }
+        requires { IsPassing self.old.world n n }
         ensures acts { IsLap result }
-        ensures passing { (result ≡ 4) ⊎ (result ≡ 1) → IsPassing self.new n n }
-        ensures none { result ≡ 0 → self.new ≡ self.old }
-        ensures walk { 1 ≤ result → (w : World) → (acts from : ℕ) → Walk w self.old acts from → IsPlace self.old from →
-            Walk w self.new (acts + result) (next_node self.new n) }
-        ensures count { self.new.count ≡ self.old.count }
+        ensures passing { (result ≡ 4) ⊎ (result ≡ 1) → IsPassing self.new.world n n }
+        ensures none { result ≡ 0 → self.new.world ≡ self.old.world }
+        ensures walk { 1 ≤ result → (w : World) → (acts from : ℕ) → Walk w self.old.world acts from → IsPlace self.old.world from →
+            Walk w self.new.world (acts + result) (next_node self.new.world n) }
+        ensures count { self.new.world.count ≡ self.old.world.count }
     {
         match self.rest_at(n) {
             0 => self.pass_at(n),
@@ -269,14 +269,14 @@ impl State {
     // Lets the router of a node rest whose rest is the node's first act. It gives how many acts that was: 1, or 0 if that isn't a rest.
     #[inline(always)]
     fn rest_at(&mut self, n: u8) -> u64
-        requires { IsPassing self.old n n }
+        requires { IsPassing self.old.world n n }
         ensures acts { (result ≡ 0) ⊎ (result ≡ 1) }
-        ensures passing { IsPassing self.new n n }
-        ensures none { result ≡ 0 → self.new ≡ self.old }
-        ensures walk { result ≡ 1 → (w : World) → (acts from : ℕ) → Walk w self.old acts from → IsPlace self.old from →
-            Walk w self.new (acts + 1) (next_node self.new n) }
-        ensures count { self.new.count ≡ self.old.count }
-        ensures rests { (serial : ℕ) → RestsNext (node_at self.old n) serial → result ≡ 1 }
+        ensures passing { IsPassing self.new.world n n }
+        ensures none { result ≡ 0 → self.new.world ≡ self.old.world }
+        ensures walk { result ≡ 1 → (w : World) → (acts from : ℕ) → Walk w self.old.world acts from → IsPlace self.old.world from →
+            Walk w self.new.world (acts + 1) (next_node self.new.world n) }
+        ensures count { self.new.world.count ≡ self.old.world.count }
+        ensures rests { (serial : ℕ) → RestsNext (node_at self.old.world n) serial → result ≡ 1 }
     {
         let Some(serial) = self.nodes.node(n).next_rest() else {
             return 0;
@@ -289,14 +289,14 @@ impl State {
     // isn't taken and stays in hand, or 0 if the first act isn't such a send.
     #[inline(always)]
     fn pass_at(&mut self, n: u8) -> u64
-        requires { IsPassing self.old n n }
-        ensures passing { result ≡ 4 → IsPassing self.new n n }
+        requires { IsPassing self.old.world n n }
+        ensures passing { result ≡ 4 → IsPassing self.new.world n n }
         ensures acts { (result ≡ 0) ⊎ (result ≡ 3) ⊎ (result ≡ 4) }
-        ensures none { result ≡ 0 → self.new ≡ self.old }
-        ensures walk { 3 ≤ result → (w : World) → (acts from : ℕ) → Walk w self.old acts from → IsPlace self.old from →
-            Walk w self.new (acts + result) (next_node self.new n) }
-        ensures count { self.new.count ≡ self.old.count }
-        ensures begun { (serial : ℕ) → (link : LinkEndRecord) → SendsNext (node_at self.old n) serial link → n ≡ link.other → 3 ≤ result }
+        ensures none { result ≡ 0 → self.new.world ≡ self.old.world }
+        ensures walk { 3 ≤ result → (w : World) → (acts from : ℕ) → Walk w self.old.world acts from → IsPlace self.old.world from →
+            Walk w self.new.world (acts + result) (next_node self.new.world n) }
+        ensures count { self.new.world.count ≡ self.old.world.count }
+        ensures begun { (serial : ℕ) → (link : LinkEndRecord) → SendsNext (node_at self.old.world n) serial link → n ≡ link.other → 3 ≤ result }
     {
         let Some((serial, link)) = self.nodes.node(n).next_sender() else {
             return 0;
@@ -316,13 +316,13 @@ impl State {
     // all stays as it is.
     #[inline(always)]
     fn hand_lone(&mut self, n: u8, over: &LinkEnd, number: u64, item: &mut Item) -> bool
-        requires lengths { HasLengths self.old }
-        requires there { over.now.other < self.old.count }
-        ensures taken { result ≡ true → (source : Option ℕ) → self.new ≡ set_node self.old over.now.other
-            (deliver (node_at self.old over.now.other) n (lone_message over.now number item.old) source) }
+        requires lengths { HasLengths self.old.world }
+        requires there { over.now.other < self.old.world.count }
+        ensures taken { result ≡ true → (source : Option ℕ) → self.new.world ≡ set_node self.old.world over.now.other
+            (deliver (node_at self.old.world over.now.other) n (lone_message over.now number item.old) source) }
         ensures allowed { result ≡ true → (source : Option ℕ) →
-            message_lacks_serials (node_at self.old over.now.other) n (lone_message over.now number item.old) source ≡ false }
-        ensures left { result ≡ false → (self.new ≡ self.old) × (item.new ≡ item.old) }
+            message_lacks_serials (node_at self.old.world over.now.other) n (lone_message over.now number item.old) source ≡ false }
+        ensures left { result ≡ false → (self.new.world ≡ self.old.world) × (item.new ≡ item.old) }
     {
         let across = over.side.opposite();
         let moves = Moves::from_vec(Vec::new(self.alloc));
@@ -336,9 +336,9 @@ impl State {
     // The only node that isn't quiet, with the router that sends first and the link that it sends over, if its item is to be carried.
     #[inline(always)]
     fn lone_sender(&self) -> Option<(u8, u64, LinkEnd)>
-        requires { IsRegular self.now }
-        ensures some { IfSome result (λ p. IsLoneSender self.now p.0 p.1 p.2) }
-        ensures none { IfNone result ((n serial : ℕ) → (link : LinkEndRecord) → IsLoneSender self.now n serial link → ⊥) }
+        requires { IsRegular self.now.world }
+        ensures some { IfSome result (λ p. IsLoneSender self.now.world p.0 p.1 p.2) }
+        ensures none { IfNone result ((n serial : ℕ) → (link : LinkEndRecord) → IsLoneSender self.now.world n serial link → ⊥) }
     {
         if self.mail.has_full() {
             return None;
@@ -361,9 +361,9 @@ impl State {
     // The only node that isn't quiet, with the router that sends and the link that it sends over, if that is a lone parcel.
     #[inline(always)]
     fn lone_parcel(&self) -> Option<(u8, u64, LinkEnd)>
-        requires { IsRegular self.now }
-        ensures some { IfSome result (λ p. IsLone self.now p.0 p.1 p.2) }
-        ensures none { IfNone result ((n serial : ℕ) → (link : LinkEndRecord) → IsLone self.now n serial link → ⊥) }
+        requires { IsRegular self.now.world }
+        ensures some { IfSome result (λ p. IsLone self.now.world p.0 p.1 p.2) }
+        ensures none { IfNone result ((n serial : ℕ) → (link : LinkEndRecord) → IsLone self.now.world n serial link → ⊥) }
     {
         if self.mail.has_full() {
             return None;
@@ -383,12 +383,12 @@ impl State {
     // The node that isn't quiet, if just one isn't.
     #[inline(always)]
     fn lone_node(&self) -> Option<u8>
-        requires { IsRegular self.now }
-        ensures here { IfSome result (λ n. n < self.now.count) }
-        ensures busy { IfSome result (λ n. is_quiet (node_at self.now n) ≡ false) }
-        ensures before { IfSome result (λ n. AreQuiet self.now 0 n) }
-        ensures behind { IfSome result (λ n. AreQuiet self.now (n + 1) self.now.count) }
-        ensures none { IfNone result ((n : ℕ) → IsLoneNode self.now n → ⊥) }
+        requires { IsRegular self.now.world }
+        ensures here { IfSome result (λ n. n < self.now.world.count) }
+        ensures busy { IfSome result (λ n. is_quiet (node_at self.now.world n) ≡ false) }
+        ensures before { IfSome result (λ n. AreQuiet self.now.world 0 n) }
+        ensures behind { IfSome result (λ n. AreQuiet self.now.world (n + 1) self.now.world.count) }
+        ensures none { IfNone result ((n : ℕ) → IsLoneNode self.now.world n → ⊥) }
     {
         let Some(n) = self.first_not_quiet(0) else {
             return None;
@@ -403,12 +403,12 @@ impl State {
     #[inline(always)]
     #[tactic(auto, unfolding(crate::specs::World::node_at))]
     fn first_not_quiet(&self, from: u8) -> Option<u8>
-        requires { IsRegular self.now }
-        ensures here { IfSome result (λ n. n < self.now.count) }
+        requires { IsRegular self.now.world }
+        ensures here { IfSome result (λ n. n < self.now.world.count) }
         ensures after { IfSome result (λ n. from ≤ n) }
-        ensures busy { IfSome result (λ n. is_quiet (node_at self.now n) ≡ false) }
-        ensures before { IfSome result (λ n. AreQuiet self.now from n) }
-        ensures none { IfNone result (AreQuiet self.now from self.now.count) }
+        ensures busy { IfSome result (λ n. is_quiet (node_at self.now.world n) ≡ false) }
+        ensures before { IfSome result (λ n. AreQuiet self.now.world from n) }
+        ensures none { IfNone result (AreQuiet self.now.world from self.now.world.count) }
     {
         for n in from..self.count {
             if !self.nodes.node(n).quiet() {

@@ -21,8 +21,8 @@ use ipcz_router::Router;
 impl State {
     /// The limit of the world; none if it is no number of 64 bits.
     pub(crate) fn settle_limit(&self) -> Option<u64>
-        requires { IsRegular self.now }
-        ensures { Tells result (settle_limit self.now) }
+        requires { IsRegular self.now.world }
+        ensures { Tells result (settle_limit self.now.world) }
     {
         let mut sum = Some(0);
         for n in 0..self.count {
@@ -33,9 +33,9 @@ impl State {
 
     // The limit of a node.
     fn node_limit(&self, n: u8) -> Option<u64>
-        requires regular { IsRegular self.now }
-        requires node { n < self.now.count }
-        ensures { Tells result (node_limit self.now (node_at self.now n)) }
+        requires regular { IsRegular self.now.world }
+        requires node { n < self.now.world.count }
+        ensures { Tells result (node_limit self.now.world (node_at self.now.world n)) }
     {
         let node = self.nodes.node(n);
         let mut sum = Some(0);
@@ -49,8 +49,8 @@ impl State {
 
     // The limit of a router.
     fn router_limit(&self, router: &Router) -> Option<u64>
-        requires { IsRegular self.now }
-        ensures { Tells result (router_limit self.now router.now.router) }
+        requires { IsRegular self.now.world }
+        ensures { Tells result (router_limit self.now.world router.now.router) }
     {
         let end = router.end();
         let out = self.put_most(end).saturating_sub(router.out_number());
@@ -64,8 +64,8 @@ impl State {
 
     // How many items an end has put that its peer hasn't read all: as its terminal tells, or, if none stands, as a Gone that wasn't read.
     fn put_most(&self, end: End) -> u64
-        requires { IsRegular self.now }
-        ensures { result ≡ put_most self.now end }
+        requires { IsRegular self.now.world }
+        ensures { result ≡ put_most self.now.world end }
     {
         if self.has_terminal(end) {
             self.put_count(end)
@@ -76,8 +76,8 @@ impl State {
 
     // Whether an end's terminal stands in one of the nodes.
     fn has_terminal(&self, end: End) -> bool
-        requires { IsRegular self.now }
-        ensures { result ≡ has_within end self.now.nodes }
+        requires { IsRegular self.now.world }
+        ensures { result ≡ has_within end self.now.world.nodes }
     {
         for n in 0..self.count {
             if has_among(end, self.nodes.node(n).routers()) {
@@ -89,8 +89,8 @@ impl State {
 
     // The number after the highest one of a Gone that stands anywhere.
     fn gone_most(&self) -> u64
-        requires { IsRegular self.now }
-        ensures { result ≡ gone_most self.now }
+        requires { IsRegular self.now.world }
+        ensures { result ≡ gone_most self.now.world }
     {
         let mut most = 0;
         for n in 0..self.count {
@@ -101,8 +101,8 @@ impl State {
 
     // How many items an end has put.
     fn put_count(&self, end: End) -> u64
-        requires { IsRegular self.now }
-        ensures { result ≡ put_within end self.now.nodes }
+        requires { IsRegular self.now.world }
+        ensures { result ≡ put_within end self.now.world.nodes }
     {
         let mut count = 0;
         for n in 0..self.count {

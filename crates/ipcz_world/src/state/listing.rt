@@ -16,8 +16,8 @@ use std::alloc::{AllocError, Global};
 impl State {
     /// The acts that a node may take, each once; none if it isn't there.
     pub(crate) fn possible_acts(&self, alloc: Global, n: u8) -> Result<Vec<Act>, AllocError>
-        requires { IsRegular self.now }
-        ensures { IfOk result (λ acts. acts.items ≡ possible_acts self.now n) }
+        requires { IsRegular self.now.world }
+        ensures { IfOk result (λ acts. acts.items ≡ possible_acts self.now.world n) }
     {
         let mut acts = Vec::new(alloc);
         if n >= self.count {
@@ -29,9 +29,9 @@ impl State {
 
     // Adds the acts that a node may take.
     fn push_all(&self, n: u8, acts: &mut Vec<Act>) -> Result<(), AllocError>
-        requires regular { IsRegular self.now }
-        requires node { n < self.now.count }
-        ensures { OnOk result (acts.new.items ≡ acts.old.items ++ possible_acts self.now n) }
+        requires regular { IsRegular self.now.world }
+        requires node { n < self.now.world.count }
+        ensures { OnOk result (acts.new.items ≡ acts.old.items ++ possible_acts self.now.world n) }
     {
         self.push_hand(n, acts)?;
         self.push_looks(n, acts)?;
@@ -43,8 +43,8 @@ impl State {
 
     // Adds an act if the node may take it.
     fn push_if_possible(&self, n: u8, act: Act, acts: &mut Vec<Act>) -> Result<(), AllocError>
-        requires { IsRegular self.now }
-        ensures { OnOk result (acts.new.items ≡ acts.old.items ++ filter (can_act self.now n) (act ∷ [])) }
+        requires { IsRegular self.now.world }
+        ensures { OnOk result (acts.new.items ≡ acts.old.items ++ filter (can_act self.now.world n) (act ∷ [])) }
     {
         if self.can_act(n, act) {
             acts.push(act)?;
@@ -55,9 +55,9 @@ impl State {
     // Adds the handling of the message in the node's hand.
     #[tactic(auto, unfolding(crate::specs::World::node_at))]
     fn push_hand(&self, n: u8, acts: &mut Vec<Act>) -> Result<(), AllocError>
-        requires regular { IsRegular self.now }
-        requires node { n < self.now.count }
-        ensures { OnOk result (acts.new.items ≡ acts.old.items ++ filter (can_act self.now n) (acts_of_hand (node_at self.now n).hand)) }
+        requires regular { IsRegular self.now.world }
+        requires node { n < self.now.world.count }
+        ensures { OnOk result (acts.new.items ≡ acts.old.items ++ filter (can_act self.now.world n) (acts_of_hand (node_at self.now.world n).hand)) }
     {
         match self.nodes.node(n).hand() {
             Some(sender) => self.push_if_possible(n, Act::Hand(sender), acts),
@@ -67,8 +67,8 @@ impl State {
 
     // Adds the looks.
     fn push_looks(&self, n: u8, acts: &mut Vec<Act>) -> Result<(), AllocError>
-        requires { IsRegular self.now }
-        ensures { OnOk result (acts.new.items ≡ acts.old.items ++ filter (can_act self.now n) (map Act.Look (numbers_from 0 self.now.count))) }
+        requires { IsRegular self.now.world }
+        ensures { OnOk result (acts.new.items ≡ acts.old.items ++ filter (can_act self.now.world n) (map Act.Look (numbers_from 0 self.now.world.count))) }
     {
         for sender in 0..self.count {
             self.push_if_possible(n, Act::Look(sender), acts)?;
@@ -78,8 +78,8 @@ impl State {
 
     // Adds the posts.
     fn push_posts(&self, n: u8, acts: &mut Vec<Act>) -> Result<(), AllocError>
-        requires { IsRegular self.now }
-        ensures { OnOk result (acts.new.items ≡ acts.old.items ++ filter (can_act self.now n) (map Act.Post (numbers_from 0 self.now.count))) }
+        requires { IsRegular self.now.world }
+        ensures { OnOk result (acts.new.items ≡ acts.old.items ++ filter (can_act self.now.world n) (map Act.Post (numbers_from 0 self.now.world.count))) }
     {
         for to in 0..self.count {
             self.push_if_possible(n, Act::Post(to), acts)?;
@@ -90,9 +90,9 @@ impl State {
     // Adds the close of the end that the node closes next.
     #[tactic(auto, unfolding(crate::specs::World::node_at))]
     fn push_close(&self, n: u8, acts: &mut Vec<Act>) -> Result<(), AllocError>
-        requires regular { IsRegular self.now }
-        requires node { n < self.now.count }
-        ensures { OnOk result (acts.new.items ≡ acts.old.items ++ filter (can_act self.now n) (acts_of_pending (node_at self.now n).pending)) }
+        requires regular { IsRegular self.now.world }
+        requires node { n < self.now.world.count }
+        ensures { OnOk result (acts.new.items ≡ acts.old.items ++ filter (can_act self.now.world n) (acts_of_pending (node_at self.now.world n).pending)) }
     {
         match self.nodes.node(n).pending() {
             [first, _rest @ ..] => self.push_if_possible(n, Act::Close(*first), acts),
@@ -102,10 +102,10 @@ impl State {
 
     // Adds what the routers may do.
     fn push_routers(&self, n: u8, acts: &mut Vec<Act>) -> Result<(), AllocError>
-        requires regular { IsRegular self.now }
-        requires node { n < self.now.count }
+        requires regular { IsRegular self.now.world }
+        requires node { n < self.now.world.count }
         ensures { OnOk result (acts.new.items ≡
-            acts.old.items ++ filter (can_act self.now n) (acts_of_routers (entries (node_at self.now n).routers))) }
+            acts.old.items ++ filter (can_act self.now.world n) (acts_of_routers (entries (node_at self.now.world n).routers))) }
     {
         for (serial, _) in self.nodes.node(n).routers() {
             self.push_router(n, *serial, acts)?;
@@ -115,8 +115,8 @@ impl State {
 
     // Adds what one router may do.
     fn push_router(&self, n: u8, serial: u64, acts: &mut Vec<Act>) -> Result<(), AllocError>
-        requires { IsRegular self.now }
-        ensures { OnOk result (acts.new.items ≡ acts.old.items ++ filter (can_act self.now n) (map (Act.Router serial) router_acts)) }
+        requires { IsRegular self.now.world }
+        ensures { OnOk result (acts.new.items ≡ acts.old.items ++ filter (can_act self.now.world n) (map (Act.Router serial) router_acts)) }
     {
         for act in router_acts() {
             self.push_if_possible(n, Act::Router(serial, *act), acts)?;

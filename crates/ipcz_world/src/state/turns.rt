@@ -1,6 +1,6 @@
 //! The turns of the nodes: which act comes first, and what each act does to the world.
 
-ghost use Rattle.std.specs.Prelude.{◌≡◌, ◌<◌, ◌&&◌, ℕ, true, length, Some, IfSome, IfNone, IfOk, IfErr, Ok, Err};
+ghost use Rattle.std.specs.Prelude.{◌≡◌, ◌≢◌, ◌<◌, ◌&&◌, ℕ, true, length, Some, IfSome, IfNone, IfOk, IfErr, Ok, Err};
 ghost use Rattle.ipcz_base.specs.Indexed.{place_at};
 ghost use Rattle.ipcz_base.specs.declared.message.Message.{Message as MessageData};
 ghost use Rattle.ipcz_world.specs.World.{node_at, mail_at, way};
@@ -10,6 +10,7 @@ ghost use Rattle.ipcz_world.specs.Turns.{hand_message, is_clear, seen_at, next_a
 ghost use Rattle.ipcz_world.specs.Steps.{StepFirst};
 ghost use Rattle.ipcz_world.specs.WordAnswers.{source_for};
 ghost use Rattle.ipcz_world.specs.Wordless.{is_wordless};
+ghost use Rattle.ipcz_world.specs.RoomyWorlds.{HasRoomToAct};
 ghost use Rattle.ipcz_world.specs.Taking.{IsRegular, IsTaken, ToldTurn};
 
 use crate::state::State;
@@ -21,19 +22,19 @@ use ipcz_router::act::{Answer, RouterAct};
 impl State {
     /// The number of the mailbox from one node to another.
     pub(crate) fn way(&self, from: u8, to: u8) -> usize
-        requires from { from < self.now.count }
-        requires to { to < self.now.count }
-        ensures way { result ≡ way self.now from to }
-        ensures within { IsRegular self.now → result < length self.now.mail }
+        requires from { from < self.now.world.count }
+        requires to { to < self.now.world.count }
+        ensures way { result ≡ way self.now.world from to }
+        ensures within { IsRegular self.now.world → result < length self.now.world.mail }
     {
         from as usize * self.count as usize + to as usize
     }
 
     // The lowest node whose mailbox to this one is full.
     fn first_sender(&self, n: u8) -> Option<u8>
-        requires regular { IsRegular self.now }
-        requires node { n < self.now.count }
-        ensures { result ≡ first_sender (node_at self.now n) (seen_at self.now n) }
+        requires regular { IsRegular self.now.world }
+        requires node { n < self.now.world.count }
+        ensures { result ≡ first_sender (node_at self.now.world n) (seen_at self.now.world n) }
     {
         if !self.mail.has_full() {
             return None;
@@ -48,9 +49,9 @@ impl State {
 
     // The lowest node that messages of this one wait for and whose mailbox from this one is empty.
     fn first_destination(&self, n: u8) -> Option<u8>
-        requires regular { IsRegular self.now }
-        requires node { n < self.now.count }
-        ensures { result ≡ first_destination (node_at self.now n) (seen_at self.now n) }
+        requires regular { IsRegular self.now.world }
+        requires node { n < self.now.world.count }
+        ensures { result ≡ first_destination (node_at self.now.world n) (seen_at self.now.world n) }
     {
         if !self.nodes.node(n).has_mail() {
             return None;
@@ -66,10 +67,10 @@ impl State {
     /// Whether messages of a node wait for another and the mailbox between them is empty.
     #[tactic(auto, unfolding(crate::specs::World::node_at, crate::specs::World::mail_at))]
     pub(crate) fn can_post(&self, n: u8, to: u8) -> bool
-        requires regular { IsRegular self.now }
-        requires node { n < self.now.count }
-        requires to { to < self.now.count }
-        ensures { result ≡ (has_mail_for (node_at self.now n) to && is_clear (mail_at self.now (way self.now n to))) }
+        requires regular { IsRegular self.now.world }
+        requires node { n < self.now.world.count }
+        requires to { to < self.now.world.count }
+        ensures { result ≡ (has_mail_for (node_at self.now.world n) to && is_clear (mail_at self.now.world (way self.now.world n to))) }
     {
         self.nodes.node(n).has_mail_for(to) && self.mail.is_clear(self.way(n, to))
     }
@@ -78,9 +79,9 @@ impl State {
     #[inline(always)]
     #[tactic(auto, using(crate::proofs::OwnTurns::idle_own), unfolding(crate::specs::Turns::next_at, crate::specs::World::node_at, ipcz_node::specs::Acts::next, ipcz_node::specs::Acts::node_turn))]
     pub(crate) fn next(&self, n: u8) -> Act
-        requires regular { IsRegular self.now }
-        requires node { n < self.now.count }
-        ensures { result ≡ next_at self.now n }
+        requires regular { IsRegular self.now.world }
+        requires node { n < self.now.world.count }
+        ensures { result ≡ next_at self.now.world n }
     {
         let node = self.nodes.node(n);
         if let Some(sender) = node.hand() {
@@ -101,11 +102,12 @@ impl State {
     /// Takes the first possible act of a node, which is given; if it finds no memory, what stands in for it. T says whether what happened is
     /// told.
     pub(crate) fn take_first<T: Told>(&mut self, n: u8, act: Act) -> Result<T, Refusal>
-        requires regular { IsRegular self.old }
-        requires node { n < self.old.count }
-        requires first { act ≡ next_at self.old n }
-        ensures turned { IfOk result (λ told. ToldTurn T.tells self.old n told self.new) }
-        ensures refused { IfErr result (λ why. StepFirst self.old (Step.Turn n) (Reply.Refused why) self.new) }
+        requires regular { IsRegular self.old.world }
+        requires node { n < self.old.world.count }
+        requires first { act ≡ next_at self.old.world n }
+        ensures turned { IfOk result (λ told. ToldTurn T.tells self.old.world n told self.new.world) }
+        ensures refused { IfErr result (λ why. StepFirst self.old.world (Step.Turn n) (Reply.Refused why) self.new.world) }
+        ensures full { HasRoomToAct self.old n act → IsTaken T.tells self.old.world n act result self.new.world × IfErr result (λ why. why ≢ Refusal.OutOfMemory) }
     {
         match self.take(n, act) {
             Ok(told) => Ok(told),
@@ -117,11 +119,12 @@ impl State {
     // turn which is taken keeps no copy of it.
     #[inline(never)]
     fn give_up<T: Told>(&mut self, n: u8, why: Refusal) -> Result<T, Refusal>
-        requires regular { IsRegular self.old }
-        requires node { n < self.old.count }
-        requires refused { IsTaken T.tells self.old n (next_at self.old n) (Err why) self.old }
-        ensures turned { IfOk result (λ told. ToldTurn T.tells self.old n told self.new) }
-        ensures refused { IfErr result (λ why. StepFirst self.old (Step.Turn n) (Reply.Refused why) self.new) }
+        requires regular { IsRegular self.old.world }
+        requires node { n < self.old.world.count }
+        requires refused { IsTaken T.tells self.old.world n (next_at self.old.world n) (Err why) self.old.world }
+        ensures turned { IfOk result (λ told. ToldTurn T.tells self.old.world n told self.new.world) }
+        ensures refused { IfErr result (λ why. StepFirst self.old.world (Step.Turn n) (Reply.Refused why) self.new.world) }
+        ensures ended { why ≡ Refusal.NumbersEnd → (result ≡ Err why) × (self.new.world ≡ self.old.world) }
     {
         if let Refusal::NumbersEnd = why {
             return Err(Refusal::NumbersEnd);
@@ -137,10 +140,11 @@ impl State {
 
     /// Takes an act that is possible, or is refused it.
     pub(crate) fn take<T: Told>(&mut self, n: u8, act: Act) -> Result<T, Refusal>
-        requires regular { IsRegular self.old }
-        requires node { n < self.old.count }
-        requires possible { can_take self.old n act ≡ true }
-        ensures { IsTaken T.tells self.old n act result self.new }
+        requires regular { IsRegular self.old.world }
+        requires node { n < self.old.world.count }
+        requires possible { can_take self.old.world n act ≡ true }
+        ensures taken { IsTaken T.tells self.old.world n act result self.new.world }
+        ensures full { HasRoomToAct self.old n act → IfErr result (λ why. why ≢ Refusal.OutOfMemory) }
     {
         match act {
             Act::Hand(from) => self.handle(n, from),
@@ -155,7 +159,7 @@ impl State {
     // The node that may send the message, as the word of the old link names it: asked only of an AcceptBypass.
     #[tactic(auto, unfolding(crate::specs::WordAnswers::source_for, crate::specs::World::word_at))]
     fn source_for(&self, message: &Message) -> Option<u8>
-        ensures { result ≡ source_for self.now message.now }
+        ensures { result ≡ source_for self.now.world message.now }
     {
         match message {
             Message::AcceptBypass { old, .. } => self.words.source(*old),
@@ -169,8 +173,8 @@ impl State {
 
     // The same of the message in hand in a mailbox.
     fn source_in_hand(&self, place: usize) -> Option<u8>
-        requires { place < length self.now.mail }
-        ensures { (m : MessageData) → hand_message (place_at Empty self.now.mail place) ≡ Some m → result ≡ source_for self.now m }
+        requires { place < length self.now.world.mail }
+        ensures { (m : MessageData) → hand_message (place_at Empty self.now.world.mail place) ≡ Some m → result ≡ source_for self.now.world m }
     {
         match self.mail.in_hand(place) {
             Some(message) => self.source_for(message),
@@ -181,10 +185,10 @@ impl State {
     // What is told of handling the message in hand, before it is handled.
     #[inline(always)]
     fn hand_told<T: Told>(&self, n: u8, from: u8) -> T
-        requires regular { IsRegular self.now }
-        requires node { n < self.now.count }
-        requires possible { can_take self.now n (Act.Hand from) ≡ true }
-        ensures { T.tells (turn_event self.now n (Act.Hand from)) result }
+        requires regular { IsRegular self.now.world }
+        requires node { n < self.now.world.count }
+        requires possible { can_take self.now.world n (Act.Hand from) ≡ true }
+        ensures { T.tells (turn_event self.now.world n (Act.Hand from)) result }
     {
         match T::nothing() {
             Some(told) => told,
@@ -194,10 +198,10 @@ impl State {
 
     // What handling the message in hand is seen to do.
     fn hand_event(&self, n: u8, from: u8) -> Happened
-        requires regular { IsRegular self.now }
-        requires node { n < self.now.count }
-        requires possible { can_take self.now n (Act.Hand from) ≡ true }
-        ensures { result ≡ turn_event self.now n (Act.Hand from) }
+        requires regular { IsRegular self.now.world }
+        requires node { n < self.now.world.count }
+        requires possible { can_take self.now.world n (Act.Hand from) ≡ true }
+        ensures { result ≡ turn_event self.now.world n (Act.Hand from) }
     {
         let place = self.way(from, n);
         let Some(message) = self.mail.in_hand(place) else {
@@ -209,10 +213,11 @@ impl State {
 
     // Handles the message in hand; if that finds no memory or no serials, the message stays in hand.
     fn handle<T: Told>(&mut self, n: u8, from: u8) -> Result<T, Refusal>
-        requires regular { IsRegular self.old }
-        requires node { n < self.old.count }
-        requires possible { can_take self.old n (Act.Hand from) ≡ true }
-        ensures { IsTaken T.tells self.old n (Act.Hand from) result self.new }
+        requires regular { IsRegular self.old.world }
+        requires node { n < self.old.world.count }
+        requires possible { can_take self.old.world n (Act.Hand from) ≡ true }
+        ensures taken { IsTaken T.tells self.old.world n (Act.Hand from) result self.new.world }
+        ensures full { HasRoomToAct self.old n (Act.Hand from) → IfErr result (λ why. why ≢ Refusal.OutOfMemory) }
     {
         let told = self.hand_told(n, from);
         let place = self.way(from, n);
@@ -226,11 +231,12 @@ impl State {
     // The same for each message, of which it is known what is told.
     #[inline(never)]
     fn handle_any<T: Told>(&mut self, n: u8, from: u8, told: T) -> Result<T, Refusal>
-        requires regular { IsRegular self.old }
-        requires node { n < self.old.count }
-        requires possible { can_take self.old n (Act.Hand from) ≡ true }
-        requires told { T.tells (turn_event self.old n (Act.Hand from)) told }
-        ensures { IsTaken T.tells self.old n (Act.Hand from) result self.new }
+        requires regular { IsRegular self.old.world }
+        requires node { n < self.old.world.count }
+        requires possible { can_take self.old.world n (Act.Hand from) ≡ true }
+        requires told { T.tells (turn_event self.old.world n (Act.Hand from)) told }
+        ensures taken { IsTaken T.tells self.old.world n (Act.Hand from) result self.new.world }
+        ensures full { HasRoomToAct self.old n (Act.Hand from) → IfErr result (λ why. why ≢ Refusal.OutOfMemory) }
     {
         let place = self.way(from, n);
         let source = self.source_in_hand(place);
@@ -245,10 +251,10 @@ impl State {
 
     // Takes the message of a full mailbox into the hand.
     fn look<T: Told>(&mut self, n: u8, from: u8) -> T
-        requires regular { IsRegular self.old }
-        requires node { n < self.old.count }
-        requires possible { can_take self.old n (Act.Look from) ≡ true }
-        ensures { IsTaken T.tells self.old n (Act.Look from) (Ok result) self.new }
+        requires regular { IsRegular self.old.world }
+        requires node { n < self.old.world.count }
+        requires possible { can_take self.old.world n (Act.Look from) ≡ true }
+        ensures { IsTaken T.tells self.old.world n (Act.Look from) (Ok result) self.new.world }
     {
         let place = self.way(from, n);
         self.nodes.node_mut(n).look(from);
@@ -259,10 +265,10 @@ impl State {
     // Posts the first message for a node into its empty mailbox.
     #[inline(always)]
     fn post<T: Told>(&mut self, n: u8, to: u8) -> T
-        requires regular { IsRegular self.old }
-        requires node { n < self.old.count }
-        requires possible { can_take self.old n (Act.Post to) ≡ true }
-        ensures { IsTaken T.tells self.old n (Act.Post to) (Ok result) self.new }
+        requires regular { IsRegular self.old.world }
+        requires node { n < self.old.world.count }
+        requires possible { can_take self.old.world n (Act.Post to) ≡ true }
+        ensures { IsTaken T.tells self.old.world n (Act.Post to) (Ok result) self.new.world }
     {
         let place = self.way(n, to);
         let message = self.nodes.node_mut(n).post(to);
@@ -273,10 +279,11 @@ impl State {
     // Closes an end that travelled in a parcel which a sink has dropped.
     #[inline(never)]
     fn close_pending<T: Told>(&mut self, n: u8, end: End) -> Result<T, Refusal>
-        requires regular { IsRegular self.old }
-        requires node { n < self.old.count }
-        requires possible { can_take self.old n (Act.Close end) ≡ true }
-        ensures { IsTaken T.tells self.old n (Act.Close end) result self.new }
+        requires regular { IsRegular self.old.world }
+        requires node { n < self.old.world.count }
+        requires possible { can_take self.old.world n (Act.Close end) ≡ true }
+        ensures taken { IsTaken T.tells self.old.world n (Act.Close end) result self.new.world }
+        ensures full { HasRoomToAct self.old n (Act.Close end) → IfErr result (λ why. why ≢ Refusal.OutOfMemory) }
     {
         let node = self.nodes.node_mut(n);
         if let Err(why) = node.prepare(&Act::Close(end)) {
@@ -288,10 +295,11 @@ impl State {
 
     // Lets a router do an act.
     fn take_router_act<T: Told>(&mut self, n: u8, serial: u64, act: RouterAct) -> Result<T, Refusal>
-        requires regular { IsRegular self.old }
-        requires node { n < self.old.count }
-        requires possible { can_take self.old n (Act.Router serial act) ≡ true }
-        ensures { IsTaken T.tells self.old n (Act.Router serial act) result self.new }
+        requires regular { IsRegular self.old.world }
+        requires node { n < self.old.world.count }
+        requires possible { can_take self.old.world n (Act.Router serial act) ≡ true }
+        ensures taken { IsTaken T.tells self.old.world n (Act.Router serial act) result self.new.world }
+        ensures full { HasRoomToAct self.old n (Act.Router serial act) → IfErr result (λ why. why ≢ Refusal.OutOfMemory) }
     {
         if is_wordless(act) {
             self.take_plain_act(n, serial, act)
@@ -302,11 +310,12 @@ impl State {
 
     // The same of an act that touches no word.
     fn take_plain_act<T: Told>(&mut self, n: u8, serial: u64, act: RouterAct) -> Result<T, Refusal>
-        requires regular { IsRegular self.old }
-        requires node { n < self.old.count }
-        requires possible { can_take self.old n (Act.Router serial act) ≡ true }
+        requires regular { IsRegular self.old.world }
+        requires node { n < self.old.world.count }
+        requires possible { can_take self.old.world n (Act.Router serial act) ≡ true }
         requires wordless { is_wordless act ≡ true }
-        ensures { IsTaken T.tells self.old n (Act.Router serial act) result self.new }
+        ensures taken { IsTaken T.tells self.old.world n (Act.Router serial act) result self.new.world }
+        ensures full { HasRoomToAct self.old n (Act.Router serial act) → IfErr result (λ why. why ≢ Refusal.OutOfMemory) }
     {
         self.nodes.node_mut(n).act_plainly(serial, act)
     }
@@ -314,10 +323,11 @@ impl State {
     // The same of each act, with what the link words answer to it.
     #[inline(never)]
     fn take_word_act<T: Told>(&mut self, n: u8, serial: u64, act: RouterAct) -> Result<T, Refusal>
-        requires regular { IsRegular self.old }
-        requires node { n < self.old.count }
-        requires possible { can_take self.old n (Act.Router serial act) ≡ true }
-        ensures { IsTaken T.tells self.old n (Act.Router serial act) result self.new }
+        requires regular { IsRegular self.old.world }
+        requires node { n < self.old.world.count }
+        requires possible { can_take self.old.world n (Act.Router serial act) ≡ true }
+        ensures taken { IsTaken T.tells self.old.world n (Act.Router serial act) result self.new.world }
+        ensures full { HasRoomToAct self.old n (Act.Router serial act) → IfErr result (λ why. why ≢ Refusal.OutOfMemory) }
     {
         let node = self.nodes.node_mut(n);
         if let Err(why) = node.prepare(&Act::Router(serial, act)) {

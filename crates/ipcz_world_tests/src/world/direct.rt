@@ -113,9 +113,9 @@ static CARRIED: [Carried; 5] = [
 // Whether the world settles within so many acts. If it does and no router has found the words used up, no proxy is left, nor a router of
 // a pair with both ends closed, and each other open pair is direct.
 fn settles(world: &mut World, limit: u64) -> Result<bool, Refusal>
-    ensures direct { IfOk result (λ settled. (b : Books) → (g : Routes) → settled ≡ true → Lawful world.new b g → IsWet world.new →
-        HasNoProxies world.new × HasNoClosedPairs world.new b ×
-        ((pair : ℕ) (s : Side) → is_opened g pair ≡ true → is_closed b (end_at pair s) ≡ false → IsDirect world.new b pair)) }
+    ensures direct { IfOk result (λ settled. (b : Books) → (g : Routes) → settled ≡ true → Lawful world.new.world b g → IsWet world.new.world →
+        HasNoProxies world.new.world × HasNoClosedPairs world.new.world b ×
+        ((pair : ℕ) (s : Side) → is_opened g pair ≡ true → is_closed b (end_at pair s) ≡ false → IsDirect world.new.world b pair)) }
 {
     a_settled_world_is_direct();
     Ok(matches!(world.settle(limit)?, Settled::Settled { .. }))

@@ -27,8 +27,8 @@ returns-clause-shown g c =
     let t = g.F.FabricName.table in
     let ps = map rested (parts_of c.args.cells.items) in (
       sym c.fabric.invariant.9 ∙ c.if-fabric.false,
-      shown_before t.count t.size (parts_of c.args.cells.items) c.close.result
-          (subst (λ (n : ℕ). IsShown n t.size ps c.close.result) c.fabric.invariant.3
-          (subst (λ (m : ℕ). IsShown c.fabric.inside.nodes m ps c.close.result) c.fabric.invariant.4
-          (subst (λ (l : List Part). IsShown c.fabric.inside.nodes c.fabric.inside.words l c.close.result) c.join_all-states.ensures.parts c.close.ensures))),
+      shown_before t.count t.size (parts_of c.args.cells.items) c.close.result.world
+          (subst (λ (n : ℕ). IsShown n t.size ps c.close.result.world) c.fabric.invariant.3
+          (subst (λ (m : ℕ). IsShown c.fabric.inside.nodes m ps c.close.result.world) c.fabric.invariant.4
+          (subst (λ (l : List Part). IsShown c.fabric.inside.nodes c.fabric.inside.words l c.close.result.world) c.join_all-states.ensures.parts c.close.ensures))),
     )

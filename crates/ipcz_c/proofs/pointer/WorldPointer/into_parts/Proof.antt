@@ -23,7 +23,7 @@ use denote.Signature.{type_at, types_at}
 use denote.Steps.{nothing, heard}
 use denote.RattleType.{owns}
 use Rattle.std.specs.Prelude.{Option, Some, None, IsSome}
-use Rattle.ipcz_world.specs.contracts.world.World as World
+use Rattle.ipcz_world.specs.World.{World}
 use Rattle.ipcz_c.specs.contracts.pointer.WorldPointer as Pointer
 use denote.Triple.Spec.{triple_of}
 use denote.Triple.Table.{entered}
@@ -46,17 +46,17 @@ module _ {M : Type 1} {𝓤 : Ura M} (𝓛 : Logic 𝓤) (at_mem : Memory → SP
       → ent 𝓤 ((walk_of 𝓛 F.ended stayed (F.clauses 𝓛 at_mem run)).pre z) (WpFn 𝓤 H 𝓣.C 𝓣.Λ code.function (z.0.4.0 ++ []) ((walk_of 𝓛 F.ended stayed (F.clauses 𝓛 at_mem run)).post z))
   walk z = go z.0.3.0.world refl
     where
-      go : (held : Option World.the_row.Denot) → z.0.3.0.world ≡ held
+      go : (held : Option World) → z.0.3.0.world ≡ held
           → ent 𝓤 ((walk_of 𝓛 F.ended stayed (F.clauses 𝓛 at_mem run)).pre z) (WpFn 𝓤 H 𝓣.C 𝓣.Λ code.function (z.0.4.0 ++ []) ((walk_of 𝓛 F.ended stayed (F.clauses 𝓛 at_mem run)).post z))
       go None is =
           qed 𝓛 ((‵ ftrue ⊛ ‵ (owns (types_at (F.signature).params tt) z.0.3 z.0.4)) ∷ raw (fact 𝓤 (IsSome z.0.3.0.world)) ∷ []) ∵ move ! (1 ∷ []) $ heard ! (IsSome z.0.3.0.world) (λ some. let wrong : false ≡ true = subst IsSome is some in absurd (grind (arith, wrong)))
       go (Some x) is =
           let Post = (walk_of 𝓛 F.ended stayed (F.clauses 𝓛 at_mem run)).post z in
-          let v : D E = record { ptr = z.0.3.0.ptr; alloc = z.0.3.0.alloc; value = x } in
+          let v : D E = record { ptr = z.0.3.0.ptr; alloc = z.0.3.0.alloc; value = record { world = x; rooms = z.0.3.0.rooms } } in
           let To = type_at (F.signature).result tt in
           let made : To.Denot = record { ptr = v.ptr; alloc = v.alloc; value = v.value } in
-          qed 𝓛 ((‵ ftrue ⊛ ‵ (fsep (Pointer.the_row.own_val (record { ptr = v.ptr; alloc = v.alloc; world = z.0.3.0.world }) z.0.4.0) ftrue)) ∷ raw (fact 𝓤 (IsSome z.0.3.0.world)) ∷ []) ∵ split ! $ drop ! $ fsplit ! $
-          rewrite ! 0 (λ (held : Option World.the_row.Denot). ‵ (Pointer.the_row.own_val (record { ptr = v.ptr; alloc = v.alloc; world = held }) z.0.4.0)) is refl $
+          qed 𝓛 ((‵ ftrue ⊛ ‵ (fsep (Pointer.the_row.own_val (record { ptr = v.ptr; alloc = v.alloc; world = z.0.3.0.world; rooms = z.0.3.0.rooms }) z.0.4.0) ftrue)) ∷ raw (fact 𝓤 (IsSome z.0.3.0.world)) ∷ []) ∵ split ! $ drop ! $ fsplit ! $
+          rewrite ! 0 (λ (held : Option World). ‵ (Pointer.the_row.own_val (record { ptr = v.ptr; alloc = v.alloc; world = held; rooms = z.0.3.0.rooms }) z.0.4.0)) is refl $
           use1 𝓛 (‵ ((B E).own_val v z.0.4.0)) (id⊢ 𝓤 _) $
           box_out E ! v z.0.4.0 (λ b o hv e ws fa. box_in E ! v b o v.value e refl $ use1 𝓛 (‵ (To.own_val made (word E hv b o ∷ []))) (id⊢ 𝓤 _) $ move ! (1 ∷ 2 ∷ []) $ drop ! $ drop ! $
           let w = word E hv b o in

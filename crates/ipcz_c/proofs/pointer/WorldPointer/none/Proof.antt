@@ -50,7 +50,7 @@ module _ {M : Type 1} {𝓤 : Ura M} (𝓛 : Logic 𝓤) (at_mem : Memory → SP
       let p = z.0.3.0 in
       let a = z.0.3.1.0 in
       let To = type_at (F.signature).result tt in
-      let made : To.Denot = record { ptr = p; alloc = a; world = None } in
+      let made : To.Denot = record { ptr = p; alloc = a; world = None; rooms = [] } in
       qed 𝓛 ((‵ ftrue ⊛ ‵ (owns (RawPtr ∷ Heap.the_row ∷ []) (p, (a, tt)) (z.0.4.0, (z.0.4.1.0, tt)))) ∷ raw (emp 𝓤) ∷ []) ∵ split ! $ drop ! $ fsplit ! $ feq_l ! (λ ep. fsplit ! $
       handle_tells E.al ! a z.0.4.1.0 (λ hw ea fa. move ! (1 ∷ 2 ∷ []) $ drop ! $ drop ! $
       let w : Val = vstruct (vcons (ptr_val p) (vcons hw vnil)) in

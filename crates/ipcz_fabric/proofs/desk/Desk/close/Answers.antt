@@ -23,3 +23,6 @@ returns-clause-extends g c =
     c.self.invariant.0
     (closes_by c.args.at c.self.inside.cell.part c.close-answer.new.self.part c.close-answer.result c.close-answer.ensures.allowed c.close-answer.ensures.number c.close-answer.ensures.ok c.close-answer.ensures.why c.close-answer.ensures.err)
     c.note_as.ensures.part c.note_as.ensures.me
+
+pub returns-clause-full : goal.returns-clause-full
+returns-clause-full g c = rw (← c.self.view_is) c.close-answer.ensures.full

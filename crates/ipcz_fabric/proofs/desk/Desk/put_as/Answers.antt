@@ -27,3 +27,6 @@ returns-clause-extends g c =
     c.put_noted.result noted.0 noted.1
     (calls_at g.F.FabricName.table (calls.Put c.args.profile c.args.portal.now.end c.args.bytes (ends_of c.args.portals.items) noted.0) c.self.inside.cell c.args.self.now
     noted.2 c.put_noted.new.cell c.args.me.now c.put_noted.new.me c.self.view_is c.self.invariant.0 noted.3 noted.4.part noted.5)
+
+pub returns-clause-full : goal.returns-clause-full
+returns-clause-full g c = rw (← c.self.view_is) c.put_noted.ensures.full

@@ -1,4 +1,5 @@
 use Rattle.std.proofs.Common.{◌∙◌, ap, sym, subst, refl, arith}
+use Rattle.ipcz_world.proofs.code.StatesOfNodes.{world_is}
 use Rattle.ipcz_world.proofs.Vocabulary.{World, ends_in, mail_at, node_at, set_mail, set_node, IsLone}
 use Rattle.ipcz_world.proofs.code.Arriving.{arrived-over, free-over, left-carried, left-over}
 use Rattle.ipcz_world.proofs.code.LoneWorlds.{as_sender, sends-last}
@@ -9,18 +10,18 @@ use Rattle.ipcz_world.proofs.state.State.carry_over.Goals as goal
 pub send_last-number-requires : goal.send_last-number-requires
 unfolding node_at
 send_last-number-requires c =
-    found-item (as_sender c.requires.lone).sends (c.node_mut.ensures.value ∙ ap (λ (v : World). node_at v c.args.n) c.self.view_is)
+    found-item (as_sender c.requires.lone).sends (c.node_mut.ensures.value ∙ ap (λ (v : World). node_at v c.args.n) (world_is c.self.view_is))
 
 pub node_mut-requires-2 : goal.node_mut-requires-2
 node_mut-requires-2 c =
     let lone = c.requires.lone in
-    nodes-kept c.self.view_is c.args.n c.args.link.other c.send_last-number.new.self.node c.requires.regular.lengths lone.here lone.there
+    nodes-kept (world_is c.self.view_is) c.args.n c.args.link.other c.send_last-number.new.self.node c.requires.regular.lengths lone.here lone.there
 
 pub take_last-requires : goal.take_last-requires
 unfolding node_at
 take_last-requires c =
     let s = c.send_last-number.ensures in
-    let there = c.node_mut.ensures.value ∙ ap (λ (v : World). node_at v c.args.n) c.self.view_is in
+    let there = c.node_mut.ensures.value ∙ ap (λ (v : World). node_at v c.args.n) (world_is c.self.view_is) in
     let sent = has-sent (as_sender c.requires.lone).sends there s.node s.number s.item s.serials in
     ap ends_in sent.item_is ∙ (sends-last c.requires.lone).alone
 
@@ -28,10 +29,10 @@ pub returns-then-take_last : goal.returns-then-take_last
 unfolding node_at set_node
 returns-then-take_last c =
     let s = c.send_last-number.ensures in
-    let there = c.node_mut.ensures.value ∙ ap (λ (v : World). node_at v c.args.n) c.self.view_is in
+    let there = c.node_mut.ensures.value ∙ ap (λ (v : World). node_at v c.args.n) (world_is c.self.view_is) in
     let sent = has-sent (as_sender c.requires.lone).sends there s.node s.number s.item s.serials in
     let taken = c.take_last.ensures.taken c.if-take_last.true in
-    let done = arrived-over c.self.view_is c.requires.regular c.requires.lone c.requires.apart _ c.node_mut-2.ensures.value sent
+    let done = arrived-over (world_is c.self.view_is) c.requires.regular c.requires.lone c.requires.apart _ c.node_mut-2.ensures.value sent
     c.opposite-side.ensures taken c.next_node.ensures in
     record {
       walk = done.walk;
@@ -47,24 +48,24 @@ unfolding set_node
 leave_in_hand-requires-clause-lengths c =
     let lone = c.requires.lone in
     let x = c.send_last-number.new.self.node in
-    lengths-kept (ap (λ v. set_node v c.args.n x) c.self.view_is) c.args.link.other c.take_last.new.self.node
+    lengths-kept (ap (λ v. set_node v c.args.n x) (world_is c.self.view_is)) c.args.link.other c.take_last.new.self.node
     (lengths-kept refl c.args.n x c.requires.regular.lengths lone.here) lone.there
 
 pub leave_in_hand-requires-clause-hand : goal.leave_in_hand-requires-clause-hand
 unfolding node_at set_node
 leave_in_hand-requires-clause-hand c =
-    free-over c.self.view_is c.requires.regular c.requires.lone c.requires.apart _ c.node_mut-2.ensures.value
+    free-over (world_is c.self.view_is) c.requires.regular c.requires.lone c.requires.apart _ c.node_mut-2.ensures.value
     (c.take_last.ensures.left c.if-take_last.false).1
 
 pub leave_in_hand-requires-clause-clear : goal.leave_in_hand-requires-clause-clear
 unfolding mail_at
 leave_in_hand-requires-clause-clear c =
-    (subst (λ w. IsLone w c.args.n c.args.serial c.args.link) (sym c.self.view_is) c.requires.lone).box
+    (subst (λ w. IsLone w c.args.n c.args.serial c.args.link) (sym (world_is c.self.view_is)) c.requires.lone).box
 
 pub next_node-requires-2 : goal.next_node-requires-2
 unfolding set_node set_mail
 next_node-requires-2 c =
-    let seen = ap (λ (w : World). w.count) c.self.view_is in
+    let seen = ap (λ (w : World). w.count) (world_is c.self.view_is) in
     let same = ap (λ (w : World). w.count) c.leave_in_hand.ensures in
     record { node = omega (arith, c.requires.lone.here, seen, same) }
 
@@ -72,10 +73,10 @@ pub returns-clause-walk : goal.returns-clause-walk
 unfolding node_at set_node
 returns-clause-walk c =
     let s = c.send_last-number.ensures in
-    let there = c.node_mut.ensures.value ∙ ap (λ (v : World). node_at v c.args.n) c.self.view_is in
+    let there = c.node_mut.ensures.value ∙ ap (λ (v : World). node_at v c.args.n) (world_is c.self.view_is) in
     let sent = has-sent (as_sender c.requires.lone).sends there s.node s.number s.item s.serials in
     let kept = c.take_last.ensures.left c.if-take_last.false in
-    left-over c.self.view_is c.requires.regular c.requires.lone c.requires.apart _ c.node_mut-2.ensures.value sent kept.1 kept.0
+    left-over (world_is c.self.view_is) c.requires.regular c.requires.lone c.requires.apart _ c.node_mut-2.ensures.value sent kept.1 kept.0
     c.leave_in_hand.ensures c.next_node-2.ensures
 
 pub returns-clause-carried : goal.returns-clause-carried

@@ -4,6 +4,6 @@ use Rattle.ipcz_world.proofs.state.State.first_destination.Given as goal
 
 -- none so far waits for a message and has its mailbox empty
 abbrev pub invariant-loop-to : goal.invariant-loop-to
-invariant-loop-to l = first_number (λ i. has_mail_for (node_at l.self l.n) i && place_at false (seen_at l.self l.n).empty i) l.to
-    (l.self.count - l.to) ≡
-    first_number (λ i. has_mail_for (node_at l.self l.n) i && place_at false (seen_at l.self l.n).empty i) 0 l.self.count
+invariant-loop-to l = first_number (λ i. has_mail_for (node_at l.self.world l.n) i && place_at false (seen_at l.self.world l.n).empty i) l.to
+    (l.self.world.count - l.to) ≡
+    first_number (λ i. has_mail_for (node_at l.self.world l.n) i && place_at false (seen_at l.self.world l.n).empty i) 0 l.self.world.count

@@ -4,5 +4,5 @@ use Rattle.ipcz_world.proofs.state.State.first_sender.Given as goal
 
 -- none so far has a full mailbox
 abbrev pub invariant-loop-from : goal.invariant-loop-from
-invariant-loop-from l = first_number (λ i. place_at false (seen_at l.self l.n).full i) l.from (l.self.count - l.from) ≡
-    first_number (λ i. place_at false (seen_at l.self l.n).full i) 0 l.self.count
+invariant-loop-from l = first_number (λ i. place_at false (seen_at l.self.world l.n).full i) l.from (l.self.world.count - l.from) ≡
+    first_number (λ i. place_at false (seen_at l.self.world l.n).full i) 0 l.self.world.count

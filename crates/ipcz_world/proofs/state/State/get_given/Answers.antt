@@ -1,4 +1,5 @@
 use Rattle.std.proofs.Common.{◌≡◌, ◌≤◌, ap, arith}
+use Rattle.ipcz_world.proofs.code.StatesOfNodes.{world_is}
 use Rattle.ipcz_world.proofs.Vocabulary.{World}
 use Rattle.ipcz_world.specs.Taking.{node_of}
 use Rattle.ipcz_world.specs.declared.step.Step.TheVariants.{Get}
@@ -8,6 +9,6 @@ use Rattle.ipcz_world.proofs.state.State.get_given.Goals as goal
 pub returns-then-n-self : goal.returns-then-n-self
 unfolding node_of
 returns-then-n-self c =
-    let many : c.self.inside.count ≡ c.args.self.now.count = ap (λ (w : World). w.count) c.self.view_is in
-    let out : c.args.self.now.count ≤ c.args.n = omega (arith, many, c.if-n-self.true) in
-    stranger c.args.self.now (Get c.args.n c.args.at) out
+    let many : c.self.inside.count ≡ c.args.self.now.world.count = ap (λ (w : World). w.count) (world_is c.self.view_is) in
+    let out : c.args.self.now.world.count ≤ c.args.n = omega (arith, many, c.if-n-self.true) in
+    stranger c.args.self.now.world (Get c.args.n c.args.at) out

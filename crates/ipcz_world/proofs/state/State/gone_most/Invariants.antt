@@ -5,4 +5,4 @@ use Rattle.ipcz_world.proofs.state.State.gone_most.Given as goal
 
 -- the highest is that of the nodes so far
 abbrev pub invariant-loop-n : goal.invariant-loop-n
-invariant-loop-n l = higher l.most (highest gone_at (drop l.n l.self.nodes)) ≡ highest gone_at l.self.nodes
+invariant-loop-n l = higher l.most (highest gone_at (drop l.n l.self.world.nodes)) ≡ highest gone_at l.self.world.nodes

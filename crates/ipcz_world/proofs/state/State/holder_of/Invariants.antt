@@ -5,4 +5,4 @@ use Rattle.ipcz_world.proofs.state.State.holder_of.Given as goal
 
 -- no node so far has a caller who holds the end
 abbrev pub invariant-loop-n : goal.invariant-loop-n
-invariant-loop-n l = first_number (λ i. holds_end (node_at l.self i) l.end) l.n (l.n-end - l.n) ≡ holder_of l.self l.end
+invariant-loop-n l = first_number (λ i. holds_end (node_at l.self.world i) l.end) l.n (l.n-end - l.n) ≡ holder_of l.self.world l.end

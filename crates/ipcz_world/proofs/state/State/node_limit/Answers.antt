@@ -1,4 +1,5 @@
 use Rattle.std.proofs.Common.{◌≡◌, ◌+◌, ◌*◌, ℕ, length, map, refl, arith, ap, subst, sym, ◌∙◌}
+use Rattle.ipcz_world.proofs.code.StatesOfNodes.{world_is}
 use Rattle.std.specs.FinMap.{entries}
 use Rattle.ipcz_base.specs.Totals.{total_of, total}
 use Rattle.ipcz_node.proofs.Serials.{entries_are}
@@ -10,18 +11,18 @@ use Rattle.ipcz_world.proofs.state.State.node_limit.Goals as goal
 
 pub loop-router-preserved : goal.loop-router-preserved
 loop-router-preserved c =
-    tallied-item (λ e. router_limit c.args.self.now e.1.router) c.routers-router-items.result.now c.loop-router.router-index
+    tallied-item (λ e. router_limit c.args.self.now.world e.1.router) c.routers-router-items.result.now c.loop-router.router-index
     c.loop-router-item.result c.loop-router.sum c.plus-sum.result c.router_limit.result _ c.loop-router-test.true c.loop-router-item.is
     c.loop-router.invariant c.plus-sum.ensures c.router_limit.ensures
 
 pub returns : goal.returns
 unfolding node_limit node_at total
 returns c =
-    let w = c.args.self.now in
+    let w = c.args.self.now.world in
     let items = c.routers-router-items.result.now in
     let x = c.node-node.result.now.node in
     let node : x ≡ node_at w c.args.n = c.node-node.ensures ∙ ap
-    (λ (v : World). place_at (bare_node 0 0) v.nodes c.args.n) c.self.view_is in
+    (λ (v : World). place_at (bare_node 0 0) v.nodes c.args.n) (world_is c.self.view_is) in
     let f : ℕ → Router → ℕ = λ s r. router_limit w r in
     let routers : total_list (λ e. router_limit w e.1.router) items ≡ total f x.routers =
     sym (of-entries (router_limit w) (λ x. x.router) items) ∙

@@ -9,8 +9,8 @@ invariant-loop-acts l = record {
   laps : ((laps : ℕ) × (l.acts ≡ 4 * laps + 3));
   within : l.acts ≤ l.most;
   to : l.over.other ≡ l.to;
-  passing : IsPassing l.self l.n l.to;
-  walk : Walk l.fn.self (with_hand l.self l.n l.to (lone_message l.over l.number l.item)) l.acts (next_node l.self l.to);
+  passing : IsPassing l.self.world l.n l.to;
+  walk : Walk l.fn.self.world (with_hand l.self.world l.n l.to (lone_message l.over l.number l.item)) l.acts (next_node l.self.world l.to);
 }
 
 abbrev pub decreases-loop-acts : goal.decreases-loop-acts

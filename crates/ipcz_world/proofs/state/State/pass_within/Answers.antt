@@ -40,8 +40,8 @@ loop-goes_on-init c =
       within = omega (arith, high, c.requires.enough);
       passing = λ e. on.passing (grind (arith, e, nat_tests));
       here = omega (arith, c.requires.passing.here, on.count);
-      walk = subst (λ k. Walk c.args.self.now c.pass_at-acts.new.self k (next_node c.pass_at-acts.new.self c.args.n)) (omega arith)
-          (on.walk low c.args.self.now 0 0 (walked c.args.self.now c.args.self.now 0 0 (on_way-start c.args.self.now)) (inl refl));
+      walk = subst (λ k. Walk c.args.self.now.world c.pass_at-acts.new.self.world k (next_node c.pass_at-acts.new.self.world c.args.n)) (omega arith)
+          (on.walk low c.args.self.now.world 0 0 (walked c.args.self.now.world c.args.self.now.world 0 0 (on_way-start c.args.self.now.world)) (inl refl));
     }
 
 pub loop-goes_on-preserved : goal.loop-goes_on-preserved
@@ -58,5 +58,5 @@ loop-goes_on-preserved c =
         | else-more-eq4 w ↦ let one : nat_eq a 1 ≡ true = sym w.goes_on-is ∙ e in inr (grind (arith, one, nat_tests))
       ]);
       here = omega (arith, held.here, on.count);
-      walk = led_on c.args.self.now c.loop-goes_on.self c.pass_or_rest-more.new.self c.args.n c.loop-goes_on.acts a on.acts on.none on.walk held.walk;
+      walk = led_on c.args.self.now.world c.loop-goes_on.self.world c.pass_or_rest-more.new.self.world c.args.n c.loop-goes_on.acts a on.acts on.none on.walk held.walk;
     }

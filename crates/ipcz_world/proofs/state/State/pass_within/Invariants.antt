@@ -7,9 +7,9 @@ abbrev pub invariant-loop-goes_on : goal.invariant-loop-goes_on
 invariant-loop-goes_on l = record {
   begun : 3 ≤ l.acts;
   within : l.acts ≤ l.most;
-  passing : (l.goes_on ≡ true → IsPassing l.self l.n l.n);
-  here : l.n + 1 ≤ l.self.count;
-  walk : Walk l.fn.self l.self l.acts (next_node l.self l.n);
+  passing : (l.goes_on ≡ true → IsPassing l.self.world l.n l.n);
+  here : l.n + 1 ≤ l.self.world.count;
+  walk : Walk l.fn.self.world l.self.world l.acts (next_node l.self.world l.n);
 }
 
 abbrev pub decreases-loop-goes_on : goal.decreases-loop-goes_on

@@ -9,7 +9,7 @@ use Rattle.ipcz_world.proofs.state.State.push_all.Goals as goal
 
 pub returns : goal.returns
 returns c =
-    let w = c.args.self.now in
+    let w = c.args.self.now.world in
     let x = node_at w c.args.n in
     let ns = numbers_from 0 w.count in
     on_ok_weaker c.push_if_possible.result

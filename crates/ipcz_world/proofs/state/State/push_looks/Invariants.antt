@@ -6,4 +6,4 @@ use Rattle.ipcz_world.proofs.state.State.push_looks.Given as goal
 
 -- those that are listed, and those that are left, are all of them
 abbrev pub invariant-loop-sender : goal.invariant-loop-sender
-invariant-loop-sender l = l.acts.items ++ filter (can_act l.fn.self l.fn.n) (numbers_left Look l.fn.self.count l.sender) ≡ l.fn.acts.items ++ filter (can_act l.fn.self l.fn.n) (numbers_left Look l.fn.self.count 0)
+invariant-loop-sender l = l.acts.items ++ filter (can_act l.fn.self.world l.fn.n) (numbers_left Look l.fn.self.world.count l.sender) ≡ l.fn.acts.items ++ filter (can_act l.fn.self.world l.fn.n) (numbers_left Look l.fn.self.world.count 0)

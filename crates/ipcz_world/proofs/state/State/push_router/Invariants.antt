@@ -6,4 +6,4 @@ use Rattle.ipcz_world.proofs.state.State.push_router.Given as goal
 
 -- those that are listed, and those that are left, are all of them
 abbrev pub invariant-loop-act : goal.invariant-loop-act
-invariant-loop-act l = l.acts.items ++ filter (can_act l.fn.self l.fn.n) (map (OfRouter l.fn.serial) (drop l.act-index l.act-items)) ≡ l.fn.acts.items ++ filter (can_act l.fn.self l.fn.n) (map (OfRouter l.fn.serial) l.act-items)
+invariant-loop-act l = l.acts.items ++ filter (can_act l.fn.self.world l.fn.n) (map (OfRouter l.fn.serial) (drop l.act-index l.act-items)) ≡ l.fn.acts.items ++ filter (can_act l.fn.self.world l.fn.n) (map (OfRouter l.fn.serial) l.act-items)

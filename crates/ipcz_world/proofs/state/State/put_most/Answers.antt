@@ -5,11 +5,11 @@ use Rattle.ipcz_world.proofs.state.State.put_most.Goals as goal
 pub returns-then-has_terminal : goal.returns-then-has_terminal
 unfolding put_most
 returns-then-has_terminal c =
-    let w = c.args.self.now in
+    let w = c.args.self.now.world in
     c.put_count.ensures ∙ ap (λ b. cond b (put_within c.args.end w.nodes) (gone_most w)) (sym c.if-has_terminal.true ∙ c.has_terminal.ensures)
 
 pub returns-else-has_terminal : goal.returns-else-has_terminal
 unfolding put_most
 returns-else-has_terminal c =
-    let w = c.args.self.now in
+    let w = c.args.self.now.world in
     c.gone_most.ensures ∙ ap (λ b. cond b (put_within c.args.end w.nodes) (gone_most w)) (sym c.if-has_terminal.false ∙ c.has_terminal.ensures)

@@ -9,7 +9,7 @@ pub returns : goal.returns
 unfolding router_limit numbers_left
 returns c =
     let r = c.args.router.now.router in
-    let v = c.args.self.now in
+    let v = c.args.self.now.world in
     let out = c.saturating_sub-out.result in
     let inn = c.saturating_sub-inn.result in
     let own : c.put_most.result ≡ put_most v r.end = c.put_most.ensures ∙ ap (put_most v) c.end-end.ensures in
@@ -23,6 +23,6 @@ returns c =
     let told : Tells c.plus-2.result (6 * ((out + inn) + 4) + c.if-is_terminal.rest) =
     c.plus-2.ensures (6 * ((out + inn) + 4)) c.if-is_terminal.rest
     (c.times.ensures ((out + inn) + 4) (c.plus-numbers.ensures (out + inn) 4 (c.plus.ensures out inn refl refl) refl)) refl in
-    let whole : 6 * ((out + inn) + 4) + c.if-is_terminal.rest ≡ router_limit c.args.self.now r =
+    let whole : 6 * ((out + inn) + 4) + c.if-is_terminal.rest ≡ router_limit c.args.self.now.world r =
     omega (arith, own, peer, rest, c.saturating_sub-out.ensures, c.saturating_sub-inn.ensures, c.out_number.ensures, c.in_number.ensures) in
     subst (Tells c.plus-2.result) whole told

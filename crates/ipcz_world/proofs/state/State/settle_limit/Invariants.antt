@@ -6,4 +6,4 @@ use Rattle.ipcz_world.proofs.state.State.settle_limit.Given as goal
 
 -- the nodes so far are summed up
 abbrev pub invariant-loop-n : goal.invariant-loop-n
-invariant-loop-n l = IsTallied l.sum (total_list (node_limit l.self) (drop l.n l.self.nodes)) (total_list (node_limit l.self) l.self.nodes)
+invariant-loop-n l = IsTallied l.sum (total_list (node_limit l.self.world) (drop l.n l.self.world.nodes)) (total_list (node_limit l.self.world) l.self.world.nodes)

@@ -1,4 +1,5 @@
 use Rattle.std.proofs.Common.{◌≤◌, ℕ, subst}
+use Rattle.ipcz_world.proofs.code.StatesOfNodes.{world_is}
 use Rattle.ipcz_base.specs.declared.link_end.LinkEnd.{LinkEnd}
 use Rattle.ipcz_world.proofs.Vocabulary.{IsLone}
 use Rattle.ipcz_world.specs.FastPath.{IsCarried}
@@ -17,5 +18,5 @@ returns-clause-lawful c = walk-lawful _ _ _ _ c.carry.ensures.walk c.self.invari
 
 pub returns-clause-carried : goal.returns-clause-carried
 returns-clause-carried c =
-    subst (λ w. 6 ≤ c.args.most → (n serial : ℕ) → (link : LinkEnd) → IsLone w n serial link → IsCarried w c.carry.new.self c.carry.result.0)
-    c.self.view_is c.carry.ensures.carried
+    subst (λ w. 6 ≤ c.args.most → (n serial : ℕ) → (link : LinkEnd) → IsLone w n serial link → IsCarried w c.carry.new.self.world c.carry.result.0)
+    (world_is c.self.view_is) c.carry.ensures.carried

@@ -1,4 +1,5 @@
 use Rattle.std.proofs.Common.{◌≤◌, ℕ, subst}
+use Rattle.ipcz_world.proofs.code.StatesOfNodes.{world_is}
 use Rattle.ipcz_base.specs.declared.link_end.LinkEnd.{LinkEnd}
 use Rattle.ipcz_world.specs.FastPath.{IsLoneSender}
 use Rattle.ipcz_world.proofs.code.Kept.{walk-lawful}
@@ -17,4 +18,4 @@ returns-clause-lawful c = walk-lawful _ _ _ _ c.carry_several.ensures.walk c.sel
 pub returns-clause-begun : goal.returns-clause-begun
 returns-clause-begun c =
     subst (λ w. 6 ≤ c.args.most → (n serial : ℕ) → (link : LinkEnd) → IsLoneSender w n serial link → 3 ≤ c.carry_several.result.0)
-    c.self.view_is c.carry_several.ensures.begun
+    (world_is c.self.view_is) c.carry_several.ensures.begun

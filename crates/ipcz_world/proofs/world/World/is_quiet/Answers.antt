@@ -1,4 +1,5 @@
 use Rattle.std.specs.Prelude.{◌≡◌, Option, Some, None, IfNone, IfSome, is_some, not, true, false, ℕ}
+use Rattle.ipcz_world.proofs.code.StatesOfNodes.{world_is}
 use Rattle.std.proofs.Common.{arith, ap, subst, ◌∙◌}
 use Rattle.ipcz_node.specs.declared.act.Act.{Act}
 use Rattle.ipcz_world.proofs.Vocabulary.{IsLawful, IsQuiet}
@@ -22,11 +23,11 @@ last_busy-requires-clause-regular c = lawful-regular _ c.self.invariant
 
 pub returns-clause-quiet : goal.returns-clause-quiet
 returns-clause-quiet c is =
-    idle-quiet _ c.last_busy.result (subst IsLawful c.self.view_is c.self.invariant)
-    (subst (λ w. IfNone c.last_busy.result (AreIdle w 0 w.count)) c.self.view_is c.last_busy.ensures.none) (c.is_none.ensures ∙ ap not is)
+    idle-quiet _ c.last_busy.result (subst IsLawful (world_is c.self.view_is) c.self.invariant)
+    (subst (λ w. IfNone c.last_busy.result (AreIdle w 0 w.count)) (world_is c.self.view_is) c.last_busy.ensures.none) (c.is_none.ensures ∙ ap not is)
 
 pub returns-clause-busy : goal.returns-clause-busy
 returns-clause-busy c is =
-    busy-unquiet _ c.last_busy.result (subst IsLawful c.self.view_is c.self.invariant)
-    (subst (λ w. IfSome c.last_busy.result (λ found. IsNextBusy w 0 found.0)) c.self.view_is c.last_busy.ensures.some)
+    busy-unquiet _ c.last_busy.result (subst IsLawful (world_is c.self.view_is) c.self.invariant)
+    (subst (λ w. IfSome c.last_busy.result (λ found. IsNextBusy w 0 found.0)) (world_is c.self.view_is) c.last_busy.ensures.some)
     (c.is_none.ensures ∙ ap not is)

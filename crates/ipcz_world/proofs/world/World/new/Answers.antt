@@ -5,7 +5,7 @@ use Rattle.ipcz_world.proofs.Whole.{world_starts_lawful}
 use Rattle.ipcz_world.proofs.world.World.new.Goals as goal
 
 -- what was made is lawful
-made : (c : goal.In_ok-state) → Lawful c.in_ok-state.state no_books (first_routes c.args.nodes)
+made : (c : goal.In_ok-state) → Lawful c.in_ok-state.state.world no_books (first_routes c.args.nodes)
 made c =
     subst (λ (w : World). Lawful w no_books (first_routes c.args.nodes)) (sym c.in_ok-state.ensures.world)
     (world_starts_lawful c.args.nodes c.args.words c.requires.limits)

@@ -1,4 +1,5 @@
 use Rattle.std.proofs.Common.{◌≡◌, ◌∙◌, ◌≤◌, ℕ, IfOk, sym, ap, subst, arith}
+use Rattle.ipcz_world.proofs.code.StatesOfNodes.{world_is}
 use Rattle.ipcz_world.proofs.Vocabulary.{IsLawful, next_node}
 use Rattle.ipcz_world.specs.Settling.{IsSettle, IsRefusedSettle}
 use Rattle.ipcz_world.specs.Visiting.{AreIdle, IsNextBusy}
@@ -38,21 +39,21 @@ lawful-refused limit w v why s = record {
 pub returns-then-alone-eq6-clause-settles : goal.returns-then-alone-eq6-clause-settles
 returns-then-alone-eq6-clause-settles c =
     let carried = c.carry-alone in
-    lawful _ _ _ _ (settled c.args.limit 6 carried.result.1 c.args.self.now carried.new.self
-    (subst (λ k. OnWay c.args.self.now k carried.new.self carried.result.1) c.if-alone-eq6.true
+    lawful _ _ _ _ (settled c.args.limit 6 carried.result.1 c.args.self.now.world carried.new.self.world
+    (subst (λ k. OnWay c.args.self.now.world k carried.new.self.world carried.result.1) c.if-alone-eq6.true
     (on_way-walked _ _ _ _ carried.ensures.walk carried.ensures.place))
     (omega (arith, carried.ensures.within, c.if-alone-eq6.true)) carried.ensures.lawful (carried.ensures.idle c.if-alone-eq6.true))
 
 pub loop-acts-init : goal.loop-acts-init
 loop-acts-init c =
     elim c.if-alone-gt0.branch [
-      | then-alone-gt0 w ↦ subst (λ v. OnWay c.args.self.now c.if-alone-gt0.carried.0 v c.if-alone-gt0.carried.1) (sym w.self-is)
-          (subst (λ (p : ℕ × ℕ). OnWay c.args.self.now p.0 c.carry-alone.new.self p.1) (sym w.carried-is)
+      | then-alone-gt0 w ↦ subst (λ v. OnWay c.args.self.now.world c.if-alone-gt0.carried.0 v c.if-alone-gt0.carried.1) (sym (world_is w.self-is))
+          (subst (λ (p : ℕ × ℕ). OnWay c.args.self.now.world p.0 c.carry-alone.new.self.world p.1) (sym w.carried-is)
           (on_way-walked _ _ _ _ c.carry-alone.ensures.walk c.carry-alone.ensures.place))
       | else-alone-gt0 w ↦ let none = c.carry-alone.ensures.none (omega (arith, w.if-alone-gt0.false)) in
-          subst (λ v. OnWay c.args.self.now c.if-alone-gt0.carried.0 v c.if-alone-gt0.carried.1) (sym w.self-is)
-          (subst (λ (p : ℕ × ℕ). OnWay c.args.self.now p.0 w.carry_several.new.self p.1) (sym w.carried-is)
-          (subst (λ u. OnWay u w.carry_several.result.0 w.carry_several.new.self w.carry_several.result.1) none
+          subst (λ v. OnWay c.args.self.now.world c.if-alone-gt0.carried.0 v c.if-alone-gt0.carried.1) (sym (world_is w.self-is))
+          (subst (λ (p : ℕ × ℕ). OnWay c.args.self.now.world p.0 w.carry_several.new.self.world p.1) (sym w.carried-is)
+          (subst (λ u. OnWay u w.carry_several.result.0 w.carry_several.new.self.world w.carry_several.result.1) none
           (on_way-walked _ _ _ _ w.carry_several.ensures.walk w.carry_several.ensures.place)))
     ]
 
@@ -64,24 +65,24 @@ last_busy-requires-clause-regular c = lawful-regular _ c.self-2.invariant
 
 pub returns-in_default-clause-settles : goal.returns-in_default-clause-settles
 returns-in_default-clause-settles c =
-    lawful _ _ _ _ (settled c.args.limit c.loop-acts.acts c.loop-acts.from c.args.self.now c.loop-acts.self c.loop-acts.invariant
+    lawful _ _ _ _ (settled c.args.limit c.loop-acts.acts c.loop-acts.from c.args.self.now.world c.loop-acts.self.world c.loop-acts.invariant
     (omega (arith, c.loop-acts-test.true))
-    (subst IsLawful c.self.view_is c.self.invariant) (subst (λ v. AreIdle v 0 v.count) c.self.view_is c.in_default.ensures.none))
+    (subst IsLawful (world_is c.self.view_is) c.self.invariant) (subst (λ v. AreIdle v 0 v.count) (world_is c.self.view_is) c.in_default.ensures.none))
 
 pub returns-in-Err-clause-refused : goal.returns-in-Err-clause-refused
 returns-in-Err-clause-refused c =
-    lawful-refused _ _ _ _ (refused c.args.limit c.loop-acts.acts c.loop-acts.from c.in-Some.node c.args.self.now c.loop-acts.self
-    c.take_turn.new.self c.in-Err.why
+    lawful-refused _ _ _ _ (refused c.args.limit c.loop-acts.acts c.loop-acts.from c.in-Some.node c.args.self.now.world c.loop-acts.self.world
+    c.take_turn.new.self.world c.in-Err.why
     c.loop-acts.invariant
-    (omega (arith, c.loop-acts-test.true)) (subst (λ v. IsNextBusy v c.loop-acts.from c.in-Some.node) c.self.view_is c.in-Some.ensures.some)
+    (omega (arith, c.loop-acts-test.true)) (subst (λ v. IsNextBusy v c.loop-acts.from c.in-Some.node) (world_is c.self.view_is) c.in-Some.ensures.some)
     c.in-Err.ensures.refused)
 
 pub loop-acts-preserved : goal.loop-acts-preserved
 loop-acts-preserved c =
-    on_way-turn c.args.self.now c.loop-acts.self c.take_turn.new.self c.loop-acts.acts c.loop-acts.from c.in-Some.node c.next_node-from.result
+    on_way-turn c.args.self.now.world c.loop-acts.self.world c.take_turn.new.self.world c.loop-acts.acts c.loop-acts.from c.in-Some.node c.next_node-from.result
     c.in-Ok.ensures.turned.0
-    c.loop-acts.invariant (subst (λ v. IsNextBusy v c.loop-acts.from c.in-Some.node) c.self.view_is c.in-Some.ensures.some)
-    (c.next_node-from.ensures ∙ ap (λ v. next_node v c.in-Some.node) c.self.view_is)
+    c.loop-acts.invariant (subst (λ v. IsNextBusy v c.loop-acts.from c.in-Some.node) (world_is c.self.view_is) c.in-Some.ensures.some)
+    (c.next_node-from.ensures ∙ ap (λ v. next_node v c.in-Some.node) (world_is c.self.view_is))
     c.in-Ok.ensures.turned.1
 
 pub returns-clause-settles : goal.returns-clause-settles
@@ -92,13 +93,13 @@ returns-clause-settles c =
     ] in
     let all : c.loop-acts.acts ≡ c.args.limit = omega (arith, within, c.loop-acts.auto.acts-end, c.loop-acts-test.false) in
     elim c.match-last_busy.branch [
-      | in-None w ↦ subst (λ r. IfOk r (λ answer. IsLawfulSettle c.args.limit c.args.self.now c.loop-acts.self answer)) (sym w.result-is)
-          (lawful _ _ _ _ (settled c.args.limit c.args.limit c.loop-acts.from c.args.self.now c.loop-acts.self
-          (subst (λ k. OnWay c.args.self.now k c.loop-acts.self c.loop-acts.from) all c.loop-acts.invariant) (omega arith)
-          (subst IsLawful c.self-2.view_is c.self-2.invariant) (subst (λ v. AreIdle v 0 v.count) c.self-2.view_is w.in-None.ensures.none)))
-      | in-Some-last_busy w ↦ subst (λ r. IfOk r (λ answer. IsLawfulSettle c.args.limit c.args.self.now c.loop-acts.self answer))
+      | in-None w ↦ subst (λ r. IfOk r (λ answer. IsLawfulSettle c.args.limit c.args.self.now.world c.loop-acts.self.world answer)) (sym w.result-is)
+          (lawful _ _ _ _ (settled c.args.limit c.args.limit c.loop-acts.from c.args.self.now.world c.loop-acts.self.world
+          (subst (λ k. OnWay c.args.self.now.world k c.loop-acts.self.world c.loop-acts.from) all c.loop-acts.invariant) (omega arith)
+          (subst IsLawful (world_is c.self-2.view_is) c.self-2.invariant) (subst (λ v. AreIdle v 0 v.count) (world_is c.self-2.view_is) w.in-None.ensures.none)))
+      | in-Some-last_busy w ↦ subst (λ r. IfOk r (λ answer. IsLawfulSettle c.args.limit c.args.self.now.world c.loop-acts.self.world answer))
           (sym w.result-is)
-          (lawful _ _ _ _ (unsettled c.args.limit c.loop-acts.acts c.loop-acts.from w.in-Some-last_busy.field-0.0 c.args.self.now c.loop-acts.self
+          (lawful _ _ _ _ (unsettled c.args.limit c.loop-acts.acts c.loop-acts.from w.in-Some-last_busy.field-0.0 c.args.self.now.world c.loop-acts.self.world
           c.loop-acts.invariant all
-          (subst (λ v. IsNextBusy v c.loop-acts.from w.in-Some-last_busy.field-0.0) c.self-2.view_is w.in-Some-last_busy.ensures.some)))
+          (subst (λ v. IsNextBusy v c.loop-acts.from w.in-Some-last_busy.field-0.0) (world_is c.self-2.view_is) w.in-Some-last_busy.ensures.some)))
     ]

@@ -1,4 +1,5 @@
 use Rattle.std.proofs.Common.{◌≤◌, ℕ, Option, Some, None, IfSome, arith, subst}
+use Rattle.ipcz_world.proofs.code.StatesOfNodes.{world_is}
 use Rattle.ipcz_world.specs.World.{World}
 use Rattle.ipcz_world.specs.Books.{Books}
 use Rattle.ipcz_world.proofs.Vocabulary.{Routes, Lawful}
@@ -20,5 +21,5 @@ settle_limit-requires c = lawful-regular _ c.self.invariant
 
 pub returns-clause-enough : goal.returns-clause-enough
 returns-clause-enough c =
-    enough c.args.self.now c.settle_limit.result
-    (subst (λ w. Tells c.settle_limit.result (settle_limit w)) c.self.view_is c.settle_limit.ensures)
+    enough c.args.self.now.world c.settle_limit.result
+    (subst (λ w. Tells c.settle_limit.result (settle_limit w)) (world_is c.self.view_is) c.settle_limit.ensures)

@@ -1,4 +1,5 @@
 use Rattle.std.specs.Prelude.{ℕ, ⊤, Result, Ok, Err, OnOk, IfOk, IfErr}
+use Rattle.ipcz_world.proofs.code.StatesOfNodes.{world_is}
 use Rattle.std.proofs.Common.{subst}
 use Rattle.ipcz_base.specs.declared.refusal.Refusal.{Refusal}
 use Rattle.ipcz_world.proofs.Vocabulary.{Happened, Turn, IsLawful}
@@ -31,5 +32,5 @@ invariant_of-self c =
 
 pub returns-clause-turned : goal.returns-clause-turned
 returns-clause-turned c =
-    subst (λ (w : World). OnOk c.take_first.result (TakesTurn w c.args.node c.take_first.new.self)) c.self.view_is
+    subst (λ (w : World). OnOk c.take_first.result (TakesTurn w c.args.node c.take_first.new.self.world)) (world_is c.self.view_is)
     (untold (λ event told. ⊤) _ _ c.args.node c.take_first.result c.take_first.ensures.turned)
